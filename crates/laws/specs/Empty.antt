@@ -1,0 +1,80 @@
+-- A law: empty tables are sound, whatever the sizes.
+use mathlib.Core.Path.{_≡_, refl, sym, _∙_}
+use Prim.Native.Nat.{ℕ, zero, suc, _+_, _≤_, _<_}
+use mathlib.Core.Option.{Option, none, some}
+use native.Mathlib.Omega.{arith}
+use lib.Dec.{eqb, ltb, lit<}
+use lib.ListN.{replicate, length-replicate}
+use Rattle.model.specs.Lists.{oneIf, count, Each, countUp, slotOf, In}
+use Rattle.model.specs.State.{Word, Sizes, Domain, Region}
+use Rattle.model.specs.Pool.{freshPool}
+use Rattle.model.specs.Making.{makeTables, goodSizes}
+use Rattle.model.specs.Sound.{Sound, PoolSound, inUse, recordUses}
+use Rattle.laws.specs.Accepted.{All, accepted, checked}
+use Rattle.laws.specs.Cases.{lt, ge, cmp, ltb-t, ltb-f, eqb-t, eqb-f}
+
+none-some : {A : Type 0} (x : A) → _≡_ {A = Option A} none (some x) → ⊥
+none-some x p = let z : _≡_ {A = ℕ} 0 1 = cc in omega arith
+
+free-slot : {A : Type 0} (n i : ℕ) → slotOf {A = A} (replicate n none) i ≡ none
+free-slot zero i = refl
+free-slot (suc n) zero = refl
+free-slot (suc n) (suc i) = free-slot n i
+
+each-zero : (n : ℕ) → Each Word (replicate n 0)
+each-zero zero = tt
+each-zero (suc n) = (lit< tt, each-zero n)
+
+no-uses : (n i : ℕ) → recordUses (replicate n none) i ≡ 0
+no-uses zero i = refl
+no-uses (suc n) i = no-uses n i
+
+up-below : (i k n : ℕ) → i < k → count (eqb i) (countUp k n) ≡ 0
+up-below i k zero h = refl
+up-below i k (suc n) h = rw (eqb-f i k (λ e. omega arith), up-below i (suc k) n (omega arith))
+
+up-in : (i k n : ℕ) → k ≤ i → i < k + n → count (eqb i) (countUp k n) ≡ 1
+up-in i k zero h j = absurd (omega arith)
+up-in i k (suc n) h j = elim (cmp k i) [
+  | lt l ↦ rw (eqb-f i k (λ e. omega arith), up-in i (suc k) n l (omega arith))
+  | ge l ↦ rw (eqb-t i k (omega arith), up-below i (suc k) n (omega arith))
+]
+
+up-above : (i k n : ℕ) → k + n ≤ i → count (eqb i) (countUp k n) ≡ 0
+up-above i k zero h = refl
+up-above i k (suc n) h = rw (eqb-f i k (λ e. omega arith), up-above i (suc k) n (omega arith))
+
+all-free : (n i : ℕ) → 0 + count (eqb i) (countUp 0 n) ≡ oneIf (ltb i n)
+all-free n i = elim (cmp i n) [
+  | lt h ↦ rw (ltb-t i n h, up-in i 0 n (omega arith) (omega arith))
+  | ge h ↦ rw (ltb-f i n h, up-above i 0 n (omega arith))
+]
+
+-- no slot of an empty table is in use
+unused : (A : Type 0) (n i : ℕ) → inUse {A = A} (replicate n none) i ≡ 0
+unused A n i = rw (free-slot {A = A} n i)
+
+nothing-in : {A : Type 0} (n i : ℕ) (x : A) → In (replicate n none) i x → ⊥
+nothing-in n i x h = none-some x (sym (free-slot n i) ∙ h)
+
+-- a pool of n free slots at generation 0
+fresh-pool : (n : ℕ) (used : ℕ → ℕ) → ((i : ℕ) → used i ≡ 0) → PoolSound n used (freshPool n)
+fresh-pool n used h = record { gensLength = length-replicate n 0; gensWords = each-zero n; once = λ i. rw (h i) (all-free n i) }
+
+pub empty-sound : (z : Sizes) → All Sound (makeTables z)
+unfolding makeTables
+empty-sound z = checked (goodSizes z) _ (λ t. accepted (record {
+  sizesGood = t;
+  domainsLength = length-replicate (z .domains) none;
+  regionsLength = length-replicate (z .regions) none;
+  domainPool = fresh-pool (z .domains) _ (unused Domain (z .domains));
+  regionPool = fresh-pool (z .regions) _ (unused Region (z .regions));
+  recordPool = fresh-pool (z .records) _ (no-uses (z .domains));
+  regions = λ i g h. absurd (nothing-in (z .regions) i g h);
+  owners = λ i g h. absurd (nothing-in (z .regions) i g h);
+  managers = λ d x h. absurd (nothing-in (z .domains) d x h);
+  lists = λ d x h. absurd (nothing-in (z .domains) d x h);
+  trackers = λ d x h. absurd (nothing-in (z .domains) d x h);
+  coresWords = λ d x h. absurd (nothing-in (z .domains) d x h);
+  queue = record { readPlace = omega arith; fits = omega arith; live = tt; singly = tt; queuedWords = tt };
+}))

@@ -1,0 +1,11 @@
+-- Theorems about the definitions of crate model.
+pub mod Accepted
+pub mod Cases
+pub mod Kept
+pub mod Empty
+pub mod PopSound
+pub mod GainLaw
+pub mod CountsLaw
+pub mod SoundTest
+pub mod TestLaw
+pub mod RingFull

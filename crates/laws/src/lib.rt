@@ -1,0 +1,1 @@
+// No code: theorems about the definitions of crate model, in specs/.

@@ -1,0 +1,196 @@
+-- The calls (document 01, **Order of checks**; `CapaEngine`). Each `do` block has the checks in that order, the refusal's number beside each.
+use Prim.Native.Nat.{ℕ}
+use mathlib.Core.Bool.{not}
+use mathlib.Core.Option.{Option, none, some}
+use mathlib.Core.List.{[]}
+use lib.Dec.{eqb, ltb}
+use lib.ListN.{set}
+use Rattle.model.specs.Lists.{if_then_else_, isEmpty}
+use Rattle.model.specs.Outcome.{Outcome, ok, refuse, _>>=_, _>>_, require, noDomain, wrongKind, stale, badRange, beyond, isRoot, notCarried, noRegion, noDomainRoom}
+use Rattle.model.specs.State.{Handle, Capa, noCapa, region, regionRevoke, management, channel, Access, Kind, Root, Alias, Carve, State, withDomains, withCores, domainAt, regionAt, putDomain}
+use Rattle.model.specs.Pool.{allocate, handleOf, isLive}
+use Rattle.model.specs.Locals.{freshLocals, hasCapacity, capaAt, insertCapa, removeCapa, emptyCapa}
+use Rattle.model.specs.Tree.{isRootKind, checkAlias, checkCarve, insertChild}
+use Rattle.model.specs.Regions.{activate, deactivate, newRegion, sendRegion, revokeRegion, liveRegions}
+
+-- ---- checks that several calls share
+
+-- 3: "slot number too large, generation not the slot's, or slot free". The answer is the domain's slot.
+unfoldable pub liveDomain : State → Handle → Outcome ℕ
+liveDomain s h = do
+  require (isLive (s .domainPool) (s .domains) h) noDomain  -- 3
+  ok (h .slot)
+
+-- 6: "region dead". The answer is the region's slot.
+unfoldable pub liveRegion : State → Handle → Outcome ℕ
+liveRegion s h = do
+  require (isLive (s .regionPool) (s .regions) h) stale  -- 6
+  ok (h .slot)
+
+-- 5 where the capability is no region (`as_region`).
+abbrev pub asRegion : Capa → Outcome Handle
+asRegion noCapa = refuse wrongKind
+asRegion (region h) = ok h
+asRegion (regionRevoke h) = refuse wrongKind
+asRegion (management h) = refuse wrongKind
+asRegion (channel h) = refuse wrongKind
+
+-- 5 where the capability names no domain to send to (`as_channel`)
+abbrev pub asTarget : Capa → Outcome Handle
+asTarget noCapa = refuse wrongKind
+asTarget (region h) = refuse wrongKind
+asTarget (regionRevoke h) = refuse wrongKind
+asTarget (management h) = ok h
+asTarget (channel h) = ok h
+
+-- 4, 5, 6: the live region that local slot l of domain d holds.
+unfoldable pub regionHeld : State → ℕ → ℕ → Outcome ℕ
+regionHeld s d l = do
+  c ← capaAt s d l  -- 4
+  h ← asRegion c  -- 5
+  liveRegion s h  -- 6
+
+-- 11, 12, 7: room for a region and for its slot, and a range that is not empty.
+unfoldable pub roomForRegion : ℕ → Access → State → Outcome State
+roomForRegion d a s = do
+  require (not (isEmpty (s .regionPool .free))) noRegion  -- 11
+  s₁ ← hasCapacity d s  -- 12
+  require (ltb (a .start) (a .end)) badRange  -- 7
+  ok s₁
+
+-- ---- domains and channels ("Added by us")
+
+-- A domain with an empty list and an empty tracker in a slot of its own; 15.
+unfoldable pub newDomain : Option ℕ → ℕ → State → Outcome (ℕ × State)
+newDomain m cores s = do
+  (i, p) ← allocate noDomainRoom (s .domainPool)  -- 15
+  ok (i, withDomains p (set (s .domains) i (some (record { manager = m; cores = cores; locals = freshLocals (s .sizes .slots); tracker = [] }))) s)
+
+-- "open a domain (manager or none, 64-bit core map; a manager gets a Management capability; nothing is queued)". The answer is the new domain's handle.
+unfoldable pub openDomain : Option Handle → ℕ → State → Outcome (Handle × State)
+openDomain none cores s = do
+  (i, s₁) ← newDomain none cores s  -- 15
+  ok (handleOf (s₁ .domainPool) i, s₁)
+openDomain (some h) cores s = do
+  m ← liveDomain s h  -- 3
+  (i, s₁) ← newDomain (some m) cores s  -- 15
+  s₂ ← hasCapacity m s₁  -- 12
+  (l, s₃) ← insertCapa m (management (handleOf (s₂ .domainPool) i)) s₂
+  ok (handleOf (s₃ .domainPool) i, s₃)
+
+-- "open a channel (a Channel capability to a domain, put in another's list or its own)". The answer, here and below, is the local slot.
+unfoldable pub openChannel : Handle → Handle → State → Outcome (ℕ × State)
+openChannel h to s = do
+  d ← liveDomain s h  -- 3
+  t ← liveDomain s to  -- 3
+  s₁ ← hasCapacity d s  -- 12
+  insertCapa d (channel to) s₁
+
+-- "set a core map"
+unfoldable pub setCores : Handle → ℕ → State → Outcome State
+setCores h cores s = do
+  d ← liveDomain s h  -- 3
+  ok (putDomain d (withCores cores (domainAt s d)) s)
+
+-- ---- regions
+
+-- A root (`create_root_region`): no parent, any range and rights.
+unfoldable pub createRootRegion : Handle → Access → State → Outcome (ℕ × State)
+createRootRegion h a s = do
+  d ← liveDomain s h  -- 3
+  s₁ ← roomForRegion d a s  -- 11, 12, 7
+  (i, s₂) ← newRegion d Root a s₁
+  (l, s₃) ← insertCapa d (region (handleOf (s₂ .regionPool) i)) s₂
+  s₄ ← activate d a s₃  -- 13, 14, 16
+  ok (l, s₄)
+
+-- A child of region p, in p's child list and in a slot of domain d's list.
+unfoldable pub addChild : ℕ → ℕ → Kind → Access → State → Outcome (ℕ × State)
+addChild d p k a s = do
+  (i, s₁) ← newRegion d k a s
+  insertCapa d (region (handleOf (s₁ .regionPool) i)) (insertChild p i s₁)
+
+-- **Alias** (`alias_region`): "The new region has the parent's domain, which gains the range." The parent's domain is the caller's.
+unfoldable pub aliasRegion : Handle → ℕ → Access → State → Outcome (ℕ × State)
+aliasRegion h l a s = do
+  d ← liveDomain s h  -- 3
+  p ← regionHeld s d l  -- 4, 5, 6
+  s₁ ← roomForRegion d a s  -- 11, 12, 7
+  require (checkAlias s₁ (regionAt s₁ p) a) beyond  -- 8
+  (n, s₂) ← addChild d p (Alias p) a s₁
+  s₃ ← activate d a s₂  -- 13, 14, 16
+  ok (n, s₃)
+
+-- **Carve**: "the domain loses the range with the parent's rights and gains it with the new ones; if equal, the tracker isn't touched".
+unfoldable pub exchangeRights : ℕ → ℕ → Access → State → Outcome State
+exchangeRights d old a s = if eqb old (a .rights) then ok s else (do
+  s₁ ← deactivate d (record { start = a .start; end = a .end; rights = old }) s
+  activate d a s₁)
+
+-- **Carve** (`carve_region`).
+unfoldable pub carveRegion : Handle → ℕ → Access → State → Outcome (ℕ × State)
+carveRegion h l a s = do
+  d ← liveDomain s h  -- 3
+  p ← regionHeld s d l  -- 4, 5, 6
+  s₁ ← roomForRegion d a s  -- 11, 12, 7
+  require (checkCarve s₁ (regionAt s₁ p) a) beyond  -- 8
+  (n, s₂) ← addChild d p (Carve p) a s₁
+  s₃ ← exchangeRights d (regionAt s₁ p .rights) a s₂  -- 13, 14, 16
+  ok (n, s₃)
+
+-- ---- send and revoke
+
+-- 10, 6, and for a region its effective ranges; "A channel, RegionRevoke or Capa::None only moves."
+unfoldable pub sendCapa : Capa → ℕ → State → Outcome State
+sendCapa noCapa to s = ok s
+sendCapa (region h) to s = do
+  i ← liveRegion s h  -- 6
+  sendRegion i to s  -- 13, 14, 16
+sendCapa (regionRevoke h) to s = ok s
+sendCapa (management h) to s = refuse notCarried  -- 10
+sendCapa (channel h) to s = ok s
+
+-- **Send**: "Moves the slot". The target's list is swept, if full, before the sent slot is looked at.
+unfoldable pub send : Handle → ℕ → ℕ → State → Outcome (ℕ × State)
+send h l target s = do
+  d ← liveDomain s h  -- 3
+  t ← capaAt s d target  -- 4
+  k ← asTarget t  -- 5
+  to ← liveDomain s k  -- 3
+  s₁ ← hasCapacity to s  -- 12
+  c ← capaAt s₁ d l  -- 4
+  s₂ ← sendCapa c to s₁  -- 10, 6, then 13, 14, 16
+  insertCapa to c (removeCapa d l s₂)
+
+-- 9, and the region with all below it.
+unfoldable pub revokeUnlessRoot : ℕ → State → Outcome State
+revokeUnlessRoot i s = do
+  require (not (isRootKind (regionAt s i .kind))) isRoot  -- 9
+  revokeRegion (liveRegions s) i s  -- 13, 14, 16
+
+-- 10, 6, 9; "a RegionRevoke of a dead region succeeds", and "For a channel, a None or a dead RegionRevoke that is all."
+unfoldable pub revokeCapa : Capa → State → Outcome State
+revokeCapa noCapa s = ok s
+revokeCapa (region h) s = do
+  i ← liveRegion s h  -- 6
+  revokeUnlessRoot i s  -- 9
+revokeCapa (regionRevoke h) s = if isLive (s .regionPool) (s .regions) h then revokeUnlessRoot (h .slot) s else ok s
+revokeCapa (management h) s = refuse notCarried  -- 10
+revokeCapa (channel h) s = ok s
+
+-- **Revoke** (`revoke`).
+unfoldable pub revoke : Handle → ℕ → State → Outcome State
+revoke h l s = do
+  d ← liveDomain s h  -- 3
+  c ← capaAt s d l  -- 4
+  s₁ ← revokeCapa c s  -- 10, 6, 9, then 13, 14, 16
+  ok (emptyCapa d l s₁)
+
+-- "make a RegionRevoke for a held region in the holder's own list"
+unfoldable pub createRevokeCapa : Handle → ℕ → State → Outcome (ℕ × State)
+createRevokeCapa h l s = do
+  d ← liveDomain s h  -- 3
+  i ← regionHeld s d l  -- 4, 5, 6
+  require (not (isRootKind (regionAt s i .kind))) isRoot  -- 9
+  s₁ ← hasCapacity d s  -- 12
+  insertCapa d (regionRevoke (handleOf (s₁ .regionPool) i)) s₁

@@ -1,0 +1,8 @@
+-- Theorems about the definitions, found by computing: no part of what a reader must believe.
+pub mod Compute
+pub mod Script
+pub mod Edges
+pub mod OurCases
+pub mod Judged
+pub mod WrongPorts
+pub mod Example

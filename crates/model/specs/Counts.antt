@@ -1,0 +1,60 @@
+-- Stored reach and counts at an address, and the counts over the regions that demand 3 compares them with (document 01, **Book**).
+use mathlib.Core.Path.{_≡_}
+use Prim.Native.Nat.{ℕ, suc, _+_}
+use mathlib.Core.Bool.{Bool, true, false, not, _&&_}
+use mathlib.Core.Option.{Option, none, some}
+use mathlib.Core.List.{List, [], _∷_}
+use lib.Dec.{eqb, ltb, leb}
+use Rattle.rights.specs.Rights.{has, READ, WRITE, EXEC, SUPER}
+use Rattle.model.specs.Lists.{if_then_else_, oneIf, any}
+use Rattle.model.specs.State.{State, Region, Root, Alias, Carve, Counts, Record, domainAt}
+
+-- ---- what is stored
+
+-- Does the range from s up to, but not including, e hold address a?
+abbrev pub holds : ℕ → ℕ → ℕ → Bool
+holds s e a = leb s a && ltb a e
+
+abbrev pub noCounts : Counts
+noCounts = record { reach = 0; read = 0; write = 0; exec = 0; super = 0; uncacheable = 0 }
+
+-- "Stored reach and counts at an address are those of the domain's record there, else 0."
+abbrev pub countsAt : List Record → ℕ → Counts
+countsAt [] a = noCounts
+countsAt (q ∷ l) a = if holds (q .start) (q .end) a then q .counts else countsAt l a
+
+-- the stored counts of domain d at address a
+abbrev pub storedCounts : State → ℕ → ℕ → Counts
+storedCounts s d a = countsAt (domainAt s d .tracker) a
+
+-- ---- what the regions say
+
+-- "Carved there: a live carve of it covers the address." Is this slot's region a carve of region i over a?
+abbrev pub carves : ℕ → ℕ → Option Region → Bool
+carves i a none = false
+carves i a (some g) = elim (g .kind) [ Root ↦ false | Alias p ↦ false | Carve p ↦ eqb p i && holds (g .start) (g .end) a ]
+
+-- Region g in slot i counts for domain d at address a: it is d's, covers a, and is not carved there.
+abbrev pub countsFor : List (Option Region) → ℕ → ℕ → ℕ → Region → Bool
+countsFor rs d a i g = eqb (g .owner) d && holds (g .start) (g .end) a && not (any (carves i a) rs)
+
+-- how many regions of l count there and pass a test of their rights; i is the slot of the first one
+abbrev pub tally : List (Option Region) → ℕ → ℕ → (ℕ → Bool) → ℕ → List (Option Region) → ℕ
+tally rs d a t i [] = 0
+tally rs d a t i (none ∷ l) = tally rs d a t (suc i) l
+tally rs d a t i (some g ∷ l) = oneIf (countsFor rs d a i g && t (g .rights)) + tally rs d a t (suc i) l
+
+-- the number of live regions that count for domain d at address a, and of those that have a right
+abbrev pub regionReach : List (Option Region) → ℕ → ℕ → ℕ
+regionReach rs d a = tally rs d a (λ r. true) 0 rs
+
+abbrev pub regionCount : List (Option Region) → ℕ → ℕ → ℕ → ℕ
+regionCount rs flag d a = tally rs d a (λ r. has r flag) 0 rs
+
+-- Stored counts agree with the regions in the five numbers that demand 3 defines; the uncacheable count is not among them.
+pub record Agree (rs : List (Option Region)) (d a : ℕ) (k : Counts) : Type 0 where
+  pub reach : k .reach ≡ regionReach rs d a
+  pub read : k .read ≡ regionCount rs READ d a
+  pub write : k .write ≡ regionCount rs WRITE d a
+  pub exec : k .exec ≡ regionCount rs EXEC d a
+  pub super : k .super ≡ regionCount rs SUPER d a

@@ -1,0 +1,20 @@
+-- The trusted text, in the order to read it; what stands below `Checked` is proved of it.
+pub mod Lists
+pub mod Outcome
+pub mod State
+pub mod Pool
+pub mod Locals
+pub mod Updates
+pub mod Tracker
+pub mod Tree
+pub mod Regions
+pub mod Making
+pub mod Calls
+pub mod Counts
+pub mod Readings
+pub mod Layout
+pub mod Perform
+pub mod CallWords
+pub mod Sound
+pub mod Memory
+pub mod Checked

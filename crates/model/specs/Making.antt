@@ -1,0 +1,37 @@
+-- "make empty tables of given sizes" (document 01, "Added by us", and "Tables: at most ..").
+use Prim.Native.Nat.{ℕ}
+use mathlib.Core.Bool.{Bool, _&&_}
+use mathlib.Core.Option.{none}
+use mathlib.Core.List.{[]}
+use lib.Dec.{leb}
+use lib.ListN.{replicate}
+use Rattle.model.specs.Outcome.{Outcome, ok, _>>_, require, sizes}
+use Rattle.model.specs.State.{Sizes, State}
+use Rattle.model.specs.Pool.{freshPool}
+
+-- "each size at least 1", and at most its limit
+abbrev pub upTo : ℕ → ℕ → Bool
+upTo most n = leb 1 n && leb n most
+
+-- "at most 32 domains, 128 slots each, 1,024 regions, 1,024 tracker records, 128 updates"
+abbrev pub goodSizes : Sizes → Bool
+goodSizes z = upTo 32 (z .domains) && upTo 128 (z .slots) && upTo 1024 (z .regions) && upTo 1024 (z .records) && upTo 128 (z .updates)
+
+-- Empty tables: every slot free, nothing queued.
+abbrev pub emptyTables : Sizes → State
+emptyTables z =
+    record {
+      sizes = z;
+      domainPool = freshPool (z .domains);
+      regionPool = freshPool (z .regions);
+      recordPool = freshPool (z .records);
+      domains = replicate (z .domains) none;
+      regions = replicate (z .regions) none;
+      queue = record { first = 0; items = [] };
+    }
+
+-- 2 where a size is outside its limits
+unfoldable pub makeTables : Sizes → Outcome State
+makeTables z = do
+  require (goodSizes z) sizes  -- 2
+  ok (emptyTables z)

@@ -1,0 +1,119 @@
+-- All calls as one function, and what a list of calls does.
+use Prim.Native.Nat.{ℕ}
+use mathlib.Core.Option.{Option}
+use mathlib.Core.List.{List, [], _∷_}
+use lib.Dec.{eqb}
+use lib.ListN.{length}
+use Rattle.model.specs.Outcome.{Outcome, ok, refuse, _>>=_, _>>_, require, Refusal, memory}
+use Rattle.model.specs.Outcome
+use Rattle.model.specs.State.{State, Sizes, Handle, Access, Update}
+use Rattle.model.specs.Updates.{pop}
+use Rattle.model.specs.Making.{makeTables}
+use Rattle.model.specs.Calls.{openDomain, openChannel, setCores, createRootRegion, aliasRegion, carveRegion, send, revoke, createRevokeCapa}
+use Rattle.model.specs.Readings.{permissions, getRefcount, holders, coreMap}
+use Rattle.model.specs.Layout.{updateWords, lengthFor}
+
+-- ---- calls and answers
+
+-- The calls, with what the caller names. All numbers are plain; `CallWords` says which of them a program can give.
+pub data Call : Type 0 where
+  Make : Sizes → Call
+  Open : Option Handle → ℕ → Call
+  Channel : Handle → Handle → Call
+  SetCores : Handle → ℕ → Call
+  Root : Handle → Access → Call
+  Alias : Handle → ℕ → Access → Call
+  Carve : Handle → ℕ → Access → Call
+  Send : Handle → ℕ → ℕ → Call
+  Revoke : Handle → ℕ → Call
+  MakeRevoke : Handle → ℕ → Call
+  Pop : Call
+  Permissions : Handle → Call
+  Refcount : Handle → ℕ → ℕ → Call
+  CoreMap : Handle → Call
+  Holders : ℕ → Call
+
+-- What an accepted call answers: nothing, the new domain, the local slot, the update popped, or what was read.
+pub data Reply : Type 0 where
+  done : Reply
+  domain : Handle → Reply
+  local : ℕ → Reply
+  popped : Option Update → Reply
+  permissionList : List Access → Reply
+  number : ℕ → Reply
+  domainList : List ℕ → Reply
+
+-- What a caller sees of a call.
+pub data Answer : Type 0 where
+  yes : Reply → Answer
+  no : Refusal → Answer
+
+-- Document 01's number of an answer: the refusal's, and 0 for an accepted call.
+abbrev pub code : Answer → ℕ
+code (Answer.yes r) = 0
+code (Answer.no r) = Outcome.number r
+
+-- The values of an accepted call's answer. Of a list the "whole number of records"; of a pop the words of docs/TABLES.md.
+abbrev pub values : Reply → List ℕ
+values done = []
+values (domain h) = h .slot ∷ h .gen ∷ []
+values (local l) = l ∷ []
+values (popped u) = updateWords u
+values (permissionList l) = length l ∷ []
+values (number n) = n ∷ []
+values (domainList l) = length l ∷ []
+
+-- ---- one call
+
+-- Making in memory that holds s: the tables' length stays, so 1 where sizes ask for another.
+unfoldable pub makeAnew : Sizes → State → Outcome State
+makeAnew z s = do
+  t ← makeTables z  -- 2
+  require (eqb (lengthFor z) (lengthFor (s .sizes))) memory  -- 1
+  ok t
+
+-- A call's outcome as a reply, with the state that it leaves.
+abbrev answer : {A : Type 0} → (A → Reply) → Outcome (A × State) → Outcome (Reply × State)
+answer f m = m >>= λ (a, s). ok (f a, s)
+
+-- a call with no answer of its own
+abbrev silent : Outcome State → Outcome (Reply × State)
+silent m = m >>= λ s. ok (done, s)
+
+-- a reading: the state is as it was
+abbrev read : {A : Type 0} → (A → Reply) → State → Outcome A → Outcome (Reply × State)
+read f s m = m >>= λ a. ok (f a, s)
+
+-- What a call does: the reply and the new state, or the refusal.
+unfoldable pub perform : State → Call → Outcome (Reply × State)
+perform s (Make z) = silent (makeAnew z s)
+perform s (Open m cores) = answer domain (openDomain m cores s)
+perform s (Channel h to) = answer local (openChannel h to s)
+perform s (SetCores h cores) = silent (setCores h cores s)
+perform s (Root h a) = answer local (createRootRegion h a s)
+perform s (Alias h l a) = answer local (aliasRegion h l a s)
+perform s (Carve h l a) = answer local (carveRegion h l a s)
+perform s (Send h l target) = answer local (send h l target s)
+perform s (Revoke h l) = silent (revoke h l s)
+perform s (MakeRevoke h l) = answer local (createRevokeCapa h l s)
+perform s Pop = answer popped (ok (pop s))
+perform s (Permissions h) = read permissionList s (permissions h s)
+perform s (Refcount h from to) = read number s (getRefcount h from to s)
+perform s (CoreMap h) = read number s (coreMap h s)
+perform s (Holders a) = ok (domainList (holders a s), s)
+
+-- ---- a list of calls
+
+-- "kept only on success": a refused call leaves the state as it was.
+abbrev pub after : State → Outcome (Reply × State) → Answer × State
+after s (ok x) = (Answer.yes (x .0), x .1)
+after s (refuse r) = (Answer.no r, s)
+
+-- one call of a list
+unfoldable pub step : State → Call → Answer × State
+step s c = after s (perform s c)
+
+-- "each call gets the tables the last left": the answers, and the last state.
+unfoldable pub run : State → List Call → List Answer × State
+run s [] = ([], s)
+run s (c ∷ cs) = let x = step s c in let y = run (x .1) cs in (x .0 ∷ y .0, y .1)

@@ -1,0 +1,86 @@
+-- The steps on regions (document 01, **Alias** to **Revoke**; `segment`, and `activate_region`, `deactivate_region` of `domain`).
+use Prim.Native.Nat.{ℕ, zero, suc}
+use mathlib.Core.Option.{none, some}
+use mathlib.Core.List.{List, [], _∷_}
+use lib.ListN.{set}
+use Rattle.model.specs.Lists.{if_then_else_, isSome, count}
+use Rattle.model.specs.Outcome.{Outcome, ok, _>>=_, noRegion}
+use Rattle.rights.specs.Rights.{has, CLEANUP}
+use Rattle.model.specs.State.{State, Region, Kind, Root, Alias, Carve, Access, cleanup, domainAt, regionAt, putDomain, putRegion, withTracker, withRecordPool, withRegions, withOwner}
+use Rattle.model.specs.Pool.{allocate, free}
+use Rattle.model.specs.Tracker.{Walk, gain, lose}
+use Rattle.model.specs.Updates.{push, pushPermission}
+use Rattle.model.specs.Tree.{Range, accessOf, removeChild, effectiveRegions}
+
+-- A domain's new tracker and the record pool are put back; a change queues the domain (**Update ring**).
+unfoldable pub putWalk : ℕ → Walk → State → Outcome State
+putWalk d w s = let s₁ = withRecordPool (w .pool) (putDomain d (withTracker (w .records) (domainAt s d)) s) in if w .changed then pushPermission d s₁ else ok s₁
+
+-- Domain d gains, or loses, a range with its rights (`activate_region`, `deactivate_region`).
+unfoldable pub activate : ℕ → Access → State → Outcome State
+activate d a s = do
+  w ← gain (a .rights) (a .start) (a .end) (domainAt s d .tracker) (s .recordPool)
+  putWalk d w s
+
+unfoldable pub deactivate : ℕ → Access → State → Outcome State
+deactivate d a s = do
+  w ← lose (a .rights) (a .start) (a .end) (domainAt s d .tracker) (s .recordPool)
+  putWalk d w s
+
+-- A new region of domain d in a slot of its own; 11 where none is free.
+unfoldable pub newRegion : ℕ → Kind → Access → State → Outcome (ℕ × State)
+newRegion d k a s = do
+  (i, p) ← allocate noRegion (s .regionPool)
+  ok (i, withRegions p (set (s .regions) i (some (record { owner = d; kind = k; start = a .start; end = a .end; rights = a .rights; children = [] }))) s)
+
+-- Region i leaves its slot (16).
+unfoldable pub freeRegion : ℕ → State → Outcome State
+freeRegion i s = do
+  p ← free i (s .regionPool)
+  ok (withRegions p (set (s .regions) i none) s)
+
+-- **Send**: "each effective range in turn leaves the old domain and joins the new".
+unfoldable pub sendRanges : ℕ → ℕ → ℕ → List Range → State → Outcome State
+sendRanges old new r [] s = ok s
+sendRanges old new r (x ∷ xs) s = do
+  s₁ ← deactivate old (record { start = x .0; end = x .1; rights = r }) s
+  s₂ ← activate new (record { start = x .0; end = x .1; rights = r }) s₁
+  sendRanges old new r xs s₂
+
+-- Region i becomes domain `new`'s, with its effective ranges.
+unfoldable pub sendRegion : ℕ → ℕ → State → Outcome State
+sendRegion i new s = let g = regionAt s i in sendRanges (g .owner) new (g .rights) (effectiveRegions s g) (putRegion i (withOwner new g) s)
+
+-- "a carve's parent's domain gains it with the parent's rights"
+unfoldable pub giveBack : Region → State → Outcome State
+giveBack g s = elim (g .kind) [
+  | Root ↦ ok s
+  | Alias p ↦ ok s
+  | Carve p ↦ activate (regionAt s p .owner) (record { start = g .start; end = g .end; rights = regionAt s p .rights }) s
+]
+
+-- "the region leaves its list"
+unfoldable pub leaveParent : ℕ → State → State
+leaveParent i s = elim (regionAt s i .kind) [ Root ↦ s | Alias p ↦ removeChild p i s | Carve p ↦ removeChild p i s ]
+
+-- **Revoke** of a region without children, in document 01's order; "CLEANUP queues start and end".
+unfoldable pub revokeLeaf : ℕ → State → Outcome State
+revokeLeaf i s = do
+  let g = regionAt s i
+  s₁ ← deactivate (g .owner) (accessOf g) (leaveParent i s)
+  s₂ ← giveBack g s₁
+  s₃ ← freeRegion i s₂
+  if has (g .rights) CLEANUP then push (cleanup (g .start) (g .end)) s₃ else ok s₃
+
+-- **Revoke**: "Children go first, head child by head child, to any depth." Each revoke takes a live region away, so that their number n is
+-- enough for the child and for the rest, and 0 is never reached.
+unfoldable pub revokeRegion : ℕ → ℕ → State → Outcome State
+revokeRegion zero i s = ok s
+revokeRegion (suc n) i s = elim (regionAt s i .children) [
+  | [] ↦ revokeLeaf i s
+  | c ∷ cs ↦ revokeRegion n c s >>= λ s₁. revokeRegion n i s₁
+]
+
+-- the number of live regions
+abbrev pub liveRegions : State → ℕ
+liveRegions s = count isSome (s .regions)

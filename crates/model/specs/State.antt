@@ -1,0 +1,166 @@
+-- What the tables hold (document 01, "Memory and who can be refused"), as plain lists.
+-- Owner, parent, manager and children are slot numbers; capabilities and queued updates hold handles.
+use Prim.Native.Nat.{ℕ, _^_, _<_}
+use mathlib.Core.Option.{Option, none, some}
+use mathlib.Core.List.{List, []}
+use lib.ListN.{set}
+use Rattle.model.specs.Lists.{slotOf, orElse}
+
+-- Stored numbers are words of 64 bits.
+abbrev pub Word : ℕ → Type 0
+Word n = n < 2 ^ 64
+
+-- "Tables: .. domains, .. slots each, .. regions, .. tracker records, .. updates".
+pub record Sizes : Type 0 where
+  pub domains : ℕ
+  pub slots : ℕ
+  pub regions : ℕ
+  pub records : ℕ
+  pub updates : ℕ
+
+-- "handle (slot number and 64-bit generation)": the slot's generation when the handle was made (`Handle`).
+pub record Handle : Type 0 where
+  pub slot : ℕ
+  pub gen : ℕ
+
+-- **Arenas**: the slots' generations, and the free slots, the one given next first.
+pub record Pool : Type 0 where
+  pub gens : List ℕ
+  pub free : List ℕ
+
+-- What a slot in use of a domain's capability list holds (`Capa`); `noCapa` is `Capa::None`.
+pub data Capa : Type 0 where
+  noCapa : Capa
+  region : Handle → Capa
+  regionRevoke : Handle → Capa
+  management : Handle → Capa
+  channel : Handle → Capa
+
+-- A domain's capability list: `none` is a free slot; the free slots, the one given next first.
+pub record LocalList : Type 0 where
+  pub held : List (Option Capa)
+  pub free : List ℕ
+
+-- **Tracker**: reach, four right counts and the uncacheable count of a record.
+pub record Counts : Type 0 where
+  pub reach : ℕ
+  pub read : ℕ
+  pub write : ℕ
+  pub exec : ℕ
+  pub super : ℕ
+  pub uncacheable : ℕ
+
+-- A tracker record from start up to but not including end, with its slot in the record pool (`Region` of region.rs).
+pub record Record : Type 0 where
+  pub slot : ℕ
+  pub start : ℕ
+  pub end : ℕ
+  pub counts : Counts
+
+-- A domain: its manager's slot or none, its core map, its capability list, its tracker in list order (`Domain`).
+pub record Domain : Type 0 where
+  pub manager : Option ℕ
+  pub cores : ℕ
+  pub locals : LocalList
+  pub tracker : List Record
+
+-- The parent's slot stands in the kind (`RegionKind`).
+pub data Kind : Type 0 where
+  Root : Kind
+  Alias : ℕ → Kind
+  Carve : ℕ → Kind
+
+-- the parent's slot, if there is one
+abbrev pub parentOf : Kind → Option ℕ
+parentOf Root = none
+parentOf (Alias p) = some p
+parentOf (Carve p) = some p
+
+-- A region from start up to but not including end; its owner's slot; its children's slots in list order (`RegionCapa`).
+pub record Region : Type 0 where
+  pub owner : ℕ
+  pub kind : Kind
+  pub start : ℕ
+  pub end : ℕ
+  pub rights : ℕ
+  pub children : List ℕ
+
+-- A range with rights, as a call names it, or a permission list's record (`AccessRights`, `MemoryPermission`).
+pub record Access : Type 0 where
+  pub start : ℕ
+  pub end : ℕ
+  pub rights : ℕ
+
+-- **Update ring**: a domain with its core map, or a range to be cleaned up (`Update`).
+pub data Update : Type 0 where
+  permission : Handle → ℕ → Update
+  cleanup : ℕ → ℕ → Update
+
+-- The ring's read place, and what is queued, oldest first (`Buffer`).
+pub record Queue : Type 0 where
+  pub first : ℕ
+  pub items : List Update
+
+-- All the tables. A slot of `domains` or `regions` is `none` where it is free.
+pub record State : Type 0 where
+  pub sizes : Sizes
+  pub domainPool : Pool
+  pub regionPool : Pool
+  pub recordPool : Pool
+  pub domains : List (Option Domain)
+  pub regions : List (Option Region)
+  pub queue : Queue
+
+-- ---- a state, a domain or a region with one part changed
+
+abbrev pub withDomains : Pool → List (Option Domain) → State → State
+withDomains p l s = record { sizes = s .sizes; domainPool = p; regionPool = s .regionPool; recordPool = s .recordPool; domains = l; regions = s .regions; queue = s .queue }
+
+abbrev pub withRegions : Pool → List (Option Region) → State → State
+withRegions p l s = record { sizes = s .sizes; domainPool = s .domainPool; regionPool = p; recordPool = s .recordPool; domains = s .domains; regions = l; queue = s .queue }
+
+abbrev pub withRecordPool : Pool → State → State
+withRecordPool p s = record { sizes = s .sizes; domainPool = s .domainPool; regionPool = s .regionPool; recordPool = p; domains = s .domains; regions = s .regions; queue = s .queue }
+
+abbrev pub withQueue : Queue → State → State
+withQueue q s = record { sizes = s .sizes; domainPool = s .domainPool; regionPool = s .regionPool; recordPool = s .recordPool; domains = s .domains; regions = s .regions; queue = q }
+
+abbrev pub withCores : ℕ → Domain → Domain
+withCores c d = record { manager = d .manager; cores = c; locals = d .locals; tracker = d .tracker }
+
+abbrev pub withLocals : LocalList → Domain → Domain
+withLocals l d = record { manager = d .manager; cores = d .cores; locals = l; tracker = d .tracker }
+
+abbrev pub withTracker : List Record → Domain → Domain
+withTracker t d = record { manager = d .manager; cores = d .cores; locals = d .locals; tracker = t }
+
+abbrev pub withOwner : ℕ → Region → Region
+withOwner o r = record { owner = o; kind = r .kind; start = r .start; end = r .end; rights = r .rights; children = r .children }
+
+abbrev pub withChildren : List ℕ → Region → Region
+withChildren c r = record { owner = r .owner; kind = r .kind; start = r .start; end = r .end; rights = r .rights; children = c }
+
+-- ---- a domain and a region by slot number; in sound tables the fallbacks are never met
+
+abbrev pub noneDomain : Domain
+noneDomain = record { manager = none; cores = 0; locals = record { held = []; free = [] }; tracker = [] }
+
+abbrev pub noneRegion : Region
+noneRegion = record { owner = 0; kind = Root; start = 0; end = 0; rights = 0; children = [] }
+
+-- the domain, and the region, in a slot
+abbrev pub domainAt : State → ℕ → Domain
+domainAt s d = orElse (slotOf (s .domains) d) noneDomain
+
+abbrev pub regionIn : List (Option Region) → ℕ → Region
+regionIn rs i = orElse (slotOf rs i) noneRegion
+
+abbrev pub regionAt : State → ℕ → Region
+regionAt s i = regionIn (s .regions) i
+
+-- a domain, and a region, put into a slot
+abbrev pub putDomain : ℕ → Domain → State → State
+putDomain d x s = withDomains (s .domainPool) (set (s .domains) d (some x)) s
+
+abbrev pub putRegion : ℕ → Region → State → State
+putRegion i x s = withRegions (s .regionPool) (set (s .regions) i (some x)) s

@@ -1,0 +1,1 @@
+// No code: the definitions that contracts cite are in specs/.

@@ -1,0 +1,3 @@
+pub mod Rights
+pub mod Bits
+pub mod Laws

@@ -1,0 +1,259 @@
+//! Calls and answers of document 01, and the text form of a list of calls (oracle/README.md).
+
+use std::fmt;
+
+/// The five sizes of the tables.
+#[derive(Clone, Copy, PartialEq, Eq, Debug)]
+pub struct Sizes {
+    pub domains: usize,
+    pub slots: usize,
+    pub regions: usize,
+    pub records: usize,
+    pub updates: usize,
+}
+
+/// A slot number and the generation that the slot had when the handle was made.
+#[derive(Clone, Copy, PartialEq, Eq, Debug, Hash)]
+pub struct Handle {
+    pub slot: u64,
+    pub gen: u64,
+}
+
+/// A range with rights.
+#[derive(Clone, Copy, PartialEq, Eq, Debug)]
+pub struct Access {
+    pub start: u64,
+    pub end: u64,
+    pub rights: u8,
+}
+
+#[derive(Clone, Copy, PartialEq, Eq, Debug)]
+pub enum PoolName {
+    Domain,
+    Region,
+    Record,
+}
+
+#[derive(Clone, Copy, PartialEq, Eq, Debug)]
+pub enum Call {
+    Open { manager: Option<Handle>, cores: u64 },
+    /// A Channel capability to `to`, put in `domain`'s list.
+    Channel { domain: Handle, to: Handle },
+    SetCores { domain: Handle, cores: u64 },
+    Root { domain: Handle, access: Access },
+    Alias { domain: Handle, local: u64, access: Access },
+    Carve { domain: Handle, local: u64, access: Access },
+    Send { domain: Handle, local: u64, target: u64 },
+    Revoke { domain: Handle, local: u64 },
+    RegionRevoke { domain: Handle, local: u64 },
+    Pop,
+    CoreMap { domain: Handle },
+    Permissions { domain: Handle },
+    Refcount { domain: Handle, start: u64, end: u64 },
+    Holders { address: u64 },
+    /// No call of document 01: raises the generation of a free slot, so that 16 can be reached.
+    Generation { pool: PoolName, slot: u64, gen: u64 },
+}
+
+#[derive(Clone, Copy, PartialEq, Eq, Debug)]
+pub enum Update {
+    Permission { domain: Handle, cores: u64 },
+    Cleanup { start: u64, end: u64 },
+}
+
+#[derive(Clone, PartialEq, Eq, Debug)]
+pub enum Reply {
+    Done,
+    Domain(Handle),
+    Local(u64),
+    Popped(Option<Update>),
+    Number(u64),
+    Permissions(Vec<Access>),
+    Holders(Vec<u64>),
+}
+
+/// A reply, or document 01's refusal number.
+pub type Answer = Result<Reply, u8>;
+
+// ---- printing
+
+impl fmt::Display for Handle {
+    fn fmt(&self, f: &mut fmt::Formatter) -> fmt::Result {
+        write!(f, "{}.{}", self.slot, self.gen)
+    }
+}
+
+impl fmt::Display for Access {
+    fn fmt(&self, f: &mut fmt::Formatter) -> fmt::Result {
+        write!(f, "{} {} {}", self.start, self.end, self.rights)
+    }
+}
+
+impl fmt::Display for PoolName {
+    fn fmt(&self, f: &mut fmt::Formatter) -> fmt::Result {
+        f.write_str(match self {
+            PoolName::Domain => "domain",
+            PoolName::Region => "region",
+            PoolName::Record => "record",
+        })
+    }
+}
+
+impl fmt::Display for Sizes {
+    fn fmt(&self, f: &mut fmt::Formatter) -> fmt::Result {
+        write!(f, "{} {} {} {} {}", self.domains, self.slots, self.regions, self.records, self.updates)
+    }
+}
+
+impl fmt::Display for Call {
+    fn fmt(&self, f: &mut fmt::Formatter) -> fmt::Result {
+        match self {
+            Call::Open { manager: None, cores } => write!(f, "open - {cores}"),
+            Call::Open { manager: Some(m), cores } => write!(f, "open {m} {cores}"),
+            Call::Channel { domain, to } => write!(f, "channel {domain} {to}"),
+            Call::SetCores { domain, cores } => write!(f, "cores {domain} {cores}"),
+            Call::Root { domain, access } => write!(f, "root {domain} {access}"),
+            Call::Alias { domain, local, access } => write!(f, "alias {domain} {local} {access}"),
+            Call::Carve { domain, local, access } => write!(f, "carve {domain} {local} {access}"),
+            Call::Send { domain, local, target } => write!(f, "send {domain} {local} {target}"),
+            Call::Revoke { domain, local } => write!(f, "revoke {domain} {local}"),
+            Call::RegionRevoke { domain, local } => write!(f, "region-revoke {domain} {local}"),
+            Call::Pop => f.write_str("pop"),
+            Call::CoreMap { domain } => write!(f, "core-map {domain}"),
+            Call::Permissions { domain } => write!(f, "permissions {domain}"),
+            Call::Refcount { domain, start, end } => write!(f, "refcount {domain} {start} {end}"),
+            Call::Holders { address } => write!(f, "holders {address}"),
+            Call::Generation { pool, slot, gen } => write!(f, "generation {pool} {slot} {gen}"),
+        }
+    }
+}
+
+impl fmt::Display for Update {
+    fn fmt(&self, f: &mut fmt::Formatter) -> fmt::Result {
+        match self {
+            Update::Permission { domain, cores } => write!(f, "p {domain} {cores}"),
+            Update::Cleanup { start, end } => write!(f, "c {start} {end}"),
+        }
+    }
+}
+
+impl fmt::Display for Reply {
+    fn fmt(&self, f: &mut fmt::Formatter) -> fmt::Result {
+        match self {
+            Reply::Done => f.write_str("ok"),
+            Reply::Domain(h) => write!(f, "ok domain {h}"),
+            Reply::Local(l) => write!(f, "ok local {l}"),
+            Reply::Popped(None) => f.write_str("ok none"),
+            Reply::Popped(Some(u)) => write!(f, "ok {u}"),
+            Reply::Number(n) => write!(f, "ok number {n}"),
+            Reply::Permissions(l) => {
+                f.write_str("ok list")?;
+                l.iter().try_for_each(|a| write!(f, " [{a}]"))
+            }
+            Reply::Holders(l) => {
+                f.write_str("ok holders")?;
+                l.iter().try_for_each(|d| write!(f, " {d}"))
+            }
+        }
+    }
+}
+
+/// An answer as it is printed: `ok ..`, or `no` and the refusal's number.
+pub fn show(answer: &Answer) -> String {
+    match answer {
+        Ok(reply) => reply.to_string(),
+        Err(n) => format!("no {n}"),
+    }
+}
+
+// ---- reading
+
+struct Words<'a> {
+    rest: std::str::SplitWhitespace<'a>,
+}
+
+impl<'a> Words<'a> {
+    fn word(&mut self, what: &str) -> Result<&'a str, String> {
+        self.rest.next().ok_or_else(|| format!("{what} is missing"))
+    }
+
+    fn number(&mut self, what: &str) -> Result<u64, String> {
+        let word = self.word(what)?;
+        word.parse().map_err(|_| format!("{what}: a number below 2^64 was expected, not `{word}`"))
+    }
+
+    fn handle(&mut self, what: &str) -> Result<Handle, String> {
+        let word = self.word(what)?;
+        parse_handle(word).ok_or_else(|| format!("{what}: a handle as 0.0 (slot, generation) was expected, not `{word}`"))
+    }
+
+    fn access(&mut self) -> Result<Access, String> {
+        let start = self.number("start")?;
+        let end = self.number("end")?;
+        let rights = self.number("rights")?;
+        let rights = u8::try_from(rights).map_err(|_| format!("rights: a number below 256 was expected, not `{rights}`"))?;
+        Ok(Access { start, end, rights })
+    }
+
+    fn local_access(&mut self) -> Result<(Handle, u64, Access), String> {
+        Ok((self.handle("domain")?, self.number("local")?, self.access()?))
+    }
+}
+
+fn parse_handle(word: &str) -> Option<Handle> {
+    let (slot, gen) = word.split_once('.')?;
+    Some(Handle { slot: slot.parse().ok()?, gen: gen.parse().ok()? })
+}
+
+/// One line of a list of calls; `Ok(None)` for an empty line, a comment (`#`) and the line of sizes.
+pub fn parse(line: &str) -> Result<Option<Call>, String> {
+    let line = line.split('#').next().unwrap_or("");
+    // What stands behind `->` is an answer of an earlier run.
+    let line = line.split("->").next().unwrap_or("");
+    let mut w = Words { rest: line.split_whitespace() };
+    let Some(name) = w.rest.next() else { return Ok(None) };
+    let call = match name {
+        "sizes" => return Ok(None),
+        "open" => {
+            let word = w.word("manager")?;
+            let manager = match word {
+                "-" => None,
+                _ => Some(parse_handle(word).ok_or_else(|| format!("manager: - or a handle as 0.0 was expected, not `{word}`"))?),
+            };
+            Call::Open { manager, cores: w.number("cores")? }
+        }
+        "channel" => Call::Channel { domain: w.handle("domain")?, to: w.handle("to")? },
+        "cores" => Call::SetCores { domain: w.handle("domain")?, cores: w.number("cores")? },
+        "root" => Call::Root { domain: w.handle("domain")?, access: w.access()? },
+        "alias" => {
+            let (domain, local, access) = w.local_access()?;
+            Call::Alias { domain, local, access }
+        }
+        "carve" => {
+            let (domain, local, access) = w.local_access()?;
+            Call::Carve { domain, local, access }
+        }
+        "send" => Call::Send { domain: w.handle("domain")?, local: w.number("local")?, target: w.number("target")? },
+        "revoke" => Call::Revoke { domain: w.handle("domain")?, local: w.number("local")? },
+        "region-revoke" => Call::RegionRevoke { domain: w.handle("domain")?, local: w.number("local")? },
+        "pop" => Call::Pop,
+        "core-map" => Call::CoreMap { domain: w.handle("domain")? },
+        "permissions" => Call::Permissions { domain: w.handle("domain")? },
+        "refcount" => Call::Refcount { domain: w.handle("domain")?, start: w.number("start")?, end: w.number("end")? },
+        "holders" => Call::Holders { address: w.number("address")? },
+        "generation" => {
+            let pool = match w.word("pool")? {
+                "domain" => PoolName::Domain,
+                "region" => PoolName::Region,
+                "record" => PoolName::Record,
+                other => return Err(format!("pool: domain, region or record was expected, not `{other}`")),
+            };
+            Call::Generation { pool, slot: w.number("slot")?, gen: w.number("generation")? }
+        }
+        other => return Err(format!("`{other}` is no call")),
+    };
+    match w.rest.next() {
+        None => Ok(Some(call)),
+        Some(extra) => Err(format!("nothing was expected after the call, not `{extra}`")),
+    }
+}

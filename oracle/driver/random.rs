@@ -1,0 +1,250 @@
+//! Random lists of calls from a seed. What is drawn depends on the tables as they are, so that most calls are nearly right:
+//! live handles, slots in use, ranges on edges that are there, and beside them stale and absurd ones.
+
+use shared::calls::{Access, Call, Handle, PoolName, Sizes};
+use shared::tables::{Capa, Kind, Region, Tables};
+
+/// SplitMix64.
+#[derive(Clone)]
+pub struct Random(pub u64);
+
+impl Random {
+    pub fn next(&mut self) -> u64 {
+        self.0 = self.0.wrapping_add(0x9e3779b97f4a7c15);
+        let mut z = self.0;
+        z = (z ^ (z >> 30)).wrapping_mul(0xbf58476d1ce4e5b9);
+        z = (z ^ (z >> 27)).wrapping_mul(0x94d049bb133111eb);
+        z ^ (z >> 31)
+    }
+
+    /// A number below n; n is above 0.
+    pub fn below(&mut self, n: u64) -> u64 {
+        self.next() % n
+    }
+
+    /// True once in n times.
+    pub fn one_in(&mut self, n: u64) -> bool {
+        self.below(n) == 0
+    }
+
+    fn pick<T: Copy>(&mut self, from: &[T]) -> T {
+        from[self.below(from.len() as u64) as usize]
+    }
+}
+
+/// What a list is about: where its addresses lie, and how often each call comes.
+pub struct Style {
+    base: u64,
+    span: u64,
+    /// Weights of open, channel, cores, root, alias, carve, send, revoke, region-revoke, pop, readings.
+    weights: [u64; 11],
+    /// Rights words that roots get; `None`: any byte.
+    plain_rights: bool,
+    /// Once in so many times something absurd is named.
+    absurd: u64,
+    /// From so many domains on no more are opened, mostly: so lists get full.
+    domains: usize,
+}
+
+const WEIGHTS: [[u64; 11]; 6] = [
+    [2, 3, 1, 3, 8, 8, 8, 8, 3, 3, 2],
+    [2, 4, 1, 3, 3, 3, 16, 4, 4, 0, 1],
+    [1, 2, 1, 6, 12, 12, 2, 14, 2, 6, 1],
+    [1, 2, 1, 8, 16, 4, 2, 1, 1, 1, 1],
+    [1, 1, 0, 2, 4, 16, 2, 3, 2, 2, 1],
+    [2, 2, 2, 4, 5, 5, 5, 5, 5, 0, 1],
+];
+
+impl Style {
+    pub fn new(random: &mut Random) -> Style {
+        let span = random.pick(&[4, 8, 16, 40, 1000, 100_000]);
+        let base = match random.below(5) {
+            0 => u64::MAX - span,
+            1 => random.next() >> 1,
+            _ => 0,
+        };
+        Style {
+            base,
+            span,
+            weights: random.pick(&WEIGHTS),
+            plain_rights: random.one_in(2),
+            absurd: random.pick(&[12, 40, 400]),
+            domains: random.pick(&[1, 2, 3, 8, usize::MAX]),
+        }
+    }
+
+    fn address(&self, random: &mut Random) -> u64 {
+        self.base + random.below(self.span + 1)
+    }
+}
+
+/// Generations near the end for some free slots: how 16 is reached. Now and then for all the first records, so that a merge meets it.
+pub fn presets(random: &mut Random, sizes: &Sizes) -> Vec<Call> {
+    match random.below(16) {
+        0 => {
+            let gen = random.pick(&[u64::MAX, u64::MAX - 1]);
+            let all = 0..sizes.records.min(8) as u64;
+            all.map(|slot| Call::Generation { pool: PoolName::Record, slot, gen }).collect()
+        }
+        1..=3 => (0..1 + random.below(4)).map(|_| preset(random, sizes)).collect(),
+        _ => Vec::new(),
+    }
+}
+
+fn preset(random: &mut Random, sizes: &Sizes) -> Call {
+    let pools = [(PoolName::Domain, sizes.domains), (PoolName::Region, sizes.regions), (PoolName::Record, sizes.records)];
+    let (pool, n) = random.pick(&pools);
+    let slot = random.below((n as u64).min(8));
+    Call::Generation { pool, slot, gen: random.pick(&[u64::MAX, u64::MAX - 1, u64::MAX - 2, 7]) }
+}
+
+/// The next call of a list, on these tables.
+pub fn call(random: &mut Random, style: &Style, tables: &Tables) -> Call {
+    let live: Vec<Handle> = live_domains(tables);
+    if live.is_empty() && !random.one_in(4) {
+        return Call::Open { manager: None, cores: random.below(8) };
+    }
+    let mut draw = random.below(style.weights.iter().sum());
+    let mut kind = 0;
+    while draw >= style.weights[kind] {
+        draw -= style.weights[kind];
+        kind += 1;
+    }
+    if kind == 0 && live.len() >= style.domains && !random.one_in(20) {
+        kind = 3;
+    }
+    // Where all lists are full, most calls would be 12: revoke instead.
+    let full = |h: &Handle| tables.domains[h.slot as usize].iter().all(|d| d.held.iter().all(Option::is_some));
+    if matches!(kind, 1 | 3..=6 | 8) && live.iter().all(full) && !random.one_in(3) {
+        kind = 7;
+    }
+    // A domain that holds what the call needs, if there is one.
+    let useful = live.iter().filter(|h| tables.domains[h.slot as usize].iter().any(|d| d.held.iter().flatten().any(|c| needed(kind, *c))));
+    let useful: Vec<Handle> = useful.copied().collect();
+    let from = if useful.is_empty() || random.one_in(10) { &live } else { &useful };
+    let domain = any_domain(random, style, tables, from);
+    match kind {
+        0 => {
+            let manager = (!random.one_in(3)).then_some(domain);
+            Call::Open { manager, cores: random.below(8) }
+        }
+        1 => Call::Channel { domain, to: any_domain(random, style, tables, &live) },
+        2 => Call::SetCores { domain, cores: if random.one_in(8) { random.next() } else { random.below(16) } },
+        3 => Call::Root { domain, access: root_access(random, style) },
+        4 | 5 => child(random, style, tables, domain, kind == 5),
+        6 => {
+            let local = any_local(random, style, tables, domain, |_| true);
+            let target = any_local(random, style, tables, domain, |c| needed(kind, c));
+            Call::Send { domain, local, target }
+        }
+        7 => Call::Revoke { domain, local: any_local(random, style, tables, domain, |c| revocable(tables, c)) },
+        8 => Call::RegionRevoke { domain, local: any_local(random, style, tables, domain, |c| needed(kind, c)) },
+        9 => Call::Pop,
+        _ => reading(random, style, domain),
+    }
+}
+
+/// Is this a capability that a call of this kind can use?
+fn needed(kind: usize, c: Capa) -> bool {
+    match kind {
+        4 | 5 | 8 => matches!(c, Capa::Region(_)),
+        6 => matches!(c, Capa::Channel(_) | Capa::Management(_)),
+        7 => matches!(c, Capa::Region(_) | Capa::RegionRevoke(_)),
+        _ => true,
+    }
+}
+
+/// Anything but Management and live roots, which are refused.
+fn revocable(tables: &Tables, c: Capa) -> bool {
+    match c {
+        Capa::Management(_) => false,
+        Capa::Region(h) => tables.regions[h.slot as usize].as_ref().is_none_or(|r| r.kind != Kind::Root),
+        _ => true,
+    }
+}
+
+fn reading(random: &mut Random, style: &Style, domain: Handle) -> Call {
+    match random.below(4) {
+        0 => Call::CoreMap { domain },
+        1 => Call::Permissions { domain },
+        2 => Call::Refcount { domain, start: style.address(random), end: style.address(random) },
+        _ => Call::Holders { address: style.address(random) },
+    }
+}
+
+fn live_domains(tables: &Tables) -> Vec<Handle> {
+    let gens = &tables.domain_pool.gens;
+    let slots = (0..tables.domains.len()).filter(|&i| tables.domains[i].is_some());
+    slots.map(|i| Handle { slot: i as u64, gen: gens[i] }).collect()
+}
+
+/// A domain's handle: live, or now and then stale, of a free slot, or absurd.
+fn any_domain(random: &mut Random, style: &Style, tables: &Tables, live: &[Handle]) -> Handle {
+    if live.is_empty() || random.one_in(style.absurd) {
+        let slot = random.pick(&[0, random.0 % tables.domains.len() as u64, tables.domains.len() as u64, u64::MAX, 1 << 40]);
+        return Handle { slot, gen: random.pick(&[0, 0, 1, u64::MAX]) };
+    }
+    random.pick(live)
+}
+
+/// A slot of the domain's list: mostly one in use that the test likes.
+fn any_local(random: &mut Random, style: &Style, tables: &Tables, domain: Handle, likes: impl Fn(Capa) -> bool) -> u64 {
+    let slots = tables.sizes.slots as u64;
+    if random.one_in(style.absurd) {
+        return random.pick(&[slots, slots + 1, u64::MAX, 1 << 33]);
+    }
+    let list = tables.domains.get(domain.slot as usize).and_then(|d| d.as_ref());
+    let held = list.map_or(&[][..], |d| &d.held);
+    let liked: Vec<u64> = (0..held.len()).filter(|&l| held[l].is_some_and(&likes)).map(|l| l as u64).collect();
+    if liked.is_empty() || random.one_in(10) { random.below(slots) } else { random.pick(&liked) }
+}
+
+fn root_access(random: &mut Random, style: &Style) -> Access {
+    let (a, b) = (style.address(random), style.address(random));
+    let (start, end) = if a <= b || random.one_in(20) { (a, b) } else { (b, a) };
+    let rights = if style.plain_rights { random.pick(&[1, 3, 3, 7, 15, 35]) } else { random.next() as u8 };
+    Access { start, end, rights }
+}
+
+/// An alias or a carve of some region that the domain holds.
+fn child(random: &mut Random, style: &Style, tables: &Tables, domain: Handle, carve: bool) -> Call {
+    let local = any_local(random, style, tables, domain, |c| needed(4, c));
+    let list = tables.domains.get(domain.slot as usize).and_then(|d| d.as_ref());
+    let held = list.and_then(|d| d.held.get(local as usize).copied().flatten());
+    let parent = match held {
+        Some(Capa::Region(h)) => tables.regions.get(h.slot as usize).and_then(|r| r.as_ref()),
+        _ => None,
+    };
+    let access = match parent {
+        Some(region) => child_access(random, tables, region),
+        None => root_access(random, style),
+    };
+    if carve { Call::Carve { domain, local, access } } else { Call::Alias { domain, local, access } }
+}
+
+/// A range on the edges of the parent and its children, or near them; rights mostly within the parent's.
+fn child_access(random: &mut Random, tables: &Tables, parent: &Region) -> Access {
+    let mut edges = vec![parent.start, parent.end];
+    let mut next = parent.first_child;
+    while let Some(region) = next.and_then(|c| tables.regions[c as usize].as_ref()).filter(|_| edges.len() < 16) {
+        edges.extend([region.start, region.end]);
+        next = region.next_sibling;
+    }
+    let width = parent.end - parent.start;
+    let place = |random: &mut Random| match random.below(4) {
+        0 | 1 => random.pick(&edges),
+        2 => parent.start + random.below(width.saturating_add(1)),
+        _ => random.pick(&edges).wrapping_add(random.pick(&[1, u64::MAX])),
+    };
+    let (a, b) = (place(random), place(random));
+    let (start, end) = if a <= b || random.one_in(12) { (a, b) } else { (b, a) };
+    let extras = random.next() as u8 & 0x70;
+    let rights = match random.below(8) {
+        0..=2 => parent.rights,
+        3 => parent.rights | extras,
+        4 | 5 => parent.rights & random.next() as u8,
+        6 => parent.rights & random.next() as u8 | extras,
+        _ => random.next() as u8,
+    };
+    Access { start, end, rights }
+}

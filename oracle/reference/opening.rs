@@ -1,0 +1,62 @@
+//! The calls added by document 01 that open domains and channels and set core maps.
+
+use crate::lists::{fresh, Domain, Pool};
+use crate::seen::Branch;
+use crate::Engine;
+use shared::calls::{Answer, Handle, PoolName, Reply};
+use shared::tables::Capa;
+use std::sync::Arc;
+
+impl Engine {
+    /// Opening: 3 (given a manager), 15, 12. A manager gets a Management capability; nothing is queued.
+    pub fn open(&mut self, manager: Option<Handle>, cores: u64) -> Answer {
+        let manager = manager.map(|handle| self.live_domain(handle)).transpose()?;
+        if self.lists.domain_pool.free.is_empty() {
+            return Err(15);
+        }
+        if let Some(m) = manager {
+            self.make_room(m)?;
+        }
+        let d = self.lists.domain_pool.give().ok_or(15)?;
+        self.seen.note_if(self.lists.domain_pool.free.is_empty(), Branch::DomainsOut);
+        let handle = Handle { slot: d as u64, gen: self.lists.domain_pool.gens[d] };
+        let slots = self.sizes.slots;
+        let domain = Domain { manager, cores, held: vec![None; slots], free: fresh(slots), tracker: Vec::new() };
+        self.lists.domains[d] = Some(Arc::new(domain));
+        if let Some(m) = manager {
+            self.give_slot(m, Capa::Management(handle));
+        }
+        Ok(Reply::Domain(handle))
+    }
+
+    /// Channel: 3 for either, 12.
+    pub fn channel(&mut self, domain: Handle, to: Handle) -> Answer {
+        let d = self.live_domain(domain)?;
+        self.live_domain(to)?;
+        self.make_room(d)?;
+        Ok(Reply::Local(self.give_slot(d, Capa::Channel(to))))
+    }
+
+    /// Core map: 3.
+    pub fn set_cores(&mut self, domain: Handle, cores: u64) -> Answer {
+        let d = self.live_domain(domain)?;
+        let queued_with_other = self.queued(domain).is_some_and(|queued| queued != cores);
+        self.seen.note_if(queued_with_other, Branch::CoresWhileQueued);
+        self.domain_mut(d).cores = cores;
+        Ok(Reply::Done)
+    }
+
+    /// No call of document 01: a free slot's generation rises to the one given.
+    pub fn raise_generation(&mut self, pool: PoolName, slot: u64, gen: u64) -> Answer {
+        let pool: &mut Pool = match pool {
+            PoolName::Domain => &mut self.lists.domain_pool,
+            PoolName::Region => &mut self.lists.region_pool,
+            PoolName::Record => &mut self.lists.record_pool,
+        };
+        let slot = slot as usize;
+        if pool.free.contains(&slot) && gen >= pool.gens[slot] {
+            pool.gens[slot] = gen;
+        }
+        Ok(Reply::Done)
+    }
+}

@@ -1,0 +1,128 @@
+//! Document 01's calls over plain lists and stacks. A wrong port can be put in as a fault.
+
+mod entries;
+mod faults;
+mod lists;
+mod opening;
+mod queue;
+mod readings;
+mod regions;
+mod revoke;
+mod seen;
+mod send;
+mod slots;
+mod tracker;
+
+pub use faults::Fault;
+pub use seen::Seen;
+
+use lists::{Domain, Lists, Region};
+use shared::calls::{Access, Answer, Call, Sizes};
+use std::sync::Arc;
+use tracker::Tracker;
+
+#[derive(Clone)]
+pub struct Engine {
+    sizes: Sizes,
+    fault: Option<Fault>,
+    lists: Lists,
+    seen: Seen,
+}
+
+impl Engine {
+    /// Empty tables of given sizes.
+    pub fn new(sizes: Sizes, fault: Option<Fault>) -> Engine {
+        Engine { sizes, fault, lists: Lists::new(&sizes), seen: Seen::new() }
+    }
+
+    /// One call; a refusal gives its number and nothing else.
+    pub fn perform(&mut self, call: &Call) -> Answer {
+        let before = if can_fail_late(call) { Some(self.lists.clone()) } else { None };
+        let answer = self.act(call);
+        if let (Err(_), Some(before)) = (&answer, before) {
+            self.lists = before;
+        }
+        self.seen.count(call, &answer);
+        answer
+    }
+
+    /// What the calls met so far.
+    pub fn seen(&self) -> &Seen {
+        &self.seen
+    }
+
+    fn act(&mut self, call: &Call) -> Answer {
+        match *call {
+            Call::Open { manager, cores } => self.open(manager, cores),
+            Call::Channel { domain, to } => self.channel(domain, to),
+            Call::SetCores { domain, cores } => self.set_cores(domain, cores),
+            Call::Root { domain, access } => self.root(domain, access),
+            Call::Alias { domain, local, access } => self.alias(domain, local, access),
+            Call::Carve { domain, local, access } => self.carve(domain, local, access),
+            Call::Send { domain, local, target } => self.send(domain, local, target),
+            Call::Revoke { domain, local } => self.revoke(domain, local),
+            Call::RegionRevoke { domain, local } => self.make_region_revoke(domain, local),
+            Call::Pop => self.pop(),
+            Call::CoreMap { domain } => self.core_map(domain),
+            Call::Permissions { domain } => self.permissions(domain),
+            Call::Refcount { domain, start, end } => self.refcount(domain, start, end),
+            Call::Holders { address } => self.holders(address),
+            Call::Generation { pool, slot, gen } => self.raise_generation(pool, slot, gen),
+        }
+    }
+
+    fn wrong(&self, fault: Fault) -> bool {
+        self.fault == Some(fault)
+    }
+
+    fn domain(&self, d: usize) -> &Domain {
+        self.lists.domains[d].as_ref().expect("a live domain")
+    }
+
+    fn domain_mut(&mut self, d: usize) -> &mut Domain {
+        Arc::make_mut(self.lists.domains[d].as_mut().expect("a live domain"))
+    }
+
+    fn region(&self, r: usize) -> &Region {
+        self.lists.regions[r].as_ref().expect("a live region")
+    }
+
+    fn region_mut(&mut self, r: usize) -> &mut Region {
+        Arc::make_mut(self.lists.regions[r].as_mut().expect("a live region"))
+    }
+
+    fn tracker(&mut self, d: usize) -> Tracker<'_> {
+        let domain = self.lists.domains[d].as_mut().expect("a live domain");
+        Tracker {
+            records: &mut Arc::make_mut(domain).tracker,
+            pool: &mut self.lists.record_pool,
+            fault: self.fault,
+            seen: &mut self.seen,
+        }
+    }
+
+    /// A domain gains a range; a change queues it.
+    fn gain(&mut self, d: usize, gained: Access) -> Result<(), u8> {
+        if self.tracker(d).gain(gained)? {
+            self.queue_domain(d)?;
+        }
+        Ok(())
+    }
+
+    /// A domain loses a range; a change queues it.
+    fn lose(&mut self, d: usize, lost: Access) -> Result<(), u8> {
+        if self.tracker(d).lose(lost)? {
+            self.queue_domain(d)?;
+        }
+        Ok(())
+    }
+}
+
+/// The calls whose steps can meet a refusal after their first change (for the others, a sweep that
+/// finds nothing is the last that can refuse).
+fn can_fail_late(call: &Call) -> bool {
+    matches!(
+        call,
+        Call::Root { .. } | Call::Alias { .. } | Call::Carve { .. } | Call::Send { .. } | Call::Revoke { .. }
+    )
+}

@@ -1,0 +1,1 @@
+//! Stand-in: the region part of the engine names nothing of this module.

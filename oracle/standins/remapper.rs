@@ -1,0 +1,3 @@
+//! Stand-in: the engine only exports this name.
+
+pub struct Remapper;
