@@ -2,6 +2,7 @@
 
 use reference::{Engine, Fault, Seen};
 use shared::calls::{show, Call};
+use shared::sound::broken_clause;
 use shared::tables::Tables;
 
 use crate::judge::Judge;
@@ -39,6 +40,11 @@ fn run(
             if !differences.is_empty() {
                 let what = format!("tables differ (- the Rust, + the reference):\n{}", differences.join("\n"));
                 return (list, Some(Difference { at, what }));
+            }
+            // The test of soundness is slow at full size: the small sizes have it after every change.
+            let often = if tables.regions.len() < 20 { 1 } else { 500 };
+            if let Some(clause) = (at % often == 0).then(|| broken_clause(&tables)).flatten() {
+                return (list, Some(Difference { at, what: format!("the Rust's tables are not sound: {clause}") }));
             }
         }
     }

@@ -1,4 +1,5 @@
-//! What the judge and the reference share: calls, answers, tables. Nothing here decides an answer.
+//! What the judge and the reference share: calls, answers, tables, the test of soundness. Nothing here decides an answer.
 
 pub mod calls;
+pub mod sound;
 pub mod tables;
