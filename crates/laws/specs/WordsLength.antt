@@ -1,0 +1,118 @@
+-- A law: the words of sound tables are as many as the sizes say. Each row has its width, whatever it holds.
+use mathlib.Core.Path.{_≡_, refl, ap, _∙_}
+use Prim.Native.Nat.{ℕ, suc, _+_, _-_, _*_, _%_}
+use mathlib.Core.Option.{Option, none, some}
+use mathlib.Core.List.{List, [], _∷_, map, flatMap}
+use native.Mathlib.Omega.{arith}
+use lib.Dec.{eqb}
+use lib.ListN.{length, drop, getElem?, length-append, length-map, replicate, length-replicate}
+use Rattle.model.specs.Lists.{slotOf, countUp, firstOf, afterIn}
+use Rattle.model.specs.State.{Sizes, Pool, Capa, noCapa, region, regionRevoke, management, channel, LocalList, Record, Domain, parentOf, Region, Update, permission, cleanup, Queue, State}
+use Rattle.model.specs.Layout.{link, slotOr0, headerWords, freeLink, poolWords, capaWords, slotWords, domainWords, kindWord, siblings, regionWords, inTracker, recordSlotWords, updateWords, placeWords, words, lengthFor}
+use Rattle.model.specs.Sound.{PoolSound, Sound}
+use Rattle.laws.specs.Cases.{holds, fails, test}
+use Rattle.laws.specs.Parts.{join, in-turn, sum, join-length, up-length, rows-length}
+
+-- ---- the width of each row
+
+capa-width : (c : Capa) → length (capaWords c) ≡ 3
+capa-width noCapa = refl
+capa-width (region h) = refl
+capa-width (regionRevoke h) = refl
+capa-width (management h) = refl
+capa-width (channel h) = refl
+
+-- `slotWords` by what the slot holds; used only in proofs
+abbrev pub slotRow : List ℕ → ℕ → Option Capa → List ℕ
+slotRow free i o = elim o [ none ↦ 1 ∷ slotOr0 (afterIn free i) ∷ 0 ∷ [] | some c ↦ capaWords c ]
+
+slot-row-width : (free : List ℕ) (i : ℕ) (o : Option Capa) → length (slotRow free i o) ≡ 3
+slot-row-width free i none = refl
+slot-row-width free i (some c) = capa-width c
+
+pub slot-width : (l : LocalList) (i : ℕ) → length (slotWords l i) ≡ 3
+slot-width l i = slot-row-width (l .free) i (slotOf (l .held) i)
+
+domain-row-width : (n : ℕ) (o : Option Domain) → length (domainWords n o) ≡ 5 + 3 * n
+domain-row-width n none = length-replicate (5 + 3 * n) 0
+domain-row-width n (some x) = omega (arith, rows-length 3 (slotWords (x .locals)) (slot-width (x .locals)) 0 n)
+
+pub domain-width : (n : ℕ) (ds : List (Option Domain)) (i : ℕ) → length (domainWords n (slotOf ds i)) ≡ 5 + 3 * n
+domain-width n ds i = domain-row-width n (slotOf ds i)
+
+-- `regionWords` by what the slot holds; used only in proofs
+abbrev pub regionRow : List (Option Region) → ℕ → Option Region → List ℕ
+regionRow rs i o = elim o [
+  | none ↦ replicate 8 0
+  | some g ↦
+      kindWord (g .kind) ∷ suc (g .owner) ∷ link (parentOf (g .kind)) ∷ g .start ∷ g .end ∷ g .rights
+      ∷ link (firstOf (g .children)) ∷ link (afterIn (siblings rs (g .kind)) i) ∷ []
+]
+
+region-row-width : (rs : List (Option Region)) (i : ℕ) (o : Option Region) → length (regionRow rs i o) ≡ 8
+region-row-width rs i none = refl
+region-row-width rs i (some g) = refl
+
+pub region-width : (rs : List (Option Region)) (i : ℕ) → length (regionWords rs i) ≡ 8
+region-width rs i = region-row-width rs i (slotOf rs i)
+
+tracker-width : (i : ℕ) (l : List Record) (others : List ℕ) → length others ≡ 9 → length (inTracker i l others) ≡ 9
+tracker-width i [] others h = h
+tracker-width i (q ∷ l) others h = elim (test (eqb i (q .slot))) [ holds t ↦ rw t | fails t ↦ rw t (tracker-width i l others h) ]
+
+pub record-width : (ds : List (Option Domain)) (i : ℕ) → length (recordSlotWords ds i) ≡ 9
+record-width [] i = refl
+record-width (none ∷ ds) i = record-width ds i
+record-width (some x ∷ ds) i = tracker-width i (x .tracker) (recordSlotWords ds i) (record-width ds i)
+
+update-width : (o : Option Update) → length (updateWords o) ≡ 4
+update-width none = refl
+update-width (some (permission h c)) = refl
+update-width (some (cleanup a b)) = refl
+
+pub place-width : (n : ℕ) (q : Queue) (k : ℕ) → length (placeWords n q k) ≡ 4
+place-width n q k = update-width (getElem? (q .items) ((k + (n + 1) - q .first) % (n + 1)))
+
+-- ---- the eight sections
+
+-- the sections, and how long each is; used only in proofs
+abbrev pub sections : State → List (List ℕ)
+sections s =
+    headerWords s
+    ∷ poolWords (s .sizes .domains) (s .domainPool)
+    ∷ poolWords (s .sizes .regions) (s .regionPool)
+    ∷ poolWords (s .sizes .records) (s .recordPool)
+    ∷ flatMap (λ i. domainWords (s .sizes .slots) (slotOf (s .domains) i)) (countUp 0 (s .sizes .domains))
+    ∷ flatMap (regionWords (s .regions)) (countUp 0 (s .sizes .regions))
+    ∷ flatMap (recordSlotWords (s .domains)) (countUp 0 (s .sizes .records))
+    ∷ flatMap (placeWords (s .sizes .updates) (s .queue)) (countUp 0 (s .sizes .updates + 1))
+    ∷ []
+
+abbrev pub widths : Sizes → List ℕ
+widths z =
+    7 ∷ (2 + 2 * z .domains) ∷ (2 + 2 * z .regions) ∷ (2 + 2 * z .records)
+    ∷ z .domains * (5 + 3 * z .slots) ∷ z .regions * 8 ∷ z .records * 9 ∷ (z .updates + 1) * 4 ∷ []
+
+pub words-join : (s : State) → words s ≡ join (sections s)
+unfolding words
+words-join s = in-turn (headerWords s) (drop 1 (sections s))
+
+pool-length : (n : ℕ) (used : ℕ → ℕ) (p : Pool) → PoolSound n used p → length (poolWords n p) ≡ 2 + 2 * n
+pool-length n used p h =
+    let links = map (freeLink (p .free)) (countUp 0 n) in
+    omega (arith, length-append links (p .gens), length-map (countUp 0 n) (freeLink (p .free)), up-length 0 n, h .gensLength)
+
+pub section-lengths : (s : State) → Sound s → map length (sections s) ≡ widths (s .sizes)
+section-lengths s h =
+    let z = s .sizes in
+    let d = pool-length (z .domains) _ (s .domainPool) (h .domainPool) in
+    let r = pool-length (z .regions) _ (s .regionPool) (h .regionPool) in
+    let t = pool-length (z .records) _ (s .recordPool) (h .recordPool) in
+    let ds = rows-length _ _ (domain-width (z .slots) (s .domains)) 0 (z .domains) in
+    let rs = rows-length _ _ (region-width (s .regions)) 0 (z .regions) in
+    let ts = rows-length _ _ (record-width (s .domains)) 0 (z .records) in
+    let us = rows-length _ _ (place-width (z .updates) (s .queue)) 0 (z .updates + 1) in
+    λ i. 7 ∷ d i ∷ r i ∷ t i ∷ ds i ∷ rs i ∷ ts i ∷ us i ∷ []
+
+pub words-length : (s : State) → Sound s → length (words s) ≡ lengthFor (s .sizes)
+words-length s h = ap length (words-join s) ∙ join-length (sections s) ∙ ap sum (section-lengths s h) ∙ omega arith
