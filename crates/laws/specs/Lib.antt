@@ -11,10 +11,5 @@ pub mod TestLaw
 pub mod RingFull
 pub mod Parts
 pub mod Stack
-pub mod WordsLength
-pub mod SameTables
-pub mod SameRegions
-pub mod SameTrackers
-pub mod SameDomains
-pub mod SameQueue
-pub mod WordsUnique
+pub mod Words
+pub mod AfterUnique

@@ -8,11 +8,11 @@ use Rattle.model.specs.State.{Sizes, Domain, State}
 use Rattle.model.specs.Layout.{words}
 use Rattle.model.specs.Sound.{Sound}
 use Rattle.laws.specs.Parts.{same-parts, same-rows}
-use Rattle.laws.specs.WordsLength.{sections, words-join, section-lengths, domain-width, region-width, record-width, place-width}
-use Rattle.laws.specs.SameTables.{same-pool}
-use Rattle.laws.specs.SameRegions.{same-regions}
-use Rattle.laws.specs.SameDomains.{Listed, same-domains}
-use Rattle.laws.specs.SameQueue.{same-queue}
+use Rattle.laws.specs.Words.Length.{sections, words-join, section-lengths, domain-width, region-width, record-width, place-width}
+use Rattle.laws.specs.Words.SameTables.{same-pool}
+use Rattle.laws.specs.Words.SameRegions.{same-regions}
+use Rattle.laws.specs.Words.SameDomains.{Listed, same-domains}
+use Rattle.laws.specs.Words.SameQueue.{same-queue}
 
 -- the first five words
 same-sizes : (s t : State) → words s ≡ words t → s .sizes ≡ t .sizes

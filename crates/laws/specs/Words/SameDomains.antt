@@ -15,9 +15,9 @@ use Rattle.model.specs.Sound.{OnceEach, inUse, recordUses, PoolSound}
 use Rattle.laws.specs.Cases.{lt, ge, cmp}
 use Rattle.laws.specs.Parts.{same-rows}
 use Rattle.laws.specs.Stack.{same-stack, once-at-most, none-beyond}
-use Rattle.laws.specs.SameTables.{same-table, in-below, at-slots, same-link}
-use Rattle.laws.specs.SameTrackers.{uses, owned, same-tracker}
-use Rattle.laws.specs.WordsLength.{slotRow, slot-width}
+use Rattle.laws.specs.Words.SameTables.{same-table, in-below, at-slots, same-link}
+use Rattle.laws.specs.Words.SameTrackers.{uses, owned, same-tracker}
+use Rattle.laws.specs.Words.Length.{slotRow, slot-width}
 
 -- ---- a capability list
 

@@ -13,8 +13,8 @@ use Rattle.model.specs.Layout.{link, slotOr0, kindWord, siblings, regionWords}
 use Rattle.model.specs.Sound.{inUse, names, RegionSound}
 use Rattle.laws.specs.Cases.{true-is, holds, fails, test}
 use Rattle.laws.specs.Stack.{one-at-most, same-stack}
-use Rattle.laws.specs.SameTables.{neither, both, pair, same-table, in-below, at-slots, unlink, same-slot}
-use Rattle.laws.specs.WordsLength.{regionRow}
+use Rattle.laws.specs.Words.SameTables.{neither, both, pair, same-table, in-below, at-slots, unlink, same-slot}
+use Rattle.laws.specs.Words.Length.{regionRow}
 
 -- the kind, read from its word and the parent's link; used only in proofs
 abbrev readKind : ℕ → ℕ → Kind
