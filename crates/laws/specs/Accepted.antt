@@ -1,5 +1,5 @@
 -- What holds of an outcome if it is accepted: one rule for each form that the definitions use. For the laws; no part of what a reader must believe.
-use mathlib.Core.Bool.{Bool, true, false}
+use mathlib.Core.Bool.{Bool, true, false, not}
 use lib.Dec.{T}
 use Rattle.model.specs.Lists.{if_then_else_}
 use Rattle.model.specs.Outcome.{Outcome, ok, refuse, _>>=_, _>>_, require, Refusal}
@@ -31,6 +31,11 @@ and-then (refuse r) h = refused
 pub branch : {A : Type 0} {Q : A → Type 0} (b : Bool) {m n : Outcome A} → All Q m → All Q n → All Q (if b then m else n)
 branch true h k = h
 branch false h k = k
+
+-- the same, with what the test says
+pub branch-on : {A : Type 0} {Q : A → Type 0} (b : Bool) {m n : Outcome A} → (T b → All Q m) → (T (not b) → All Q n) → All Q (if b then m else n)
+branch-on true h k = h tt
+branch-on false h k = k tt
 
 -- the test that a call has passed
 pub checked : {B : Type 0} {Q : B → Type 0} (b : Bool) (r : Refusal) {n : Outcome B} → (T b → All Q n) → All Q (require b r >> n)

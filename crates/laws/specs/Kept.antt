@@ -4,17 +4,18 @@ use mathlib.Core.Logic.{_≢_}
 use Prim.Native.Nat.{ℕ, zero, suc}
 use mathlib.Core.Option.{Option, none, some}
 use mathlib.Core.List.{List, [], _∷_}
-use lib.Dec.{eqb, ltb, eqb→eq}
+use lib.Dec.{eqb, eqb→eq}
 use lib.ListN.{length, length-set}
 use Rattle.model.specs.Lists.{any, Each}
 use Rattle.rights.specs.Rights.{has, CLEANUP}
 use Rattle.model.specs.Outcome.{Outcome, ok, refuse, Refusal}
 use Rattle.laws.specs.Accepted.{All, accepted, refused, bind, bind-any, and-then, branch, weaken, checked}
+use Rattle.laws.specs.Tracker.Slots.{gain-slots, lose-slots}
 use Rattle.model.specs.State.{State, Sizes, Pool, Handle, Capa, noCapa, region, regionRevoke, management, channel, Domain, Region, Kind, Root, Alias, Carve, Access, Record, Update, withRecordPool, withTracker, putDomain, putRegion, domainAt, regionAt}
 use Rattle.model.specs.Pool.{allocate, free, isLive, handleOf}
 use Rattle.model.specs.Locals.{hasCapacity, insertCapa, removeCapa, emptyCapa}
 use Rattle.model.specs.Updates.{isPermissionOf, push, pushPermission, pop}
-use Rattle.model.specs.Tracker.{Walk, splitAt, cutBefore, cutAfter, fillGap, addTo, addRegion, keepOrDrop, removeFrom, removeRegion, meets, mergeable, mergeInto, coalesce, merged, gain, lose, withEnd}
+use Rattle.model.specs.Tracker.{Walk, gain, lose}
 use Rattle.model.specs.Tree.{Range, insertChild, removeChild}
 use Rattle.model.specs.Regions.{putWalk, activate, deactivate, newRegion, freeRegion, sendRanges, sendRegion, giveBack, leaveParent, revokeLeaf, revokeRegion}
 use Rattle.model.specs.Calls.{roomForRegion, newDomain, openDomain, openChannel, setCores, createRootRegion, addChild, aliasRegion, exchangeRights, carveRegion, sendCapa, send, revokeUnlessRoot, revokeCapa, revoke, createRevokeCapa}
@@ -24,15 +25,12 @@ use Rattle.model.specs.Layout.{lengthFor}
 
 -- ---- pools
 
--- as many generations; in a result, behind one or two other things, or in a walk
+-- as many generations; in a result, behind another thing, or in a walk
 abbrev SamePool : Pool → Pool → Type 0
 SamePool p q = length (q .gens) ≡ length (p .gens)
 
 abbrev Same₁ : {A : Type 0} → Pool → A × Pool → Type 0
 Same₁ p x = SamePool p (x .1)
-
-abbrev Same₂ : {A B : Type 0} → Pool → A × B × Pool → Type 0
-Same₂ p x = SamePool p (x .2)
 
 allocate-same : (r : Refusal) (gs fs : List ℕ) → All (Same₁ (record { gens = gs; free = fs })) (allocate r (record { gens = gs; free = fs }))
 unfolding allocate
@@ -48,71 +46,11 @@ free-same i p = and-then _ (accepted (length-set (p .gens) i _))
 abbrev PoolOf : Pool → Walk → Type 0
 PoolOf p w = SamePool p (w .pool)
 
-split-same : (a : ℕ) (q : Record) (p : Pool) → All (Same₂ p) (splitAt a q p)
-unfolding splitAt
-split-same a q p = bind (allocate-same _ (p .gens) (p .free)) (λ x h. accepted h)
-
-before-same : (s : ℕ) (q : Record) (p : Pool) → All (Same₂ p) (cutBefore s q p)
-unfolding cutBefore
-before-same s q p = branch (ltb (q .start) s) (bind (split-same s q p) (λ x h. accepted h)) (accepted refl)
-
-after-same : (e : ℕ) (q : Record) (p : Pool) → All (Same₂ p) (cutAfter e q p)
-unfolding cutAfter
-after-same e q p = branch (ltb e (q .end)) (bind (split-same e q p) (λ x h. accepted h)) (accepted refl)
-
-gap-same : (r s e : ℕ) (p : Pool) → All (Same₁ p) (fillGap r s e p)
-unfolding fillGap
-gap-same r s e p = branch (ltb s e) (bind (allocate-same _ (p .gens) (p .free)) (λ x h. accepted h)) (accepted refl)
-
-addTo-same : (r s e : ℕ) (q : Record) (p : Pool) → All (PoolOf p) (addTo r s e q p)
-unfolding addTo
-addTo-same r s e q p = branch (meets s e q) (bind (before-same s q p) (λ x h. bind (after-same e (x .1) (x .2)) (λ y k. accepted (k ∙ h)))) (accepted refl)
-
-add-same : (r s e : ℕ) (l : List Record) (p : Pool) → All (PoolOf p) (addRegion r s e l p)
-unfolding addRegion
-add-same r s e [] p = bind (gap-same r s e p) (λ x h. accepted h)
-add-same r s e (q ∷ l) p = bind (gap-same _ _ _ p) (λ x h. bind (addTo-same _ _ _ q (x .1)) (λ w k. bind (add-same _ _ _ l (w .pool)) (λ v j. accepted (j ∙ k ∙ h))))
-
-drop-same : (q : Record) (p : Pool) → All (Same₁ p) (keepOrDrop q p)
-unfolding keepOrDrop
-drop-same q p = branch (eqb (q .counts .reach) 0) (bind (free-same (q .slot) p) (λ x h. accepted h)) (accepted refl)
-
-removeFrom-same : (r s e : ℕ) (q : Record) (p : Pool) → All (PoolOf p) (removeFrom r s e q p)
-unfolding removeFrom
-removeFrom-same r s e q p =
-    branch (meets s e q)
-    (bind (before-same s q p) (λ x h. bind (after-same e (x .1) (x .2)) (λ y k. bind (drop-same _ (y .2)) (λ u j. accepted (j ∙ k ∙ h)))))
-    (accepted refl)
-
-remove-same : (r s e : ℕ) (l : List Record) (p : Pool) → All (PoolOf p) (removeRegion r s e l p)
-unfolding removeRegion
-remove-same r s e [] p = accepted refl
-remove-same r s e (q ∷ l) p = bind (removeFrom-same r s e q p) (λ w k. bind (remove-same r s e l (w .pool)) (λ v j. accepted (j ∙ k)))
-
-merge-same : (q : Record) (l : List Record) (p : Pool) → All (Same₁ p) (mergeInto q l p)
-unfolding mergeInto
-merge-same q [] p = accepted refl
-merge-same q (n ∷ l) p =
-    branch (mergeable q n)
-    (bind (free-same (n .slot) p) (λ p₁ h. weaken (merge-same (withEnd (n .end) q) l p₁) (λ x k. k ∙ h)))
-    (bind (merge-same n l p) (λ x h. accepted h))
-
-coalesce-same : (l : List Record) (p : Pool) → All (Same₁ p) (coalesce l p)
-unfolding coalesce
-coalesce-same [] p = accepted refl
-coalesce-same (q ∷ l) p = merge-same q l p
-
-merged-same : (p : Pool) (m : Outcome Walk) → All (PoolOf p) m → All (PoolOf p) (merged m)
-unfolding merged
-merged-same p m h = bind h (λ w k. bind (coalesce-same (w .records) (w .pool)) (λ x j. accepted (j ∙ k)))
-
 gain-same : (r s e : ℕ) (l : List Record) (p : Pool) → All (PoolOf p) (gain r s e l p)
-unfolding gain
-gain-same r s e l p = merged-same p _ (add-same r s e l p)
+gain-same r s e l p = weaken (gain-slots r s e l p) (λ w h. h .gensLength)
 
 lose-same : (r s e : ℕ) (l : List Record) (p : Pool) → All (PoolOf p) (lose r s e l p)
-unfolding lose
-lose-same r s e l p = merged-same p _ (remove-same r s e l p)
+lose-same r s e l p = weaken (lose-slots r s e l p) (λ w h. h .gensLength)
 
 -- ---- the whole state
 

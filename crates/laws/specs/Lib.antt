@@ -1,15 +1,16 @@
 -- Theorems about the definitions of crate model.
 pub mod Accepted
+pub mod Answers
 pub mod Cases
+pub mod Parts
+pub mod Stack
+pub mod Tracker
 pub mod Kept
 pub mod Empty
 pub mod PopSound
-pub mod GainLaw
 pub mod CountsLaw
 pub mod SoundTest
 pub mod TestLaw
 pub mod RingFull
-pub mod Parts
-pub mod Stack
 pub mod Words
 pub mod AfterUnique

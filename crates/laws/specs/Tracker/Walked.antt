@@ -1,0 +1,89 @@
+-- A walk over a list. Invariant: from s up to e each address reads as the change makes of it, elsewhere as before; the list stays rising from lo on.
+-- One step over the first record serves gain and loss: a loss has an empty gap before it, and its range may begin with the records.
+use mathlib.Core.Path.{_≡_, refl, sym, _∙_}
+use Prim.Native.Nat.{ℕ, _+_, _≤_, _<_, min, max}
+use mathlib.Core.Bool.{Bool, false, not, _||_}
+use mathlib.Core.Option.{Option, none, some}
+use mathlib.Core.List.{List, [], _∷_, _++_}
+use native.Mathlib.Omega.{arith}
+use Rattle.model.specs.Lists.{isEmpty}
+use Rattle.model.specs.State.{Counts, Record, Pool}
+use Rattle.model.specs.Tracker.{Walk, addRegion, removeRegion}
+use Rattle.model.specs.Sound.{Rising}
+use Rattle.laws.specs.Accepted.{All, accepted, bind}
+use Rattle.laws.specs.Cases.{within, W, within-same, lt, ge, cmp, below, inside, above, pos}
+use Rattle.laws.specs.Tracker.Look.{look, first-none, look-append, look-low}
+use Rattle.laws.specs.Tracker.Span.{Span, span-append, span-rising, rising-of}
+use Rattle.laws.specs.Tracker.Cut.{Reads, Gap, gap-law}
+use Rattle.laws.specs.Tracker.One.{gained, grows, lost, shrinks, One, add-one, remove-one}
+use Rattle.laws.specs.Tracker.Flag.{Flagged, gapFlag, flag-nil, flag-cons, flag-late}
+
+-- what the list reads as after a change g from s up to e
+abbrev pub Turned : (Option Counts → Option Counts) → ℕ → ℕ → List Record → List Record → Type 0
+Turned g s e l m = (a : ℕ) → look m a ≡ within s e a (g (look l a)) (look l a)
+
+pub record Walked (g : Option Counts → Option Counts) (c : Option Counts → Bool) (lo s e : ℕ) (l : List Record) (w : Walk) : Type 0 where
+  pub reads : Turned g s e l (w .records)
+  pub rising : Rising lo (w .records)
+  pub flag : Flagged c s e l (w .changed)
+
+module _ (g : Option Counts → Option Counts) (c : Option Counts → Bool) (s e : ℕ) where
+  -- what is in the gap, the first record and the rest, put together
+  chain : (q : Record) (l n h m : List Record) → q .start < q .end → Rising (q .end) l → Reads n s (min e (q .start)) (g none) → ((a : ℕ) → look h a ≡ within (q .start) (q .end) a (within s e a (g (some (q .counts))) (some (q .counts))) none) → Turned g (max s (q .end)) e l m → Turned g s e (q ∷ l) (n ++ h ++ m)
+  chain q l n h m i o rn rh rm a = look-append (n ++ h) m a ∙ rw (look-append n h a) (simp (rn a, rh a, rm a) (elim (pos (q .start) (q .end) a) [
+    | below u ↦ let e₀ = look-low (q .end) a l o (omega arith) in let v : a < max s (q .end) = omega arith in elim (pos s e a) [
+      | below j ↦ simp (W, e₀)
+      | inside j k ↦ let w : a < min e (q .start) = omega arith in simp (W, e₀, first-none)
+      | above j ↦ let w : min e (q .start) ≤ a = omega arith in simp (W, e₀)
+    ]
+    | inside u v ↦ let e₀ = look-low (q .end) a l o v in let w : min e (q .start) ≤ a = omega arith in let x : a < max s (q .end) = omega arith in elim (pos s e a) [ below k ↦ simp (W, e₀) | inside k k′ ↦ simp (W, e₀, first-none) | above k ↦ simp (W, e₀) ]
+    | above u ↦ let w : min e (q .start) ≤ a = omega arith in elim (pos s e a) [
+      | below j ↦ let v : a < max s (q .end) = omega arith in simp W
+      | inside j k ↦ let v : max s (q .end) ≤ a = omega arith in simp W
+      | above j ↦ simp W
+    ]
+  ]))
+
+  -- n fills the gap before q, h is what became of q, and w of the others; x tells whether the gap is a change
+  walked-cons : (lo : ℕ) (q : Record) (l n : List Record) (x : Bool) (h w : Walk) → Rising lo (q ∷ l) → (q .start < e → s < e) → Reads n s (min e (q .start)) (g none) → Span lo (q .start) n → x ≡ gapFlag c s e q → One g c s e q h → Walked g c (q .end) (max s (q .end)) e l w → Walked g c lo s e (q ∷ l) (record { records = n ++ h .records ++ w .records; pool = w .pool; changed = x || h .changed || w .changed })
+  walked-cons lo q l n x h w o z rn k f one rest = record {
+    reads = chain q l n (h .records) (w .records) (o .1) (o .2) rn (one .reads) (rest .reads);
+    rising = span-rising lo (q .end) (n ++ h .records) (w .records) (span-append lo (q .start) (q .end) n (h .records) k (one .span)) (rest .rising);
+    flag = rw (f, one .flag) (flag-cons c s e lo q l (w .changed) o z (rest .flag));
+  }
+
+  -- where nothing is made of an address with no record, the range may begin where the records do
+  walked-late : (lo : ℕ) (l : List Record) (w : Walk) → g none ≡ none → c none ≡ false → Rising lo l → Walked g c lo s e l w → Walked g c lo (max s lo) e l w
+  walked-late lo l w n m o k = record { reads = late; rising = k .rising; flag = flag-late c s e lo l (w .changed) m o (k .flag) }
+    where
+      late : Turned g (max s lo) e l (w .records)
+      late a = k .reads a ∙ elim (cmp a lo) [
+        | lt u ↦ let v : a < max s lo = omega arith in let e₀ = look-low lo a l o u in simp (W, e₀, n) (within-same s e a none none refl)
+        | ge u ↦ elim (pos s e a) [
+          | below i ↦ let v : a < max s lo = omega arith in simp W
+          | inside i j ↦ let v : max s lo ≤ a = omega arith in simp W
+          | above i ↦ simp W
+        ]
+      ]
+
+-- From s on, s < e or nothing is left to fill.
+pub add-walked : (r s e lo : ℕ) (l : List Record) (p : Pool) → Rising lo l → lo ≤ s → s < max e (lo + 1) → All (Walked (gained r) (grows r) lo s e l) (addRegion r s e l p)
+unfolding addRegion
+add-walked r s e lo [] p o u z = bind (gap-law r s e p) (λ x h. accepted (filled x h))
+  where
+    filled : (x : List Record × Pool) → Gap r s e x → Walked (gained r) (grows r) lo s e [] (record { records = x .0; pool = x .1; changed = not (isEmpty (x .0)) })
+    filled x h = record { reads = h .reads; rising = rising-of lo (max s e) (x .0) (h .span lo (max s e) u (omega arith) (omega arith)); flag = rw (h .filled) (flag-nil (grows r) s e) }
+add-walked r s e lo (q ∷ l) p o u z =
+    bind (gap-law r s (min e (q .start)) p) (λ x f.
+    bind (add-one r s e q (x .1) (o .1) (λ i. omega arith)) (λ h one.
+    bind (add-walked r (max s (q .end)) e (q .end) l (h .pool) (o .2) (omega arith) (omega arith)) (λ w rest.
+    accepted (walked-cons (gained r) (grows r) s e lo q l (x .0) (not (isEmpty (x .0))) h w o (λ i. omega arith) (f .reads) (f .span lo (q .start) u (o .0) (omega arith)) (f .filled) one rest))))
+
+pub remove-walked : (r s e lo : ℕ) (l : List Record) (p : Pool) → Rising lo l → s < e → All (Walked (lost r) (shrinks r) lo s e l) (removeRegion r s e l p)
+unfolding removeRegion
+remove-walked r s e lo [] p o z = accepted (record { reads = λ a. sym (within-same s e a none none refl); rising = tt; flag = flag-nil (shrinks r) s e })
+remove-walked r s e lo (q ∷ l) p o z =
+    bind (remove-one r s e q p (o .1) (λ i. z)) (λ h one.
+    bind (remove-walked r s e (q .end) l (h .pool) (o .2) z) (λ w rest.
+    accepted (walked-cons (lost r) (shrinks r) s e lo q l [] false h w o (λ i. z) (λ a. sym (within-same s (min e (q .start)) a none none refl)) (o .0) refl one
+    (walked-late (lost r) (shrinks r) s e (q .end) l w refl refl (o .2) rest))))
