@@ -1,0 +1,27 @@
+-- The link of slot i is word 2 + i.
+use Prim.Native.Nat.{_-_}
+use Rattle.arena.specs.Words.{link-set, no-link-set}
+use borrow.Author.Needs.{needs}
+use Rattle.arena.proofs.set_link.Statement.{statement}
+use Rattle.arena.proofs.set_link.Tie as tie
+
+add-p : tie.Need-add-p
+add-p c = search needs
+
+mul-p : tie.Need-mul-p
+mul-p c = search needs
+
+slice-write-p : tie.Need-slice-write-p
+slice-write-p c = search needs
+
+same-length : tie.Need-same-length
+same-length c = search needs
+
+returns : tie.Need-returns
+returns c = link-set _ _ (c .before .pre) _ _ (c .if1 .taken)
+
+returns-2 : tie.Need-returns-2
+returns-2 c = no-link-set _ _ (c .before .pre) _ _ (c .if1 .left)
+
+pub set-link-spec : {M : Type 1} → statement M
+set-link-spec = tie.close (tie.spec add-p mul-p slice-write-p same-length returns returns-2)

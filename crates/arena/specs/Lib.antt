@@ -1,0 +1,4 @@
+pub mod Arena
+pub mod Words
+pub mod Steps
+pub mod Fresh

@@ -1,0 +1,108 @@
+-- The three pools of the tables: one law for what is lent of a pool and what comes back.
+use mathlib.Core.Path.{_≡_, refl, sym, ap, _∙_}
+use mathlib.Core.List.{List}
+use Prim.Native.Nat.{ℕ, _+_, _-_, _*_, _≤_, _<_}
+use native.Mathlib.Omega.{arith}
+use borrow.Rule.Slice.PartMut.{putMid}
+use lib.ListN.{length, getD, set, take, drop}
+use lib.Seq.{sets, take-all}
+use Rattle.words.specs.Runs.{part, lent-back, sets-all}
+use Rattle.words.specs.Cuts.{cuts, offset, cuts-part}
+use Rattle.tables.specs.declared.sizes.Sizes.{Sizes}
+use Rattle.tables.specs.Tables.{Tables, Arena, withDomainPool, withRegionPool, withRecordPool}
+use Rattle.tables.specs.View.{sizesOf, view, widths, poolWidth, ofParts, Sized, Left, arenaOf}
+use Rattle.tables.specs.Sections.{section, section-length, section-inside, only-sets, only-left, section-sets}
+use Rattle.pools.specs.declared.Pool.{Pool}
+use Rattle.pools.specs.declared.Pool.the-variants.{Domains, Regions, Records}
+use Rattle.pools.specs.declared.Span.{Span}
+
+abbrev pub poolSection : Pool → ℕ
+poolSection Domains = 1
+poolSection Regions = 2
+poolSection Records = 3
+
+abbrev pub poolSlots : Sizes → Pool → ℕ
+poolSlots z Domains = z .domains
+poolSlots z Regions = z .regions
+poolSlots z Records = z .records
+
+abbrev pub poolOf : Tables → Pool → Arena
+poolOf s Domains = s .domainPool
+poolOf s Regions = s .regionPool
+poolOf s Records = s .recordPool
+
+abbrev pub withPool : Tables → Pool → Arena → Tables
+withPool s Domains a = withDomainPool s a
+withPool s Regions a = withRegionPool s a
+withPool s Records a = withRecordPool s a
+
+-- where pool q stands in the words t
+pub record PoolAt (t : List ℕ) (q : Pool) (r : Span) : Type 0 where
+  pub slots : r .slots ≡ poolSlots (sizesOf t) q
+  pub start : r .start ≡ offset (widths (sizesOf t)) (poolSection q)
+  pub end : r .end ≡ r .start + poolWidth (r .slots)
+  pub inside : r .end ≤ length t
+
+pool-width : (z : Sizes) (q : Pool) → getD (widths z) (poolSection q) 0 ≡ poolWidth (poolSlots z q)
+pool-width z Domains = refl
+pool-width z Regions = refl
+pool-width z Records = refl
+
+pool-seen : (t : List ℕ) (q : Pool) → arenaOf (poolSlots (sizesOf t) q) (section t (poolSection q)) ≡ poolOf (view t) q
+unfolding view ofParts
+pool-seen t Domains = refl
+pool-seen t Regions = refl
+pool-seen t Records = refl
+
+pool-changed : (t p : List ℕ) (q : Pool) (x : Arena) → arenaOf (poolSlots (sizesOf t) q) p ≡ x
+    → ofParts (sizesOf t) (set (cuts (widths (sizesOf t)) t) (poolSection q) p) ≡ withPool (view t) q x
+unfolding view ofParts cuts withDomainPool withRegionPool withRecordPool
+pool-changed t p Domains x e = ap (withDomainPool (view t)) e
+pool-changed t p Regions x e = ap (withRegionPool (view t)) e
+pool-changed t p Records x e = ap (withRecordPool (view t)) e
+
+-- a pool is one of the sections after the header
+pool-past : (t : List ℕ) (q : Pool) → (poolSection q < 8) × (5 ≤ offset (widths (sizesOf t)) (poolSection q))
+unfolding offset
+pool-past t Domains = omega arith
+pool-past t Regions = omega arith
+pool-past t Records = omega arith
+
+pub pool-at : (t : List ℕ) (q : Pool) (o n : ℕ) → Sized t → o ≡ offset (widths (sizesOf t)) (poolSection q) → n ≡ poolSlots (sizesOf t) q
+    → PoolAt t q (record { start = o; end = o + (2 + 2 * n); slots = n })
+pool-at t q o n s eo en =
+    let w : getD (widths (sizesOf t)) (poolSection q) 0 ≡ poolWidth n = pool-width (sizesOf t) q ∙ rw (← en) in
+    record { slots = en; start = eo; end = omega arith; inside = omega (arith, section-inside t (poolSection q) s) }
+
+module _ (t : List ℕ) (q : Pool) (r : Span) (s : Sized t) (at : PoolAt t q r) where
+  width : getD (widths (sizesOf t)) (poolSection q) 0 ≡ poolWidth (r .slots)
+  width = pool-width (sizesOf t) q ∙ rw (← at .slots)
+
+  lent : take (r .end - r .start) (drop (r .start) t) ≡ section t (poolSection q)
+  unfolding part
+  lent =
+      let o = offset (widths (sizesOf t)) (poolSection q) in
+      let n = r .end - r .start in
+      let e : n ≡ poolWidth (r .slots) = omega (arith, at .end) in
+      let e₂ : r .start ≡ o + 0 = omega (arith, at .start) in
+      ap (λ (y : ℕ). take n (drop y t)) e₂
+      ∙ sym (cuts-part (widths (sizesOf t)) t (poolSection q) 0 n (omega (arith, width)))
+      ∙ take-all n (section t (poolSection q)) (omega (arith, section-length t (poolSection q) s, width))
+
+  pub pool-read : arenaOf (r .slots) (take (r .end - r .start) (drop (r .start) t)) ≡ poolOf (view t) q
+  pool-read = rw (lent, at .slots) (pool-seen t q)
+
+  pub pool-back : (p : List ℕ) (x : Arena) → length p ≡ length (take (r .end - r .start) (drop (r .start) t)) → arenaOf (r .slots) p ≡ x
+      → Left (putMid (r .start) (r .end - r .start) t p) (withPool (view t) q x)
+  pool-back p x hp e =
+      let o = offset (widths (sizesOf t)) (poolSection q) in
+      let past = pool-past t q in
+      let n : length p ≡ getD (widths (sizesOf t)) (poolSection q) 0 = hp ∙ ap length lent ∙ section-length t (poolSection q) s in
+      let e₂ : putMid (r .start) (r .end - r .start) t p ≡ sets t (o + 0) p =
+      lent-back t p (r .start) (r .end - r .start) (poolWidth (r .slots)) (omega (arith, at .end)) (n ∙ width) (omega (arith, at .end, at .inside))
+      ∙ ap (λ (y : ℕ). sets t y p) (omega (arith, at .start)) in
+      let fresh : sets (section t (poolSection q)) 0 p ≡ p = sets-all p (section t (poolSection q)) (section-length t (poolSection q) s ∙ sym n) in
+      rw e₂
+      (only-left t (sets t (o + 0) p) (poolSection q) (withPool (view t) q x) s
+      (only-sets t p (poolSection q) 0 (past .0) (omega arith) (omega arith))
+      (rw (section-sets t p (poolSection q) 0 (past .0) (omega arith), fresh) (pool-changed t p q x (rw (← at .slots) e))))

@@ -1,0 +1,164 @@
+-- A domain's five words and its slots: parts of one row, loaded and stored each by itself.
+use mathlib.Core.Path.{_≡_, refl, sym, ap, _∙_}
+use mathlib.Core.List.{List, []}
+use Prim.Native.Nat.{ℕ, _+_, _*_, _≤_, _<_}
+use native.Mathlib.Nat.{mul-le-mul-right}
+use native.Mathlib.Omega.{arith}
+use borrow.Author.Tests.{lt-ltb, le-ltb}
+use lib.Dec.{ltb}
+use lib.ListN.{length, getD, set, take, drop, length-take, length-drop, List·getD-eq-default}
+use lib.Seq.{sets, set-out, set-getD}
+use Rattle.words.specs.Cases.{pick, cmp, lt, ge}
+use Rattle.words.specs.Runs.{part, part-part, part-drop, length-part, fetched, fetched-out, stored, stored-out, sets-all, take-sets-le, take-sets-lt, drop-sets-lt, drop-sets-add}
+use Rattle.words.specs.Rows.{rows, length-rows, getD-rows, rows-store}
+use Rattle.words.specs.Cuts.{cuts}
+use Rattle.tables.specs.declared.DomainHead.{DomainHead}
+use Rattle.tables.specs.declared.Slot.{Slot}
+use Rattle.tables.specs.Tables.{Domain, noDomain, noSlot, headAt, slotAt, putHead, putSlot, withDomains, withHead, withSlot}
+use Rattle.tables.specs.View.{sizesOf, view, stride, ofParts, Sized, Left, domainOf, headOf, headWords, slotOf, slotWords}
+use Rattle.tables.specs.Tests.{total-fits}
+use Rattle.tables.specs.Sections.{section, section-length, section-inside, only-left}
+use Rattle.tables.specs.Rows.{rowAt, placed, set-when, row-fetched, no-row-fetched, row-stored}
+
+abbrev pub domainPlace : List ℕ → ℕ → ℕ
+domainPlace t i = placed t 4 (sizesOf t .domains) (stride (sizesOf t)) i
+
+abbrev pub slotPlace : List ℕ → ℕ → ℕ → ℕ
+slotPlace t i j = pick (ltb j (sizesOf t .slots)) (domainPlace t i + (5 + j * 3)) (length t)
+
+-- no place of a slot wraps
+pub domain-place-low : (t : List ℕ) (i : ℕ) → Sized t → domainPlace t i ≤ 34545
+unfolding rowAt
+domain-place-low t i s =
+    let high = total-fits (sizesOf t) (s .limits) in
+    elim (cmp i (sizesOf t .domains)) [
+      | lt h ↦ rw (lt-ltb i (sizesOf t .domains) h) (omega (arith, s .exact, section-inside t 4 s, mul-le-mul-right (stride (sizesOf t)) h))
+      | ge h ↦ rw (le-ltb i (sizesOf t .domains) h) (omega (arith, s .exact))
+    ]
+
+pub slot-place : (t : List ℕ) (i j n a : ℕ) → n ≡ getD t 1 0 → j < n → a ≡ domainPlace t i → a + (5 + j * 3) ≡ slotPlace t i j
+unfolding sizesOf
+slot-place t i j n a en h ea = rw (lt-ltb j (sizesOf t .slots) (omega arith), ea)
+
+pub no-slot-place : (t : List ℕ) (i j n : ℕ) → n ≡ getD t 1 0 → n ≤ j → length t ≡ slotPlace t i j
+unfolding sizesOf
+no-slot-place t i j n en h = rw (le-ltb j (sizesOf t .slots) (omega arith))
+
+-- ---- in one domain's words
+
+domain-slot : (n j : ℕ) (p : List ℕ) → j < n → getD (domainOf n p .slots) j noSlot ≡ slotOf (part p (5 + j * 3) 3)
+unfolding domainOf
+domain-slot n j p h = getD-rows 3 n slotOf (drop 5 p) j noSlot h ∙ ap slotOf (part-drop p 5 (j * 3) 3)
+
+put-head : (n : ℕ) (p : List ℕ) (h : DomainHead) → length p ≡ 5 + n * 3 → domainOf n (sets p 0 (headWords h)) ≡ putHead (domainOf n p) h
+unfolding domainOf
+put-head n p h hp =
+    let e : take 5 (sets p 0 (headWords h)) ≡ headWords h =
+    take-sets-lt (headWords h) p 5 0 (omega arith) ∙ sets-all (headWords h) (take 5 p) (simp length-take (omega arith)) in
+    rw (e, drop-sets-lt (headWords h) p 5 0 (omega arith))
+
+put-slot : (n j : ℕ) (p : List ℕ) (x : Slot) → j < n → length p ≡ 5 + n * 3 → domainOf n (sets p (5 + j * 3) (slotWords x)) ≡ putSlot (domainOf n p) j x
+unfolding domainOf
+put-slot n j p x h hp =
+    rw (take-sets-le (slotWords x) p 5 (5 + j * 3) (omega arith), drop-sets-add (slotWords x) p 5 (j * 3), rows-store 3 n slotOf (drop 5 p) (slotWords x) j refl h (simp length-drop (omega arith)))
+
+-- ---- in the tables
+
+-- the words of domain i
+abbrev domainPart : List ℕ → ℕ → List ℕ
+domainPart t i = part (section t 4) (i * stride (sizesOf t)) (stride (sizesOf t))
+
+domain-at : (t : List ℕ) (i : ℕ) → i < sizesOf t .domains → getD (view t .domains) i noDomain ≡ domainOf (sizesOf t .slots) (domainPart t i)
+unfolding view ofParts
+domain-at t i h = getD-rows (stride (sizesOf t)) (sizesOf t .domains) (domainOf (sizesOf t .slots)) (section t 4) i noDomain h
+
+no-domain : (t : List ℕ) (i : ℕ) → sizesOf t .domains ≤ i → getD (view t .domains) i noDomain ≡ noDomain
+unfolding view ofParts
+no-domain t i h = List·getD-eq-default (view t .domains) noDomain {n = i} (rw length-rows h)
+
+-- a domain has as many slots as the sizes say, or there is no such domain
+slots-many : (t : List ℕ) (i : ℕ) → length (getD (view t .domains) i noDomain .slots) ≤ sizesOf t .slots
+slots-many t i =
+    elim (cmp i (sizesOf t .domains)) [
+      | lt h ↦ rw (domain-at t i h) (unfold domainOf in omega (arith, length-rows 3 (sizesOf t .slots) slotOf (drop 5 (domainPart t i))))
+      | ge h ↦ rw (no-domain t i h) (omega arith)
+    ]
+
+module _ (t : List ℕ) (s : Sized t) (i a : ℕ) where
+  domain-long : i < sizesOf t .domains → length (domainPart t i) ≡ stride (sizesOf t)
+  domain-long h =
+      length-part (section t 4) (i * stride (sizesOf t)) (stride (sizesOf t)) (omega (arith, section-length t 4 s, mul-le-mul-right (stride (sizesOf t)) h))
+
+  -- m words from j on of domain i
+  in-domain : (j m : ℕ) → i < sizesOf t .domains → j + m ≤ stride (sizesOf t) → fetched t (domainPlace t i + j) m ≡ part (domainPart t i) j m
+  in-domain j m h hj =
+      row-fetched t 3 (sizesOf t .domains) (stride (sizesOf t)) s (omega arith) refl i j m h hj
+      ∙ sym (part-part (section t 4) (i * stride (sizesOf t)) (stride (sizesOf t)) j m hj)
+
+  out-domain : (j m : ℕ) → sizesOf t .domains ≤ i → 0 < m → fetched t (domainPlace t i + j) m ≡ []
+  out-domain j m h hm = no-row-fetched t 3 (sizesOf t .domains) (stride (sizesOf t)) s (omega arith) refl i j m h hm
+
+  head-fetched : headOf (fetched t (domainPlace t i + 0) 5) ≡ headAt (view t) i
+  unfolding headAt domainOf part
+  head-fetched =
+      elim (cmp i (sizesOf t .domains)) [
+        | lt h ↦ ap headOf (in-domain 0 5 h (omega arith)) ∙ sym (ap (λ (x : Domain). x .head) (domain-at t i h))
+        | ge h ↦ ap headOf (out-domain 0 5 h (omega arith)) ∙ sym (ap (λ (x : Domain). x .head) (no-domain t i h))
+      ]
+
+  pub head-loaded : (p : List ℕ) → a ≡ domainPlace t i → p ≡ fetched t a 5 → headOf p ≡ headAt (view t) i
+  head-loaded p e ep = let z : a ≡ domainPlace t i + 0 = omega arith in rw (ep, z) head-fetched
+
+  pub slot-loaded : (j : ℕ) (p : List ℕ) → a ≡ slotPlace t i j → p ≡ fetched t a 3 → slotOf p ≡ slotAt (view t) i j
+  unfolding slotAt
+  slot-loaded j p e ep =
+      elim (cmp j (sizesOf t .slots)) [
+        | lt hj ↦
+            let z : a ≡ domainPlace t i + (5 + j * 3) = e ∙ rw (lt-ltb j (sizesOf t .slots) hj) in
+            elim (cmp i (sizesOf t .domains)) [
+              | lt h ↦ rw (ep, z, domain-at t i h) (ap slotOf (in-domain (5 + j * 3) 3 h (omega arith)) ∙ sym (domain-slot (sizesOf t .slots) j (domainPart t i) hj))
+              | ge h ↦ rw (ep, z, no-domain t i h) (ap slotOf (out-domain (5 + j * 3) 3 h (omega arith)))
+            ]
+        | ge hj ↦
+            let z : a ≡ length t = e ∙ rw (le-ltb j (sizesOf t .slots) hj) in
+            rw (ep, z) (ap slotOf (fetched-out t (length t) 3 (omega arith)) ∙ sym (List·getD-eq-default (getD (view t .domains) i noDomain .slots) noSlot {n = j} (omega (arith, slots-many t i))))
+      ]
+
+  -- vs stored from word j on of domain i, where that makes the domain x
+  domain-stored : (u vs : List ℕ) (j : ℕ) (x : Domain) → j + length vs ≤ stride (sizesOf t) → 0 < length vs → u ≡ stored t (domainPlace t i + j) vs
+      → (i < sizesOf t .domains → domainOf (sizesOf t .slots) (sets (domainPart t i) j vs) ≡ x) → Left u (withDomains (view t) (set (view t .domains) i x))
+  unfolding view ofParts cuts withDomains
+  domain-stored u vs j x hj hv eu ex =
+      let n = sizesOf t .domains in
+      let f = domainOf (sizesOf t .slots) in
+      let q = row-stored t 3 n (stride (sizesOf t)) s (omega arith) refl f u vs i j hj hv eu in
+      let e = set-when (rows (stride (sizesOf t)) n f (section t 4)) i (f (sets (domainPart t i) j vs)) x (λ h. ex (rw length-rows at h)) in
+      only-left t u 4 (withDomains (view t) (set (view t .domains) i x)) s (q .0) (ap (withDomains (view t)) (q .1 ∙ e))
+
+  pub head-stored : (u : List ℕ) (h : DomainHead) → a ≡ domainPlace t i → u ≡ stored t a (headWords h) → Left u (withHead (view t) i h)
+  unfolding withHead
+  head-stored u h e eu =
+      let z : a ≡ domainPlace t i + 0 = omega arith in
+      domain-stored u (headWords h) 0 (putHead (getD (view t .domains) i noDomain) h) (omega arith) (omega arith) (rw z at eu)
+      (λ q. rw (domain-at t i q) (put-head (sizesOf t .slots) (domainPart t i) h (domain-long q)))
+
+  no-slot-stored : (j : ℕ) (x : Slot) → sizesOf t .slots ≤ j → Left t (withDomains (view t) (set (view t .domains) i (putSlot (getD (view t .domains) i noDomain) j x)))
+  unfolding withDomains
+  no-slot-stored j x hj =
+      let d = getD (view t .domains) i noDomain in
+      let e : set (d .slots) j x ≡ d .slots = set-out (d .slots) j x (omega (arith, slots-many t i)) in
+      record { seen = sym (rw e (ap (withDomains (view t)) (set-getD (view t .domains) i noDomain))); sized = s }
+
+  pub slot-stored : (j : ℕ) (u : List ℕ) (x : Slot) → a ≡ slotPlace t i j → u ≡ stored t a (slotWords x) → Left u (withSlot (view t) i j x)
+  unfolding withSlot
+  slot-stored j u x e eu =
+      elim (cmp j (sizesOf t .slots)) [
+        | lt hj ↦
+            let z : a ≡ domainPlace t i + (5 + j * 3) = e ∙ rw (lt-ltb j (sizesOf t .slots) hj) in
+            domain-stored u (slotWords x) (5 + j * 3) (putSlot (getD (view t .domains) i noDomain) j x) (omega arith) (omega arith) (rw z at eu)
+            (λ q. rw (domain-at t i q) (put-slot (sizesOf t .slots) j (domainPart t i) x hj (domain-long q)))
+        | ge hj ↦
+            let z : a ≡ length t = e ∙ rw (le-ltb j (sizesOf t .slots) hj) in
+            let same : u ≡ t = eu ∙ rw z (stored-out t (length t) (slotWords x) (omega arith)) in
+            rw same (no-slot-stored j x hj)
+      ]

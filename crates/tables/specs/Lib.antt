@@ -1,0 +1,10 @@
+pub mod Tables
+pub mod Limits
+pub mod View
+pub mod Tests
+pub mod Sections
+pub mod Rows
+pub mod Accessors
+pub mod Domains
+pub mod Header
+pub mod Layout

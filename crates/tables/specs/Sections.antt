@@ -1,0 +1,65 @@
+-- Sections of the tables: a store in one changes the view there and nowhere else.
+use mathlib.Core.Path.{_≡_, refl, sym, ap, _∙_}
+use mathlib.Core.List.{List, []}
+use Prim.Native.Nat.{ℕ, _+_, _≤_, _<_}
+use native.Mathlib.Omega.{arith}
+use lib.ListN.{length, getD, set}
+use lib.Seq.{sets, length-sets, set-getD, getD-set-same}
+use Rattle.words.specs.Runs.{getD-before}
+use Rattle.words.specs.Cuts.{cuts, offset, offset-inside, cuts-sets, length-cut}
+use Rattle.tables.specs.Tables.{Tables}
+use Rattle.tables.specs.View.{sizesOf, view, widths, total, ofParts, Sized, Left}
+
+abbrev pub section : List ℕ → ℕ → List ℕ
+section t k = getD (cuts (widths (sizesOf t)) t) k []
+
+pub section-length : (t : List ℕ) (k : ℕ) → Sized t → length (section t k) ≡ getD (widths (sizesOf t)) k 0
+unfolding total
+section-length t k s = length-cut (widths (sizesOf t)) t k (s .exact)
+
+-- ---- stores
+
+-- u has the words of t but for section k
+pub record Only (t u : List ℕ) (k : ℕ) : Type 0 where
+  pub sizes : sizesOf u ≡ sizesOf t
+  pub long : length u ≡ length t
+  pub others : cuts (widths (sizesOf t)) u ≡ set (cuts (widths (sizesOf t)) t) k (getD (cuts (widths (sizesOf t)) u) k [])
+
+pub only-same : (t : List ℕ) (k : ℕ) → Only t t k
+only-same t k = record { sizes = refl; long = refl; others = sym (set-getD (cuts (widths (sizesOf t)) t) k []) }
+
+-- stores past the five sizes keep them
+pub sizes-kept : (t vs : List ℕ) (i : ℕ) → 5 ≤ i → sizesOf (sets t i vs) ≡ sizesOf t
+unfolding sizesOf
+sizes-kept t vs i h =
+    rw (getD-before vs t 0 i (omega arith), getD-before vs t 1 i (omega arith), getD-before vs t 2 i (omega arith), getD-before vs t 3 i (omega arith), getD-before vs t 4 i (omega arith))
+
+-- what the store does to its section
+pub section-sets : (t vs : List ℕ) (k j : ℕ) → k < 8 → j + length vs ≤ getD (widths (sizesOf t)) k 0
+    → getD (cuts (widths (sizesOf t)) (sets t (offset (widths (sizesOf t)) k + j) vs)) k [] ≡ sets (section t k) j vs
+section-sets t vs k j hk h =
+    let ps = cuts (widths (sizesOf t)) t in
+    ap (λ (x : List (List ℕ)). getD x k []) (cuts-sets (widths (sizesOf t)) t vs k j h) ∙ getD-set-same ps k (sets (section t k) j vs) [] (unfold cuts in hk)
+
+pub only-sets : (t vs : List ℕ) (k j : ℕ) → k < 8 → 5 ≤ offset (widths (sizesOf t)) k + j → j + length vs ≤ getD (widths (sizesOf t)) k 0
+    → Only t (sets t (offset (widths (sizesOf t)) k + j) vs) k
+only-sets t vs k j hk h5 h =
+    record {
+      sizes = sizes-kept t vs (offset (widths (sizesOf t)) k + j) h5;
+      long = length-sets t (offset (widths (sizesOf t)) k + j) vs;
+      others = cuts-sets (widths (sizesOf t)) t vs k j h ∙ ap (set (cuts (widths (sizesOf t)) t) k) (sym (section-sets t vs k j hk h));
+    }
+
+pub only-left : (t u : List ℕ) (k : ℕ) (s : Tables) → Sized t → Only t u k
+    → ofParts (sizesOf t) (set (cuts (widths (sizesOf t)) t) k (getD (cuts (widths (sizesOf t)) u) k [])) ≡ s → Left u s
+unfolding view
+only-left t u k s z o e =
+    record {
+      seen = rw (o .sizes) (ap (ofParts (sizesOf t)) (o .others) ∙ e);
+      sized = record { limits = rw (o .sizes) (z .limits); exact = rw (o .sizes, o .long) (z .exact) };
+    }
+
+-- a section lies in the words
+pub section-inside : (t : List ℕ) (k : ℕ) → Sized t → offset (widths (sizesOf t)) k + getD (widths (sizesOf t)) k 0 ≤ length t
+unfolding total
+section-inside t k s = rw (s .exact) (offset-inside (widths (sizesOf t)) k)

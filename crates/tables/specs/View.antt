@@ -1,0 +1,126 @@
+-- The words of the tables read as a structured value, and that value laid out as words.
+use Prim.Native.Nat.{ℕ, _+_, _*_}
+use mathlib.Core.Path.{_≡_}
+use mathlib.Core.List.{List, [], _∷_, _++_}
+use lib.ListN.{length, getD, take, drop}
+use Rattle.words.specs.Runs.{part}
+use Rattle.words.specs.Rows.{rows, flat}
+use Rattle.words.specs.Cuts.{cuts, offset, join}
+use Rattle.tables.specs.declared.sizes.Sizes.{Sizes}
+use Rattle.tables.specs.declared.DomainHead.{DomainHead}
+use Rattle.tables.specs.declared.Slot.{Slot}
+use Rattle.tables.specs.declared.RegionCapa.{RegionCapa}
+use Rattle.tables.specs.declared.Region.{Region}
+use Rattle.tables.specs.declared.Update.{Update}
+use Rattle.tables.specs.Tables.{Tables, Domain, Arena}
+use Rattle.tables.specs.Limits.{Limits}
+
+-- ---- a record in its words
+
+unfoldable pub sizesOf : List ℕ → Sizes
+sizesOf t = record { domains = getD t 0 0; slots = getD t 1 0; regions = getD t 2 0; records = getD t 3 0; updates = getD t 4 0 }
+
+abbrev pub headOf : List ℕ → DomainHead
+headOf p = record { manager = getD p 0 0; cores = getD p 1 0; tracker = getD p 2 0; head = getD p 3 0; count = getD p 4 0 }
+
+abbrev pub slotOf : List ℕ → Slot
+slotOf p = record { kind = getD p 0 0; handle = record { slot = getD p 1 0; generation = getD p 2 0 } }
+
+abbrev pub regionOf : List ℕ → RegionCapa
+regionOf p =
+    record { kind = getD p 0 0; owner = getD p 1 0; parent = getD p 2 0; start = getD p 3 0; end = getD p 4 0; rights = getD p 5 0; child = getD p 6 0; next = getD p 7 0 }
+
+abbrev pub recordOf : List ℕ → Region
+recordOf p =
+    record { start = getD p 0 0; end = getD p 1 0; «ref_count» = getD p 2 0; «read_count» = getD p 3 0; «write_count» = getD p 4 0; «exec_count» = getD p 5 0; «super_count» = getD p 6 0; «uncache_count» = getD p 7 0; next = getD p 8 0 }
+
+abbrev pub updateOf : List ℕ → Update
+updateOf p = record { kind = getD p 0 0; a = getD p 1 0; b = getD p 2 0; c = getD p 3 0 }
+
+-- a pool over n slots
+unfoldable pub arenaOf : ℕ → List ℕ → Arena
+arenaOf n p = record { head = getD p 0 0; count = getD p 1 0; links = part p 2 n; gens = part p (2 + n) n }
+
+-- a domain with n slots
+unfoldable pub domainOf : ℕ → List ℕ → Domain
+domainOf n p = record { head = headOf (take 5 p); slots = rows 3 n slotOf (drop 5 p) }
+
+-- ---- the whole
+
+abbrev pub stride : Sizes → ℕ
+stride z = 5 + z .slots * 3
+
+abbrev pub poolWidth : ℕ → ℕ
+poolWidth n = 2 + (n + n)
+
+-- the widths of the sections: header, three pools, domains, regions, tracker records, ring
+abbrev pub widths : Sizes → List ℕ
+widths z =
+    7 ∷ poolWidth (z .domains) ∷ poolWidth (z .regions) ∷ poolWidth (z .records) ∷ (z .domains * stride z) ∷ (z .regions * 8) ∷ (z .records * 9) ∷ ((z .updates + 1) * 4) ∷ []
+
+unfoldable pub total : Sizes → ℕ
+unfolding offset
+total z = offset (widths z) 8
+
+unfoldable pub ofParts : Sizes → List (List ℕ) → Tables
+ofParts z ps =
+    record {
+      sizes = z;
+      read = getD (getD ps 0 []) 5 0;
+      write = getD (getD ps 0 []) 6 0;
+      domainPool = arenaOf (z .domains) (getD ps 1 []);
+      regionPool = arenaOf (z .regions) (getD ps 2 []);
+      recordPool = arenaOf (z .records) (getD ps 3 []);
+      domains = rows (stride z) (z .domains) (domainOf (z .slots)) (getD ps 4 []);
+      regions = rows 8 (z .regions) regionOf (getD ps 5 []);
+      records = rows 9 (z .records) recordOf (getD ps 6 []);
+      ring = rows 4 (z .updates + 1) updateOf (getD ps 7 []);
+    }
+
+unfoldable pub view : List ℕ → Tables
+view t = ofParts (sizesOf t) (cuts (widths (sizesOf t)) t)
+
+-- the words are as many as the sizes in their header ask, and these lie in their limits
+pub record Sized (t : List ℕ) : Type 0 where
+  pub limits : Limits (sizesOf t)
+  pub exact : length t ≡ total (sizesOf t)
+
+-- what a change leaves: sized words with the view s
+pub record Left (t : List ℕ) (s : Tables) : Type 0 where
+  pub seen : view t ≡ s
+  pub sized : Sized t
+
+-- ---- and back
+
+abbrev pub headWords : DomainHead → List ℕ
+headWords h = h .manager ∷ h .cores ∷ h .tracker ∷ h .head ∷ h .count ∷ []
+
+abbrev pub slotWords : Slot → List ℕ
+slotWords x = x .kind ∷ x .handle .slot ∷ x .handle .generation ∷ []
+
+abbrev pub regionWords : RegionCapa → List ℕ
+regionWords r = r .kind ∷ r .owner ∷ r .parent ∷ r .start ∷ r .end ∷ r .rights ∷ r .child ∷ r .next ∷ []
+
+abbrev pub recordWords : Region → List ℕ
+recordWords r =
+    r .start ∷ r .end ∷ r .«ref_count» ∷ r .«read_count» ∷ r .«write_count» ∷ r .«exec_count» ∷ r .«super_count» ∷ r .«uncache_count» ∷ r .next ∷ []
+
+abbrev pub updateWords : Update → List ℕ
+updateWords u = u .kind ∷ u .a ∷ u .b ∷ u .c ∷ []
+
+unfoldable pub arenaWords : Arena → List ℕ
+arenaWords a = a .head ∷ a .count ∷ a .links ++ a .gens
+
+unfoldable pub domainWords : Domain → List ℕ
+domainWords d = headWords (d .head) ++ flat slotWords (d .slots)
+
+unfoldable pub headerWords : Tables → List ℕ
+headerWords s =
+    s .sizes .domains ∷ s .sizes .slots ∷ s .sizes .regions ∷ s .sizes .records ∷ s .sizes .updates ∷ s .read ∷ s .write ∷ []
+
+unfoldable pub partsOf : Tables → List (List ℕ)
+partsOf s =
+    headerWords s ∷ arenaWords (s .domainPool) ∷ arenaWords (s .regionPool) ∷ arenaWords (s .recordPool) ∷ flat domainWords (s .domains) ∷ flat regionWords (s .regions) ∷ flat recordWords (s .records) ∷ flat updateWords (s .ring) ∷ []
+
+unfoldable pub layout : Tables → List ℕ
+layout s = join (partsOf s)

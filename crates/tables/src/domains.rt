@@ -1,0 +1,89 @@
+// Domains: the five words before the slots, and the slots, each loaded and stored by itself.
+ghost use mathlib.Core.Path.{_≡_};
+ghost use lib.ListN.{length};
+ghost use Rattle.tables.specs.Tables.{headAt, slotAt, withHead, withSlot};
+ghost use Rattle.tables.specs.View.{view, Sized, Left, headOf, slotOf};
+ghost use Rattle.tables.specs.Domains.{domainPlace, slotPlace};
+use crate::DomainHead;
+use crate::Handle;
+use crate::Slot;
+use crate::no_head;
+use crate::no_slot;
+use crate::sizes;
+
+fn domain_at(t: &[u64], i: usize) -> usize
+    requires { ⌜ Sized (now t) ⌝ }
+    ensures { λ r. ⌜ r ≡ domainPlace (now (t .entry)) i ⌝ }
+{
+    let z = sizes::read_sizes(t);
+    sizes::row_at(t, sizes::domains_at(z), z.domains, 5 + z.slots * 3, i)
+}
+
+fn head_of(p: &[u64]) -> DomainHead
+    requires { ⌜ length (now p) ≡ 5 ⌝ }
+    ensures { λ r. ⌜ r ≡ headOf (now (p .entry)) ⌝ }
+{
+    DomainHead {
+        manager: p[0],
+        cores: p[1],
+        tracker: p[2],
+        head: p[3],
+        count: p[4],
+    }
+}
+
+pub fn load_head(t: &[u64], i: usize) -> DomainHead
+    requires { ⌜ Sized (now t) ⌝ }
+    ensures { λ r. ⌜ r ≡ headAt (view (now (t .entry))) i ⌝ }
+{
+    let p = words::run(t, domain_at(t, i), 5);
+    if p.len() == 5 { head_of(p) } else { no_head() }
+}
+
+pub fn store_head(t: &mut [u64], i: usize, h: DomainHead)
+    requires { ⌜ Sized (now t) ⌝ }
+    ensures { λ _. ⌜ Left (now (t .exit)) (withHead (view (now (t .entry))) i h) ⌝ }
+{
+    let a = domain_at(t, i);
+    words::store(t, a, &[h.manager, h.cores, h.tracker, h.head, h.count]);
+}
+
+// ---- Slot j of domain i
+
+fn slot_at(t: &[u64], i: usize, j: usize) -> usize
+    requires { ⌜ Sized (now t) ⌝ }
+    ensures { λ r. ⌜ r ≡ slotPlace (now (t .entry)) i j ⌝ }
+{
+    if j < words::size(t, 1) {
+        domain_at(t, i) + (5 + j * 3)
+    } else {
+        t.len()
+    }
+}
+
+fn slot_of(p: &[u64]) -> Slot
+    requires { ⌜ length (now p) ≡ 3 ⌝ }
+    ensures { λ r. ⌜ r ≡ slotOf (now (p .entry)) ⌝ }
+{
+    let handle = Handle {
+        slot: p[1],
+        generation: p[2],
+    };
+    Slot { kind: p[0], handle }
+}
+
+pub fn load_slot(t: &[u64], i: usize, j: usize) -> Slot
+    requires { ⌜ Sized (now t) ⌝ }
+    ensures { λ r. ⌜ r ≡ slotAt (view (now (t .entry))) i j ⌝ }
+{
+    let p = words::run(t, slot_at(t, i, j), 3);
+    if p.len() == 3 { slot_of(p) } else { no_slot() }
+}
+
+pub fn store_slot(t: &mut [u64], i: usize, j: usize, x: Slot)
+    requires { ⌜ Sized (now t) ⌝ }
+    ensures { λ _. ⌜ Left (now (t .exit)) (withSlot (view (now (t .entry))) i j x) ⌝ }
+{
+    let a = slot_at(t, i, j);
+    words::store(t, a, &[x.kind, x.handle.slot, x.handle.generation]);
+}

@@ -1,0 +1,178 @@
+// The engine's tables in lent words: records by value, loaded and stored by their numbers.
+// docs/TABLES.md has the layout; a record that is not there is all zero, and is not stored.
+ghost use mathlib.Core.Path.{_≡_};
+ghost use Rattle.tables.specs.Tables.{noHead, noSlot, noRegion, noRecord, noUpdate};
+
+pub mod domains;
+pub mod records;
+pub mod regions;
+pub mod ring;
+pub mod sizes;
+
+pub use domains::load_head;
+pub use domains::load_slot;
+pub use domains::store_head;
+pub use domains::store_slot;
+pub use records::load_record;
+pub use records::store_record;
+pub use regions::load_region;
+pub use regions::store_region;
+pub use ring::load_update;
+pub use ring::read_place;
+pub use ring::set_places;
+pub use ring::store_update;
+pub use ring::write_place;
+pub use sizes::Sizes;
+pub use sizes::is_sized;
+pub use sizes::limits_hold;
+pub use sizes::read_sizes;
+pub use sizes::total_of;
+
+pub struct Handle {
+    pub slot: u64,
+    pub generation: u64,
+}
+
+// A slot of a domain's list. A free one has the free slot after it as its handle's slot.
+pub struct Slot {
+    pub kind: u64,
+    pub handle: Handle,
+}
+
+impl Slot {
+    pub const NONE: u64 = 0;
+
+    pub const FREE: u64 = 1;
+
+    pub const REGION: u64 = 2;
+
+    pub const REGION_REVOKE: u64 = 3;
+
+    pub const MANAGEMENT: u64 = 4;
+
+    pub const CHANNEL: u64 = 5;
+}
+
+// A domain but for its slots: links to its manager and its first tracker record, and its list's head and count.
+pub struct DomainHead {
+    pub manager: u64,
+    pub cores: u64,
+    pub tracker: u64,
+    pub head: u64,
+    pub count: u64,
+}
+
+// A region; owner, parent, first child and next sibling are links.
+pub struct RegionCapa {
+    pub kind: u64,
+    pub owner: u64,
+    pub parent: u64,
+    pub start: u64,
+    pub end: u64,
+    pub rights: u64,
+    pub child: u64,
+    pub next: u64,
+}
+
+impl RegionCapa {
+    pub const ROOT: u64 = 1;
+
+    pub const ALIAS: u64 = 2;
+
+    pub const CARVE: u64 = 3;
+}
+
+// A tracker record.
+pub struct Region {
+    pub start: u64,
+    pub end: u64,
+    pub ref_count: u64,
+    pub read_count: u64,
+    pub write_count: u64,
+    pub exec_count: u64,
+    pub super_count: u64,
+    pub uncache_count: u64,
+    pub next: u64,
+}
+
+// A place of the ring.
+pub struct Update {
+    pub kind: u64,
+    pub a: u64,
+    pub b: u64,
+    pub c: u64,
+}
+
+impl Update {
+    pub const NOTHING: u64 = 0;
+
+    pub const PERMISSION: u64 = 1;
+
+    pub const CLEANUP: u64 = 2;
+}
+
+// ---- The records that are all zero
+
+pub fn no_head() -> DomainHead
+    ensures { λ r. ⌜ r ≡ noHead ⌝ }
+{
+    DomainHead {
+        manager: 0,
+        cores: 0,
+        tracker: 0,
+        head: 0,
+        count: 0,
+    }
+}
+
+pub fn no_slot() -> Slot
+    ensures { λ r. ⌜ r ≡ noSlot ⌝ }
+{
+    let handle = Handle {
+        slot: 0,
+        generation: 0,
+    };
+    Slot { kind: 0, handle }
+}
+
+pub fn no_region() -> RegionCapa
+    ensures { λ r. ⌜ r ≡ noRegion ⌝ }
+{
+    RegionCapa {
+        kind: 0,
+        owner: 0,
+        parent: 0,
+        start: 0,
+        end: 0,
+        rights: 0,
+        child: 0,
+        next: 0,
+    }
+}
+
+pub fn no_record() -> Region
+    ensures { λ r. ⌜ r ≡ noRecord ⌝ }
+{
+    Region {
+        start: 0,
+        end: 0,
+        ref_count: 0,
+        read_count: 0,
+        write_count: 0,
+        exec_count: 0,
+        super_count: 0,
+        uncache_count: 0,
+        next: 0,
+    }
+}
+
+pub fn no_update() -> Update
+    ensures { λ r. ⌜ r ≡ noUpdate ⌝ }
+{
+    Update {
+        kind: 0,
+        a: 0,
+        b: 0,
+        c: 0,
+    }
+}

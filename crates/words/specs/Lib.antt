@@ -1,0 +1,6 @@
+pub mod Cases
+pub mod Runs
+pub mod Copies
+pub mod Rows
+pub mod Cuts
+pub mod Zeros
