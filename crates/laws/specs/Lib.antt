@@ -5,6 +5,7 @@ pub mod Cases
 pub mod Parts
 pub mod Stack
 pub mod Tracker
+pub mod Tree
 pub mod Kept
 pub mod Empty
 pub mod PopSound

@@ -1,0 +1,29 @@
+-- Laws of the regions: their effective ranges, who counts where, how the counts change, that each change keeps the regions sound,
+-- and what a revoke leaves.
+pub mod Sum
+pub mod Slots
+pub mod Shares
+pub mod Facts
+pub mod Carved
+pub mod Rises
+pub mod Pieces
+pub mod Effective
+pub mod Total
+pub mod FromRoot
+pub mod Stored
+pub mod Change
+pub mod Added
+pub mod Spare
+pub mod Rule
+pub mod Tallies
+pub mod Shape
+pub mod KeepShape
+pub mod KeepLists
+pub mod Keep
+pub mod Laws
+pub mod Steps
+pub mod Send
+pub mod Rank
+pub mod Below
+pub mod Revoke
+pub mod Holders

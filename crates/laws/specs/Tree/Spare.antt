@@ -1,0 +1,67 @@
+-- What a region counts for at an address can be lost there: the counts are its own and a rest, and the rest is a count in itself
+-- (no right counts for more than the reach). So a tracker that agrees has it to lose.
+use mathlib.Core.Path.{_≡_, refl, _∙_}
+use Prim.Native.Nat.{ℕ, zero, suc, _+_, _≤_, _<_}
+use mathlib.Core.Bool.{Bool, true, false}
+use mathlib.Core.Option.{Option, none, some}
+use mathlib.Core.List.{List}
+use native.Mathlib.Omega.{arith}
+use lib.Dec.{eqb}
+use lib.ListN.{length}
+use Rattle.model.specs.Lists.{if_then_else_, slotOf, In}
+use Rattle.model.specs.State.{Region, Counts}
+use Rattle.model.specs.Counts.{Agree}
+use Rattle.laws.specs.Cases.{W, within-in, below, inside, above, pos, eqb-t, eqb-f, Test, test}
+use Rattle.laws.specs.Stack.{one-at-most}
+use Rattle.laws.specs.Tracker.Fields.{Field, counter, Enough, enough}
+use Rattle.laws.specs.Tree.Sum.{sum, sum-le, sum-one}
+use Rattle.laws.specs.Tree.Slots.{in-length}
+use Rattle.laws.specs.Tree.Shares.{counter-passes, passes, share, carved, clear, clear-0, weight, tallyOf, tally-is, agree-each}
+
+-- the counts of d at a are those of rights r and of others
+pub record Spare (rs : List (Option Region)) (d a r : ℕ) : Type 0 where
+  pub rest : Field → ℕ
+  pub whole : (f : Field) → tallyOf f rs d a ≡ rest f + counter f r
+  pub less : (f : Field) → rest f ≤ rest Field.Reach
+
+pub spare-enough : (rs : List (Option Region)) (d a r : ℕ) (k : Counts) → Spare rs d a r → Agree rs d a k → Enough r k
+spare-enough rs d a r k p h = enough r k (p .rest) (λ f. agree-each rs d a k h f ∙ p .whole f) (p .less)
+
+-- ---- a right counts for no more than the reach
+
+clear-le : (c x y : ℕ) → x ≤ y → clear c x ≤ clear c y
+clear-le zero x y h = h
+clear-le (suc c) x y h = omega arith
+
+counter-le : (f : Field) (b : Bool) (r : ℕ) → (if b then counter f r else 0) ≤ (if b then 1 else 0)
+counter-le f true r = omega (arith, counter-passes f r, one-at-most (passes f r))
+counter-le f false r = omega arith
+
+share-le : (f : Field) (x : Option Region) (d a : ℕ) → share f x d a ≤ share Field.Reach x d a
+share-le f none d a = omega arith
+share-le f (some g) d a = elim (pos (g .start) (g .end) a) [
+  | below u ↦ simp W (omega arith)
+  | inside u v ↦ simp W (counter-le f (eqb (g .owner) d) (g .rights))
+  | above u ↦ simp W (omega arith)
+]
+
+-- ---- all but one slot
+
+module _ (rs : List (Option Region)) (k : ℕ) (g : Region) (e : In rs k g) (a : ℕ) where
+  abbrev but : Field → ℕ → ℕ
+  but f j = if eqb j k then 0 else weight f rs (g .owner) a j
+
+  but-le : (f : Field) (j : ℕ) → but f j ≤ but Field.Reach j
+  but-le f j = elim (test (eqb j k)) [
+    | Test.holds t ↦ rw t (omega arith)
+    | Test.fails t ↦ rw t (clear-le (carved rs j a) _ _ (share-le f (slotOf rs j) (g .owner) a))
+  ]
+
+  but-whole : g .start ≤ a → a < g .end → carved rs k a ≡ 0 → (f : Field) → tallyOf f rs (g .owner) a ≡ sum (but f) (length rs) + counter f (g .rights)
+  but-whole u v z f =
+      let own : weight f rs (g .owner) a k ≡ counter f (g .rights) = clear-0 (carved rs k a) _ z ∙ rw e (within-in _ _ _ _ _ u v ∙ rw (eqb-t (g .owner) (g .owner) refl)) in
+      let gone : but f k ≡ 0 = rw (eqb-t k k refl) in
+      omega (arith, tally-is f rs (g .owner) a, own, gone, sum-one (weight f rs (g .owner) a) (but f) (length rs) k (in-length rs k g e) (λ j n. rw (eqb-f j k n)))
+
+  pub spare : g .start ≤ a → a < g .end → carved rs k a ≡ 0 → Spare rs (g .owner) a (g .rights)
+  spare u v z = record { rest = λ f. sum (but f) (length rs); whole = but-whole u v z; less = λ f. sum-le (but f) (but Field.Reach) (length rs) (but-le f) }
