@@ -1,0 +1,21 @@
+-- The trackers, the pools and the update ring through the calls: the stored counts stay those of the regions, and the ring and the pools stay sound.
+pub mod Slots
+pub mod Aside
+pub mod Tracked
+pub mod Coupled
+pub mod Settle
+pub mod Locals
+pub mod Pools
+pub mod Comes
+pub mod Revoke
+pub mod Send
+pub mod Ring
+pub mod Base
+pub mod BaseSteps
+pub mod Whole
+pub mod Checks
+pub mod Calls
+pub mod SendRevoke
+pub mod Others
+pub mod Performed
+pub mod Refusals

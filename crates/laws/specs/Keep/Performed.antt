@@ -1,0 +1,71 @@
+-- Every accepted call on sound tables leaves all clauses of `Sound` but three: the trackers, the three pools, the regions, that their owners are live,
+-- the ring, the sizes, and that core maps are words. The three are about capability lists: one slot for each region, managers, and the lists themselves.
+use mathlib.Core.Path.{_≡_}
+use Prim.Native.Nat.{ℕ}
+use mathlib.Core.Option.{Option, none, some}
+use lib.Dec.{eqb}
+use Rattle.model.specs.Lists.{oneIf, count, In}
+use Rattle.model.specs.State.{State, Update, Domain, Region}
+use Rattle.model.specs.Pool.{handleOf}
+use Rattle.model.specs.Perform.{Call, makeAnew, perform}
+use Rattle.model.specs.CallWords.{CallWords}
+use Rattle.model.specs.Sound.{Sound, ManagerSound, ListSound, isRegionOf}
+use Rattle.laws.specs.Accepted.{All, accepted, bind, bind-any, and-then}
+use Rattle.laws.specs.Empty.{empty-sound}
+use Rattle.laws.specs.Keep.Coupled.{sound-good, coupled-tracker}
+use Rattle.laws.specs.Keep.Base.{sound-base}
+use Rattle.laws.specs.Keep.Whole.{Whole}
+use Rattle.laws.specs.Keep.Calls.{After, root-keeps, alias-keeps, carve-keeps}
+use Rattle.laws.specs.Keep.SendRevoke.{send-keeps, revoke-keeps}
+use Rattle.laws.specs.Keep.Others.{open-keeps, channel-keeps, cores-keeps, make-revoke-keeps, pop-keeps}
+
+module _ (s : State) (sound : Sound s) where
+  whole : Whole s
+  whole = (sound-good s sound, sound-base s sound)
+
+  pub perform-keeps : (c : Call) → CallWords c → All After (perform s c)
+  unfolding perform makeAnew
+  perform-keeps (Call.Make z) w = bind (bind (empty-sound z) (λ t k. and-then {Q = Whole} _ (accepted (sound-good t k, sound-base t k)))) (λ t k. accepted k)
+  perform-keeps (Call.Open none cores) w = bind (open-keeps s sound none cores w) (λ (a, t) k. accepted k)
+  perform-keeps (Call.Open (some h) cores) w = bind (open-keeps s sound (some h) cores (w .1)) (λ (a, t) k. accepted k)
+  perform-keeps (Call.Channel h to) w = bind (channel-keeps s whole h to) (λ (a, t) k. accepted k)
+  perform-keeps (Call.SetCores h cores) w = bind (cores-keeps s whole h cores (w .1)) (λ t k. accepted k)
+  perform-keeps (Call.Root h a) w = bind (root-keeps s sound h a (w .1)) (λ (n, t) k. accepted k)
+  perform-keeps (Call.Alias h l a) w = bind (alias-keeps s sound h a l) (λ (n, t) k. accepted k)
+  perform-keeps (Call.Carve h l a) w = bind (carve-keeps s sound h a l) (λ (n, t) k. accepted k)
+  perform-keeps (Call.Send h l target) w = bind (send-keeps s whole h l target) (λ (n, t) k. accepted k)
+  perform-keeps (Call.Revoke h l) w = bind (revoke-keeps s whole h l) (λ t k. accepted k)
+  perform-keeps (Call.MakeRevoke h l) w = bind (make-revoke-keeps s whole h l) (λ (n, t) k. accepted k)
+  perform-keeps Call.Pop w = bind {P = λ (y : Option Update × State). Whole (y .1)} (accepted (pop-keeps s sound)) (λ (a, t) k. accepted k)
+  perform-keeps (Call.Permissions h) w = bind-any _ (λ a. accepted whole)
+  perform-keeps (Call.Refcount h from to) w = bind-any _ (λ a. accepted whole)
+  perform-keeps (Call.CoreMap h) w = bind-any _ (λ a. accepted whole)
+  perform-keeps (Call.Holders a) w = accepted whole
+
+-- with the three clauses that are left the tables are sound
+module _ (t : State) (whole : Whole t) where
+  abbrev OneSlot : Type 0
+  OneSlot = (i : ℕ) (g : Region) → In (t .regions) i g → (d : ℕ) (x : Domain) → In (t .domains) d x → count (isRegionOf (handleOf (t .regionPool) i)) (x .locals .held) ≡ oneIf (eqb (g .owner) d)
+
+  abbrev Managers : Type 0
+  Managers = (d : ℕ) (x : Domain) → In (t .domains) d x → ManagerSound (t .domainPool) (t .domains) d x
+
+  abbrev Lists : Type 0
+  Lists = (d : ℕ) (x : Domain) → In (t .domains) d x → ListSound (t .sizes .slots) (t .regionPool) (t .regions) (t .domainPool) (t .domains) (x .locals)
+
+  pub whole-sound : OneSlot → Managers → Lists → Sound t
+  whole-sound one managers lists = let (h, r) = whole in record {
+    sizesGood = r .ring .sizesGood;
+    domainsLength = r .domains .size;
+    regionsLength = r .regions .size;
+    domainPool = r .domains .pool;
+    regionPool = r .regions .pool;
+    recordPool = h .tracked .pool;
+    regions = h .regions;
+    owners = λ i g e. record { ownerLive = h .owners i g e; oneSlot = one i g e };
+    managers = managers;
+    lists = lists;
+    trackers = coupled-tracker t (h .tracked);
+    coresWords = r .ring .cores;
+    queue = r .ring .queue;
+  }

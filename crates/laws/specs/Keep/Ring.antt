@@ -1,0 +1,145 @@
+-- The update ring through the steps on trackers. Invariant: the ring is sound, and so is what a newly queued domain is queued with: its slot number,
+-- generation and core map are words. An update joins only where the ring has room, and a domain only where it is not queued already.
+use mathlib.Core.Path.{_≡_, refl, sym, ap, ap₂, subst, _∙_}
+use Prim.Native.Nat.{ℕ, zero, suc, _+_, _≤_, _<_}
+use mathlib.Core.Bool.{Bool, not, _&&_}
+use mathlib.Core.List.{List, [], _∷_, _++_}
+use native.Mathlib.Omega.{arith}
+use native.Mathlib.Decide.{ℕ-discrete}
+use lib.Dec.{T, eqb, leb, ltb, leb→le, ltb→lt, eqb-refl, lit<, T-not}
+use lib.Ieee.Fits.{and-l, and-r, and-i}
+use lib.ListN.{length, getD, length-append}
+use Rattle.model.specs.Lists.{oneIf, any, count, Each, isSome, slotOf, In}
+use Rattle.model.specs.State.{State, Sizes, Word, Handle, Domain, Update, permission, cleanup, Queue, domainAt}
+use Rattle.model.specs.Pool.{handleOf, sameHandle}
+use Rattle.model.specs.Updates.{push, pushPermission, isPermissionOf}
+use Rattle.model.specs.Making.{goodSizes}
+use Rattle.model.specs.Sound.{Sound, QueueSound, QueuedLive, Singly, UpdateWords}
+use Rattle.laws.specs.Accepted.{All, accepted, checked, branch-on}
+use Rattle.laws.specs.Cases.{lt, ge, cmp, ltb-t, eqb-t, eqb-f}
+use Rattle.laws.specs.Tree.Slots.{in-length, is-live, any-count}
+use Rattle.laws.specs.Keep.Tracked.{domain-at}
+
+pub record Ring (s : State) : Type 0 where
+  pub queue : QueueSound (s .sizes .updates) (s .domainPool) (s .domains) (s .queue)
+  pub cores : (d : ℕ) (x : Domain) → In (s .domains) d x → Word (x .cores)
+  pub gens : Each Word (s .domainPool .gens)
+  pub sizesGood : T (goodSizes (s .sizes))
+  pub slots : length (s .domains) ≤ 32
+
+pub sound-ring : (s : State) → Sound s → Ring s
+sound-ring s h = record { queue = h .queue; cores = h .coresWords; gens = h .domainPool .gensWords; sizesGood = h .sizesGood; slots = omega (arith, h .domainsLength, leb→le (s .sizes .domains) 32 few) }
+  where
+    few : T (leb (s .sizes .domains) 32)
+    few = let t = h .sizesGood in search (and-l, and-r) depth 12
+
+-- ---- lists with one more at the end
+
+each-end : {A : Type 0} (P : A → Type 0) (l : List A) (u : A) → Each P l → P u → Each P (l ++ (u ∷ []))
+each-end P [] u h k = (k, tt)
+each-end P (x ∷ l) u h k = (h .0, each-end P l u (h .1) k)
+
+count-end : {A : Type 0} (p : A → Bool) (l : List A) (u : A) → count p (l ++ (u ∷ [])) ≡ count p l + oneIf (p u)
+count-end p [] u = omega arith
+count-end p (x ∷ l) u = omega (arith, count-end p l u)
+
+each-map : {A : Type 0} (P Q : A → Type 0) (l : List A) → ((x : A) → P x → Q x) → Each P l → Each Q l
+each-map P Q [] f h = tt
+each-map P Q (x ∷ l) f h = (f x (h .0), each-map P Q l f (h .1))
+
+-- a cleanup, and a domain that is not queued, may join
+abbrev Fresh : Update → List Update → Type 0
+Fresh (permission h c) l = count (isPermissionOf h) l ≡ 0
+Fresh (cleanup a b) l = Unit {0}
+
+eqb-turned : (m n : ℕ) → eqb m n ≡ eqb n m
+eqb-turned m n = elim (ℕ-discrete m n) [ yes e ↦ eqb-t m n e ∙ sym (eqb-t n m (sym e)) | no e ↦ eqb-f m n e ∙ sym (eqb-f n m (λ q. e (sym q))) ]
+
+same-turned : (h k : Handle) → sameHandle h k ≡ sameHandle k h
+same-turned h k = ap₂ _&&_ (eqb-turned (h .slot) (k .slot)) (eqb-turned (h .gen) (k .gen))
+
+singly-end : (l : List Update) (u : Update) → Fresh u l → Singly l → Singly (l ++ (u ∷ []))
+singly-end [] (permission h c) f s = (refl, tt)
+singly-end [] (cleanup a b) f s = tt
+singly-end (permission k c ∷ l) (permission h b) f s = (omega (arith, count-end (isPermissionOf k) l (permission h b), s .0, ap oneIf (same-turned h k)), singly-end l (permission h b) (omega arith) (s .1))
+singly-end (permission k c ∷ l) (cleanup a b) f s = (omega (arith, count-end (isPermissionOf k) l (cleanup a b), s .0), singly-end l (cleanup a b) tt (s .1))
+singly-end (cleanup k c ∷ l) (permission h b) f s = singly-end l (permission h b) (omega arith) s
+singly-end (cleanup k c ∷ l) (cleanup a b) f s = singly-end l (cleanup a b) tt s
+
+-- ---- an update joins
+
+join-ring : (u : Update) (s : State) → Ring s → QueuedLive (s .domainPool) (s .domains) u → Fresh u (s .queue .items) → UpdateWords u → All Ring (push u s)
+unfolding push
+join-ring u s r live fresh words = checked (ltb (length (s .queue .items)) (s .sizes .updates)) _ (λ t.
+    let room = ltb→lt (length (s .queue .items)) (s .sizes .updates) t in
+    accepted (record {
+      queue = record {
+        readPlace = r .queue .readPlace;
+        fits = omega (arith, length-append (s .queue .items) (u ∷ []));
+        live = each-end _ (s .queue .items) u (r .queue .live) live;
+        singly = singly-end (s .queue .items) u fresh (r .queue .singly);
+        queuedWords = each-end UpdateWords (s .queue .items) u (r .queue .queuedWords) words;
+      };
+      cores = r .cores;
+      gens = r .gens;
+      sizesGood = r .sizesGood;
+      slots = r .slots;
+    }))
+
+pub cleanup-ring : (a b : ℕ) (s : State) → Ring s → Word a → Word b → All Ring (push (cleanup a b) s)
+cleanup-ring a b s r u v = join-ring (cleanup a b) s r tt tt (u, v)
+
+-- a number of a list of words, or 0
+word-in : (l : List ℕ) (i : ℕ) → Each Word l → Word (getD l i 0)
+word-in [] i h = lit< tt
+word-in (x ∷ l) zero h = h .0
+word-in (x ∷ l) (suc i) h = word-in l i (h .1)
+
+none-counted : {A : Type 0} (p : A → Bool) (l : List A) → T (not (any p l)) → count p l ≡ 0
+none-counted p l t = elim (cmp 0 (count p l)) [ lt h ↦ absurd (T-not (any p l) t (rw (any-count p l, ltb-t 0 (count p l) h) tt)) | ge h ↦ omega arith ]
+
+pub permission-ring : (d : ℕ) (x : Domain) (s : State) → In (s .domains) d x → Ring s → All Ring (pushPermission d s)
+unfolding pushPermission
+permission-ring d x s e r =
+    let h = handleOf (s .domainPool) d in
+    branch-on (any (isPermissionOf h) (s .queue .items)) (λ t. accepted r) (λ t.
+    join-ring (permission h (domainAt s d .cores)) s r
+    (and-i (isSome (slotOf (s .domains) d)) (eqb (h .gen) (h .gen)) (is-live _ x e) (eqb-refl (h .gen)))
+    (none-counted (isPermissionOf h) (s .queue .items) t)
+    (small d (omega (arith, in-length (s .domains) d x e, r .slots)), word-in (s .domainPool .gens) d (r .gens), rw (domain-at s d x e) (r .cores d x e)))
+  where
+    small : (n : ℕ) → n < 32 → Word n
+    small n l = omega arith
+
+-- ---- steps that leave the queue
+
+-- live domains stay live, with the same generations
+pub record Calm (s t : State) : Type 0 where
+  pub sizes : t .sizes ≡ s .sizes
+  pub gens : t .domainPool .gens ≡ s .domainPool .gens
+  pub size : length (t .domains) ≡ length (s .domains)
+  pub live : (d : ℕ) → T (isSome (slotOf (s .domains) d)) → T (isSome (slotOf (t .domains) d))
+  pub cores : (d : ℕ) (y : Domain) → In (t .domains) d y → Word (y .cores)
+  pub queue : t .queue ≡ s .queue
+
+live-kept : (s t : State) → Calm s t → (u : Update) → QueuedLive (s .domainPool) (s .domains) u → QueuedLive (t .domainPool) (t .domains) u
+live-kept s t c (permission h k) l =
+    and-i (isSome (slotOf (t .domains) (h .slot))) (eqb (getD (t .domainPool .gens) (h .slot) 0) (h .gen))
+    (c .live (h .slot) (and-l (isSome (slotOf (s .domains) (h .slot))) (eqb (getD (s .domainPool .gens) (h .slot) 0) (h .gen)) l))
+    (rw (c .gens) (and-r (isSome (slotOf (s .domains) (h .slot))) (eqb (getD (s .domainPool .gens) (h .slot) 0) (h .gen)) l))
+live-kept s t c (cleanup a b) l = tt
+
+pub calm-ring : (s t : State) → Calm s t → Ring s → Ring t
+calm-ring s t c r = record {
+  queue = record {
+    readPlace = omega (arith, r .queue .readPlace, ap (λ (q : Queue). q .first) (c .queue), ap (λ (z : Sizes). z .updates) (c .sizes));
+    fits = omega (arith, r .queue .fits, ap (λ (q : Queue). length (q .items)) (c .queue), ap (λ (z : Sizes). z .updates) (c .sizes));
+    live = subst (λ (q : Queue). Each (QueuedLive (t .domainPool) (t .domains)) (q .items)) (sym (c .queue)) (each-map _ _ (s .queue .items) (live-kept s t c) (r .queue .live));
+    singly = subst (λ (q : Queue). Singly (q .items)) (sym (c .queue)) (r .queue .singly);
+    queuedWords = subst (λ (q : Queue). Each UpdateWords (q .items)) (sym (c .queue)) (r .queue .queuedWords);
+  };
+  cores = c .cores;
+  gens = subst (Each Word) (sym (c .gens)) (r .gens);
+  sizesGood = subst (λ (z : Sizes). T (goodSizes z)) (sym (c .sizes)) (r .sizesGood);
+  slots = omega (arith, c .size, r .slots);
+}

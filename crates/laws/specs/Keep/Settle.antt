@@ -1,0 +1,77 @@
+-- The trackers catch up with the regions: a gain, a loss, or a loss and a gain by the ranges that they are behind by.
+-- What is lost was there, since the regions could spare it.
+use mathlib.Core.Path.{_≡_, sym, ap, subst}
+use Prim.Native.Nat.{ℕ, _+_, _-_, _≤_, _<_}
+use mathlib.Core.Option.{Option}
+use mathlib.Core.List.{List}
+use native.Mathlib.Omega.{arith}
+use lib.Dec.{T, eqb, eqb→eq}
+use Rattle.model.specs.Lists.{In}
+use Rattle.model.specs.Outcome.{_>>=_}
+use Rattle.model.specs.State.{State, Domain, Region, Access}
+use Rattle.model.specs.Counts.{storedCounts}
+use Rattle.model.specs.Regions.{activate, deactivate}
+use Rattle.model.specs.Calls.{exchangeRights}
+use Rattle.laws.specs.Accepted.{All, accepted, bind, weaken, branch-on}
+use Rattle.laws.specs.Tracker.Fields.{Field, Enough}
+use Rattle.laws.specs.Tree.Shares.{grant, tallyOf, each-agree}
+use Rattle.laws.specs.Tree.Facts.{Regions}
+use Rattle.laws.specs.Tree.Spare.{Spare, spare-enough}
+use Rattle.laws.specs.Keep.Aside.{Beside, aside-live, aside-in, beside-self, beside-then}
+use Rattle.laws.specs.Keep.Tracked.{Tracked, tracked-same, activate-tracked, deactivate-tracked, lost-le}
+use Rattle.laws.specs.Keep.Coupled.{told, Owners, Behind, Good}
+
+-- domain d can lose the range with rights r
+abbrev pub Spares : List (Option Region) → ℕ → ℕ → ℕ → ℕ → Type 0
+Spares rs d b e r = (a : ℕ) → b ≤ a → a < e → Spare rs d a r
+
+-- what the regions rs can spare can be lost, where the trackers store their counts
+pub spare-stored : (s : State) (rs : List (Option Region)) → Tracked s (told rs) → (d a r : ℕ) → Spare rs d a r → Enough r (storedCounts s d a)
+spare-stored s rs h d a r p = spare-enough rs d a r (storedCounts s d a) p (each-agree rs d a (storedCounts s d a) (λ f. h .counts f d a))
+
+-- ---- a step on a tracker leaves the regions and the live domains
+
+pub good-beside : (s t : State) → Beside s t → Regions (s .regions) → Owners s → Tracked t (told (s .regions)) → Good t
+good-beside s t b r o k = record {
+  tracked = subst (λ rs. Tracked t (told rs)) (sym (b .regions)) k;
+  regions = subst Regions (sym (b .regions)) r;
+  owners = λ i g e. aside-live (b .aside) (g .owner) (o i g (rw (b .regions) at e));
+}
+
+module _ (rs : List (Option Region)) (s : State) (h : Behind rs s) (d : ℕ) (x : Domain) (e : In (s .domains) d x) (a : Access) (z : a .start < a .end) where
+  -- a range that domain d gains, or loses
+  abbrev range : ℕ → Field → ℕ → ℕ → ℕ
+  range r f k b = grant f d (a .start) (a .end) r k b
+
+  pub gain-settles : ((f : Field) (k b : ℕ) → tallyOf f (s .regions) k b ≡ tallyOf f rs k b + range (a .rights) f k b) → All (λ t. Good t × Beside s t) (activate d a s)
+  gain-settles m = weaken (activate-tracked s (told rs) (told (s .regions)) (h .tracked) d x e a z m) (λ t (k, b). (good-beside s t b (h .regions) (h .owners) k, b))
+
+  -- ---- the same range with other rights r is lost, and this one gained
+
+  module _ (r : ℕ) (p : Spares rs d (a .start) (a .end) r) (m : (f : Field) (k b : ℕ) → tallyOf f (s .regions) k b + range r f k b ≡ tallyOf f rs k b + range (a .rights) f k b) where
+    abbrev old : Access
+    old = record { start = a .start; end = a .end; rights = r }
+
+    -- what is left between the two
+    abbrev left : Field → ℕ → ℕ → ℕ
+    left f k b = tallyOf f rs k b - range r f k b
+
+    had : (b : ℕ) → a .start ≤ b → b < a .end → Enough r (storedCounts s d b)
+    had b u v = spare-stored s rs (h .tracked) d b r (p b u v)
+
+    counted : (f : Field) (k b : ℕ) → range r f k b ≤ tallyOf f rs k b
+    counted = lost-le s (told rs) left (h .tracked) d x e old z had
+
+    equal : T (eqb r (a .rights)) → Good s
+    equal t = good-beside s s (beside-self s) (h .regions) (h .owners) (tracked-same s (told rs) (told (s .regions)) (λ f k b. omega (arith, m f k b, ap (λ (n : ℕ). range n f k b) (eqb→eq r (a .rights) t))) (h .tracked))
+
+    differ : All (λ t. Good t × Beside s t) (deactivate d old s >>= λ t. activate d a t)
+    differ =
+        bind (deactivate-tracked s (told rs) left (h .tracked) d x e old z (λ f k b. omega (arith, counted f k b)) had) (λ t (k, b).
+        let y = aside-in (b .aside) d x e in
+        weaken (activate-tracked t left (told (s .regions)) k d (y .0) (y .1) a z (λ f j c. omega (arith, m f j c, counted f j c)))
+        (λ u (j, c). (good-beside s u (beside-then b c) (h .regions) (h .owners) j, beside-then b c)))
+
+    pub trade-settles : All (λ t. Good t × Beside s t) (exchangeRights d r a s)
+    unfolding exchangeRights
+    trade-settles = branch-on (eqb r (a .rights)) (λ t. accepted (equal t, beside-self s)) (λ t. differ)
