@@ -44,14 +44,14 @@ up-above : (i k n : ℕ) → k + n ≤ i → count (eqb i) (countUp k n) ≡ 0
 up-above i k zero h = refl
 up-above i k (suc n) h = rw (eqb-f i k (λ e. omega arith), up-above i (suc k) n (omega arith))
 
-all-free : (n i : ℕ) → 0 + count (eqb i) (countUp 0 n) ≡ oneIf (ltb i n)
+pub all-free : (n i : ℕ) → 0 + count (eqb i) (countUp 0 n) ≡ oneIf (ltb i n)
 all-free n i = elim (cmp i n) [
   | lt h ↦ rw (ltb-t i n h, up-in i 0 n (omega arith) (omega arith))
   | ge h ↦ rw (ltb-f i n h, up-above i 0 n (omega arith))
 ]
 
 -- no slot of an empty table is in use
-unused : (A : Type 0) (n i : ℕ) → inUse {A = A} (replicate n none) i ≡ 0
+pub unused : (A : Type 0) (n i : ℕ) → inUse {A = A} (replicate n none) i ≡ 0
 unused A n i = rw (free-slot {A = A} n i)
 
 nothing-in : {A : Type 0} (n i : ℕ) (x : A) → In (replicate n none) i x → ⊥

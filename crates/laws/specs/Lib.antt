@@ -8,6 +8,8 @@ pub mod Tracker
 pub mod Tree
 pub mod Kept
 pub mod Keep
+pub mod Capas
+pub mod SoundKept
 pub mod Empty
 pub mod PopSound
 pub mod CountsLaw

@@ -1,0 +1,20 @@
+-- Laws of the capability lists: one list, the clauses of Sound about pools, lists, owners, managers and the queue, and that every call keeps them.
+pub mod Slots
+pub mod List
+pub mod Live
+pub mod Held
+pub mod Domain
+pub mod Change
+pub mod Looks
+pub mod Listed
+pub mod Open
+pub mod OpenSound
+pub mod Region
+pub mod Queue
+pub mod Walks
+pub mod Grant
+pub mod Create
+pub mod Send
+pub mod Leaf
+pub mod Revoke
+pub mod Perform
