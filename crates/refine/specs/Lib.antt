@@ -1,0 +1,21 @@
+-- The structured tables that the code works on, and the states of the model that they stand for.
+pub mod Rows
+pub mod Shape
+pub mod Tables
+pub mod Sizes
+pub mod Words
+pub mod Links
+pub mod Making
+pub mod Free
+pub mod Pools
+pub mod ThreePools
+pub mod Changes
+pub mod Trackers
+pub mod Domains
+pub mod TrackerSteps
+pub mod Locals
+pub mod Regions
+pub mod PoolSlots
+pub mod Children
+pub mod Round
+pub mod Ring

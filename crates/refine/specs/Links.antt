@@ -1,0 +1,70 @@
+-- The slot after a slot in a list, and the free link of a slot, by where it stands: first, further down, or not at all.
+use mathlib.Core.Path.{_≡_, refl, sym, ap, _∙_}
+use mathlib.Core.Logic.{_≢_}
+use Prim.Native.Nat.{ℕ, zero, suc, _+_, _≤_, _<_}
+use mathlib.Core.Option.{none}
+use mathlib.Core.List.{List, [], _∷_, _++_}
+use native.Mathlib.Omega.{arith}
+use native.Mathlib.Decide.{ℕ-discrete}
+use lib.Dec.{eqb}
+use Rattle.model.specs.Lists.{oneIf, count, countUp, firstOf, afterIn}
+use Rattle.model.specs.Layout.{slotOr0, freeLink}
+use Rattle.laws.specs.Cases.{lt, ge, cmp, eqb-t, eqb-f, holds, fails, test}
+use Rattle.laws.specs.Stack.{one}
+
+pub after-top : (i : ℕ) (l : List ℕ) → afterIn (i ∷ l) i ≡ firstOf l
+after-top i l = rw (eqb-t i i refl)
+
+pub after-under : (i j : ℕ) (l : List ℕ) → j ≢ i → afterIn (i ∷ l) j ≡ afterIn l j
+after-under i j l ne = rw (eqb-f i j (λ e. ne (sym e)))
+
+pub after-out : (l : List ℕ) (i : ℕ) → count (eqb i) l ≡ 0 → afterIn l i ≡ none
+after-out [] i h = refl
+after-out (x ∷ l) i h = after-under x i l (λ e. omega (arith, one i x e)) ∙ after-out l i (omega arith)
+
+-- behind other slots, and before a change that starts with the same slot
+pub after-behind : (j : ℕ) (b l : List ℕ) → count (eqb j) b ≡ 0 → afterIn (b ++ l) j ≡ afterIn l j
+after-behind j [] l h = refl
+after-behind j (y ∷ b) l h = after-under y j (b ++ l) (λ e. omega (arith, one j y e)) ∙ after-behind j b l (omega arith)
+
+pub first-before : (b l m : List ℕ) → firstOf l ≡ firstOf m → firstOf (b ++ l) ≡ firstOf (b ++ m)
+first-before [] l m e = e
+first-before (y ∷ b) l m e = refl
+
+pub after-before : (j : ℕ) (b l m : List ℕ) → firstOf l ≡ firstOf m → afterIn l j ≡ afterIn m j → afterIn (b ++ l) j ≡ afterIn (b ++ m) j
+after-before j [] l m e h = h
+after-before j (y ∷ b) l m e h = elim (test (eqb y j)) [ holds t ↦ rw t (first-before b l m e) | fails t ↦ rw t (after-before j b l m e h) ]
+
+-- ---- free links
+
+pub link-top : (i : ℕ) (l : List ℕ) → freeLink (i ∷ l) i ≡ suc (slotOr0 (firstOf l))
+link-top i l = rw (eqb-t i i refl)
+
+pub link-under : (i j : ℕ) (l : List ℕ) → j ≢ i → freeLink (i ∷ l) j ≡ freeLink l j
+link-under i j l h = rw (eqb-f j i h, eqb-f i j (λ e. h (sym e)))
+
+pub link-out : (l : List ℕ) (i : ℕ) → count (eqb i) l ≡ 0 → freeLink l i ≡ 0
+link-out [] i h = refl
+link-out (x ∷ l) i h = link-under x i l (λ e. omega (arith, one i x e)) ∙ link-out l i (omega arith)
+
+pub link-in : (l : List ℕ) (i : ℕ) → 0 < count (eqb i) l → 0 < freeLink l i
+link-in [] i h = absurd (omega arith)
+link-in (x ∷ l) i h = elim (ℕ-discrete i x) [
+  | yes e ↦ rw e (omega (arith, link-top x l))
+  | no ne ↦ omega (arith, link-under x i l ne, link-in l i (omega (arith, ap oneIf (eqb-f i x ne))))
+]
+
+-- ---- the stack k, k + 1, .. of n slots
+
+pub up-link : (i k n : ℕ) → k ≤ i → suc i < k + n → freeLink (countUp k n) i ≡ suc (suc i)
+up-link i k zero h j = absurd (omega arith)
+up-link i k (suc zero) h j = absurd (omega arith)
+up-link i k (suc (suc n)) h j = elim (cmp k i) [
+  | lt l ↦ link-under k i (countUp (suc k) (suc n)) (λ e. omega arith) ∙ up-link i (suc k) (suc n) l (omega arith)
+  | ge l ↦ let e : i ≡ k = omega arith in rw e (link-top k (countUp (suc k) (suc n)))
+]
+
+pub up-last : (i k n : ℕ) → k ≤ i → suc i ≡ k + n → freeLink (countUp k n) i ≡ 1
+up-last i k zero h j = absurd (omega arith)
+up-last i k (suc zero) h j = let e : i ≡ k = omega arith in rw e (link-top k [])
+up-last i k (suc (suc n)) h j = link-under k i (countUp (suc k) (suc n)) (λ e. omega arith) ∙ up-last i (suc k) (suc n) (omega arith) (omega arith)

@@ -1,0 +1,97 @@
+-- The empty tables that the code makes are the model's.
+use mathlib.Core.Path.{_≡_, refl, sym, ap, _∙_}
+use Prim.Native.Nat.{ℕ, zero, suc, _+_, _-_, _%_, _<_}
+use mathlib.Core.Option.{none}
+use mathlib.Core.List.{List, [], _∷_, map}
+use native.Mathlib.Omega.{arith}
+use native.Mathlib.Nat.{mod-eq-of-lt, add-mod-right}
+use lib.Dec.{eqb}
+use lib.ListN.{length, replicate}
+use Rattle.model.specs.Lists.{any, slotOf, countUp, firstOf, afterIn}
+use Rattle.model.specs.Locals.{freshLocals}
+use Rattle.model.specs.State as state
+use Rattle.model.specs.Layout.{words, slotOr0, freeLink}
+use Rattle.model.specs.Pool.{freshPool}
+use Rattle.model.specs.Making.{emptyTables}
+use Rattle.laws.specs.Cases.{lt, ge, cmp, holds, fails, test}
+use Rattle.laws.specs.Parts.{up-length}
+use Rattle.tables.specs.Tables.{noRegion, noRecord, noUpdate}
+use Rattle.tables.specs.View.{layout}
+use Rattle.arena.specs.Arena.{freshLink, linksFrom, newArena}
+use Rattle.making.specs.Empty.{empty, emptyDomain}
+use Rattle.refine.specs.Rows.{same-up, replicate-up}
+use Rattle.refine.specs.Links.{up-link, up-last}
+use Rattle.refine.specs.Tables.{sizesFor, poolOf, freeSlot, slotFor, slotsFor, domainFor, regionFor, recordIn, placeFor, domainsFor, regionsFor, recordsFor, ringFor, tablesOf}
+use Rattle.refine.specs.Words.{layout-tables}
+
+-- ---- a pool with every slot free
+
+links-up : (n k m : ℕ) → map (freshLink n) (countUp k m) ≡ linksFrom n k m
+unfolding linksFrom
+links-up n k zero = refl
+links-up n k (suc m) = ap (λ (l : List ℕ). freshLink n k ∷ l) (links-up n (suc k) m)
+
+fresh-suc : (n i : ℕ) → freshLink n i ≡ suc ((i + 1) % n)
+unfolding freshLink
+fresh-suc n i = omega arith
+
+fresh-link : (n i : ℕ) → i < n → freeLink (countUp 0 n) i ≡ freshLink n i
+unfolding freshLink
+fresh-link n i h = elim (cmp (suc i) n) [
+  | lt l ↦
+      let m : (i + 1) % n ≡ i + 1 = mod-eq-of-lt (omega arith) in
+      up-link i 0 n (omega arith) (omega arith) ∙ omega (arith, m)
+  | ge l ↦
+      let m : (i + 1) % n ≡ 0 = ap (λ (x : ℕ). x % n) (omega arith) ∙ add-mod-right 0 n ∙ mod-eq-of-lt (omega arith) in
+      up-last i 0 n (omega arith) (omega arith) ∙ omega (arith, m)
+]
+
+free-slot : {A : Type 0} (n i : ℕ) → slotOf {A = A} (replicate n none) i ≡ none
+free-slot zero i = refl
+free-slot (suc n) zero = refl
+free-slot (suc n) (suc i) = free-slot n i
+
+-- a free slot's link names the slot after it
+after-link : (l : List ℕ) (i k : ℕ) → freeLink l i ≡ suc k → slotOr0 (afterIn l i) ≡ k
+after-link l i k e = elim (test (any (eqb i) l)) [ holds t ↦ omega (arith, rw t at e) | fails t ↦ absurd (omega (arith, rw t at e)) ]
+
+-- the list of a new domain: each slot has the next one after it, the last slot 0
+pub fresh-slots : (n : ℕ) → slotsFor n (freshLocals n) ≡ map (λ i. freeSlot ((i + 1) % n)) (countUp 0 n)
+fresh-slots n =
+    same-up (λ i. slotFor (countUp 0 n) i (slotOf (replicate n none) i)) (λ i. freeSlot ((i + 1) % n)) n (λ i h.
+    ap (slotFor (countUp 0 n) i) (free-slot n i)
+    ∙ ap freeSlot (after-link (countUp 0 n) i ((i + 1) % n) (fresh-link n i h ∙ fresh-suc n i)))
+
+fresh-head : (n : ℕ) → slotOr0 (firstOf (countUp 0 n)) ≡ 0
+fresh-head zero = refl
+fresh-head (suc n) = refl
+
+pub fresh-pool : (n : ℕ) → poolOf n (freshPool n) ≡ newArena n
+unfolding poolOf newArena
+fresh-pool n =
+    let c : n - length (countUp 0 n) ≡ 0 = omega (arith, up-length 0 n) in
+    let l = same-up (freeLink (countUp 0 n)) (freshLink n) n (fresh-link n) ∙ links-up n 0 n in
+    λ i. record { head = fresh-head n i; count = c i; links = l i; gens = replicate n 0 }
+
+-- ---- the whole
+
+no-record : (n i : ℕ) → recordIn (replicate n none) i ≡ noRecord
+no-record zero i = refl
+no-record (suc n) i = no-record n i
+
+pub empty-tables : (z : state.Sizes) → tablesOf (emptyTables z) ≡ empty (sizesFor z)
+unfolding tablesOf empty emptyDomain domainsFor regionsFor recordsFor ringFor
+empty-tables z =
+    let w : (0 + 0) % (z .updates + 1) ≡ 0 = mod-eq-of-lt (omega arith) in
+    let p₁ = fresh-pool (z .domains) in
+    let p₂ = fresh-pool (z .regions) in
+    let p₃ = fresh-pool (z .records) in
+    let p₄ = replicate-up (λ i. domainFor (z .slots) (slotOf (replicate (z .domains) none) i)) (emptyDomain (sizesFor z)) (z .domains) (λ i h. ap (domainFor (z .slots)) (free-slot (z .domains) i)) in
+    let p₅ = replicate-up (λ i. regionFor (replicate (z .regions) none) i (slotOf (replicate (z .regions) none) i)) noRegion (z .regions) (λ i h. ap (regionFor (replicate (z .regions) none) i) (free-slot (z .regions) i)) in
+    let p₆ = replicate-up (recordIn (replicate (z .domains) none)) noRecord (z .records) (λ i h. no-record (z .domains) i) in
+    let p₇ = replicate-up (placeFor (z .updates) (record { first = 0; items = [] })) noUpdate (z .updates + 1) (λ i h. refl) in
+    λ i. record { sizes = sizesFor z; read = 0; write = w i; domainPool = p₁ i; regionPool = p₂ i; recordPool = p₃ i; domains = p₄ i; regions = p₅ i; records = p₆ i; ring = p₇ i }
+
+-- what `make_empty` leaves
+pub empty-words : (z : state.Sizes) → layout (empty (sizesFor z)) ≡ words (emptyTables z)
+empty-words z = ap layout (sym (empty-tables z)) ∙ layout-tables (emptyTables z)
