@@ -8,6 +8,7 @@ pub mod Tracker
 pub mod Tree
 pub mod Kept
 pub mod Keep
+pub mod CallRefusals
 pub mod Capas
 pub mod SoundKept
 pub mod Empty

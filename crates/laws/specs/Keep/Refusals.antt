@@ -102,7 +102,7 @@ revoke-stops zero i s = gives tt
 revoke-stops (suc n) i s = by-list n i s (regionAt s i .children) (revoke-stops n)
 
 -- 11 alone
-allocate-stops : (r : Refusal) (gs fs : List ℕ) → Gives (λ x. Unit {0}) (λ x. x ≡ r) (allocate r (record { gens = gs; free = fs }))
+pub allocate-stops : (r : Refusal) (gs fs : List ℕ) → Gives (λ x. Unit {0}) (λ x. x ≡ r) (allocate r (record { gens = gs; free = fs }))
 unfolding allocate
 allocate-stops r gs [] = refuses refl
 allocate-stops r gs (i ∷ is) = gives tt

@@ -1,0 +1,251 @@
+-- Which refusals a call can meet, whatever the tables: those that document 01's **Order of checks** lists for it. One rule for each step that
+-- says what it can be refused with; a call is its steps one after another.
+use mathlib.Core.Path.{_≡_}
+use mathlib.Core.Logic.{inl, inr}
+use Prim.Native.Nat.{ℕ}
+use mathlib.Core.Option.{Option, none, some}
+use mathlib.Core.List.{List, [], _∷_}
+use lib.Dec.{T, eqb}
+use Rattle.model.specs.Lists.{any}
+use Rattle.model.specs.Outcome.{Outcome, refuse, _>>=_, okOr, Refusal, number, noDomain, noSlot, wrongKind, stale, badRange, isRoot, notCarried, noRegion, noLocal, noTracker, ringFull, noDomainRoom, spent}
+use Rattle.model.specs.State.{State, Sizes, Handle, Access, Kind, Capa, noCapa, region, regionRevoke, management, channel, domainAt}
+use Rattle.model.specs.Pool.{isLive}
+use Rattle.model.specs.Locals.{insertLocal, insertCapa, hasCapacity, capaAt}
+use Rattle.model.specs.Regions.{newRegion}
+use Rattle.model.specs.Making.{makeTables}
+use Rattle.model.specs.Calls.{liveDomain, liveRegion, asRegion, asTarget, regionHeld, roomForRegion, newDomain, openDomain, openChannel, setCores, createRootRegion, addChild, aliasRegion, carveRegion, sendCapa, send, revokeUnlessRoot, revokeCapa, revoke, createRevokeCapa}
+use Rattle.model.specs.Readings.{permissions, getRefcount, coreMap}
+use Rattle.model.specs.Perform.{Call, Make, Open, Channel, SetCores, Root, Alias, Carve, Send, Revoke, MakeRevoke, Pop, Permissions, Refcount, CoreMap, Holders, makeAnew, perform}
+use Rattle.laws.specs.Answers.{Gives, gives, refuses, gives-then, gives-branch, gives-checked, refusal}
+use Rattle.laws.specs.Keep.Refusals.{MayStop, activate-stops, exchange-stops, send-stops, revoke-stops, allocate-stops, new-stops}
+
+-- Document 01's numbers for each call, in its order of checks, those of the steps afterwards last. Bad memory (1) is refused before
+-- `perform`, save for a making with another length.
+abbrev pub refusals : Call → List ℕ
+refusals (Make z) = 2 ∷ 1 ∷ []
+refusals (Open m cores) = 3 ∷ 15 ∷ 12 ∷ []
+refusals (Channel h to) = 3 ∷ 12 ∷ []
+refusals (SetCores h cores) = 3 ∷ []
+refusals (Root h a) = 3 ∷ 11 ∷ 12 ∷ 7 ∷ 13 ∷ 14 ∷ 16 ∷ []
+refusals (Alias h l a) = 3 ∷ 4 ∷ 5 ∷ 6 ∷ 11 ∷ 12 ∷ 7 ∷ 8 ∷ 13 ∷ 14 ∷ 16 ∷ []
+refusals (Carve h l a) = 3 ∷ 4 ∷ 5 ∷ 6 ∷ 11 ∷ 12 ∷ 7 ∷ 8 ∷ 13 ∷ 14 ∷ 16 ∷ []
+refusals (Send h l target) = 3 ∷ 4 ∷ 5 ∷ 12 ∷ 10 ∷ 6 ∷ 13 ∷ 14 ∷ 16 ∷ []
+refusals (Revoke h l) = 3 ∷ 4 ∷ 10 ∷ 6 ∷ 9 ∷ 13 ∷ 14 ∷ 16 ∷ []
+refusals (MakeRevoke h l) = 3 ∷ 4 ∷ 5 ∷ 6 ∷ 9 ∷ 12 ∷ []
+refusals Pop = []
+refusals (Permissions h) = 3 ∷ []
+refusals (Refcount h from to) = 3 ∷ []
+refusals (CoreMap h) = 3 ∷ []
+refusals (Holders a) = []
+
+-- The refusal is one of a call's.
+abbrev Of : Call → Refusal → Type 0
+Of c r = T (any (eqb (number r)) (refusals c))
+
+-- The outcome is accepted, or a refusal with R.
+abbrev Within : {A : Type 0} → (Refusal → Type 0) → Outcome A → Type 0
+Within R m = Gives (λ a. Unit {0}) R m
+
+-- one step, and then another
+infixl 20 _andThen_
+_andThen_ : {A B : Type 0} {R : Refusal → Type 0} {m : Outcome A} {f : A → Outcome B} → Within R m → ((a : A) → Within R (f a)) → Within R (m >>= f)
+h andThen k = gives-then h (λ a u. k a)
+
+-- an outcome with one refusal only, and one that is refused with 13, 16 or 14
+only : {A : Type 0} {R : Refusal → Type 0} (r : Refusal) {m : Outcome A} → R r → Gives (λ a. Unit {0}) (λ x. x ≡ r) m → Within R m
+only r i (gives h) = gives tt
+only r i (refuses {r = x} e) = refuses {r = x} (rw e i)
+
+late : {A : Type 0} {R : Refusal → Type 0} {m : Outcome A} → R noTracker × R spent × R ringFull → MayStop m → Within R m
+late i (gives h) = gives tt
+late i (refuses {r = x} (inl e)) = refuses {r = x} (rw e (i .0))
+late i (refuses {r = x} (inr (inl e))) = refuses {r = x} (rw e (i .1))
+late i (refuses {r = x} (inr (inr e))) = refuses {r = x} (rw e (i .2))
+
+-- ---- the steps that several calls share; what each can be refused with has R
+
+module _ {R : Refusal → Type 0} where
+  domain-within : R noDomain → (s : State) (h : Handle) → Within R (liveDomain s h)
+  unfolding liveDomain
+  domain-within i s h = gives-checked _ _ i (λ t. gives tt)
+
+  region-within : R stale → (s : State) (h : Handle) → Within R (liveRegion s h)
+  unfolding liveRegion
+  region-within i s h = gives-checked _ _ i (λ t. gives tt)
+
+  or-within : {A : Type 0} (r : Refusal) → R r → (x : Option A) → Within R (okOr x r)
+  unfolding okOr
+  or-within r i none = refuses i
+  or-within r i (some a) = gives tt
+
+  slot-within : R noSlot → (s : State) (d n : ℕ) → Within R (capaAt s d n)
+  unfolding capaAt
+  slot-within i s d n = or-within noSlot i _
+
+  as-region : R wrongKind → (c : Capa) → Within R (asRegion c)
+  as-region i noCapa = refuses i
+  as-region i (region h) = gives tt
+  as-region i (regionRevoke h) = refuses i
+  as-region i (management h) = refuses i
+  as-region i (channel h) = refuses i
+
+  held-within : R noSlot × R wrongKind × R stale → (s : State) (d n : ℕ) → Within R (regionHeld s d n)
+  unfolding regionHeld
+  held-within i s d n = slot-within (i .0) s d n andThen (λ c. as-region (i .1) c andThen (λ h. region-within (i .2) s h))
+
+  capacity-within : R noLocal → (d : ℕ) (s : State) → Within R (hasCapacity d s)
+  unfolding hasCapacity
+  capacity-within i d s = gives-checked _ _ i (λ t. gives tt)
+
+  room-within : R noRegion × R noLocal × R badRange → (d : ℕ) (a : Access) (s : State) → Within R (roomForRegion d a s)
+  unfolding roomForRegion
+  room-within i d a s = gives-checked _ _ (i .0) (λ t. capacity-within (i .1) d s andThen (λ u. gives-checked _ _ (i .2) (λ v. gives tt)))
+
+  local-within : R noLocal → (c : Capa) (held : List (Option Capa)) (free : List ℕ) → Within R (insertLocal c (record { held = held; free = free }))
+  unfolding insertLocal
+  local-within i c held [] = refuses i
+  local-within i c held (n ∷ free) = gives tt
+
+  insert-within : R noLocal → (d : ℕ) (c : Capa) (s : State) → Within R (insertCapa d c s)
+  unfolding insertCapa
+  insert-within i d c s = local-within i c (domainAt s d .locals .held) (domainAt s d .locals .free) andThen (λ x. gives tt)
+
+  new-within : R noRegion → (d : ℕ) (k : Kind) (a : Access) (s : State) → Within R (newRegion d k a s)
+  new-within i d k a s = only noRegion i (new-stops d k a s)
+
+  child-within : R noRegion × R noLocal → (d p : ℕ) (k : Kind) (a : Access) (s : State) → Within R (addChild d p k a s)
+  unfolding addChild
+  child-within i d p k a s = new-within (i .0) d k a s andThen (λ x. insert-within (i .1) d _ _)
+
+  opened-within : R noDomainRoom → (m : Option ℕ) (cores : ℕ) (s : State) → Within R (newDomain m cores s)
+  unfolding newDomain
+  opened-within i m cores s = only noDomainRoom i (allocate-stops noDomainRoom (s .domainPool .gens) (s .domainPool .free)) andThen (λ x. gives tt)
+
+-- ---- the calls; `tt` says that a number is in the call's list
+
+make-within : (z : Sizes) (s : State) → Within (Of (Make z)) (makeAnew z s)
+unfolding makeAnew makeTables
+make-within z s = gives-checked {P = λ a. Unit {0}} _ _ tt (λ t. gives tt) andThen (λ u. gives-checked _ _ tt (λ t. gives tt))
+
+open-within : (m : Option Handle) (cores : ℕ) (s : State) → Within (Of (Open m cores)) (openDomain m cores s)
+unfolding openDomain
+open-within none cores s = opened-within tt _ _ s andThen (λ x. gives tt)
+open-within (some h) cores s = domain-within tt s h andThen (λ m. opened-within tt _ _ s andThen (λ x. capacity-within tt m _ andThen (λ t. insert-within tt m _ t andThen (λ y. gives tt))))
+
+channel-within : (h to : Handle) (s : State) → Within (Of (Channel h to)) (openChannel h to s)
+unfolding openChannel
+channel-within h to s = domain-within tt s h andThen (λ d. domain-within tt s to andThen (λ t. capacity-within tt d s andThen (λ u. insert-within tt d _ u)))
+
+cores-within : (h : Handle) (cores : ℕ) (s : State) → Within (Of (SetCores h cores)) (setCores h cores s)
+unfolding setCores
+cores-within h cores s = domain-within tt s h andThen (λ d. gives tt)
+
+root-within : (h : Handle) (a : Access) (s : State) → Within (Of (Root h a)) (createRootRegion h a s)
+unfolding createRootRegion
+root-within h a s =
+    domain-within tt s h andThen (λ d.
+    room-within (tt, tt, tt) d a s andThen (λ t.
+    new-within tt d _ a t andThen (λ x.
+    insert-within tt d _ _ andThen (λ y.
+    late (tt, tt, tt) (activate-stops d a _) andThen (λ u. gives tt)))))
+
+alias-within : (h : Handle) (l : ℕ) (a : Access) (s : State) → Within (Of (Alias h l a)) (aliasRegion h l a s)
+unfolding aliasRegion
+alias-within h l a s =
+    domain-within tt s h andThen (λ d.
+    held-within (tt, tt, tt) s d l andThen (λ p.
+    room-within (tt, tt, tt) d a s andThen (λ t.
+    gives-checked _ _ tt (λ c.
+    child-within (tt, tt) d p _ a t andThen (λ x.
+    late (tt, tt, tt) (activate-stops d a _) andThen (λ u. gives tt))))))
+
+carve-within : (h : Handle) (l : ℕ) (a : Access) (s : State) → Within (Of (Carve h l a)) (carveRegion h l a s)
+unfolding carveRegion
+carve-within h l a s =
+    domain-within tt s h andThen (λ d.
+    held-within (tt, tt, tt) s d l andThen (λ p.
+    room-within (tt, tt, tt) d a s andThen (λ t.
+    gives-checked _ _ tt (λ c.
+    child-within (tt, tt) d p _ a t andThen (λ x.
+    late (tt, tt, tt) (exchange-stops d _ a _) andThen (λ u. gives tt))))))
+
+-- ---- send and revoke
+
+module _ {R : Refusal → Type 0} where
+  as-target : R wrongKind → (c : Capa) → Within R (asTarget c)
+  as-target i noCapa = refuses i
+  as-target i (region h) = refuses i
+  as-target i (regionRevoke h) = refuses i
+  as-target i (management h) = gives tt
+  as-target i (channel h) = gives tt
+
+  moved-within : R notCarried × R stale → R noTracker × R spent × R ringFull → (c : Capa) (to : ℕ) (s : State) → Within R (sendCapa c to s)
+  unfolding sendCapa
+  moved-within i j noCapa to s = gives tt
+  moved-within i j (region h) to s = region-within (i .1) s h andThen (λ n. late j (send-stops n to s))
+  moved-within i j (regionRevoke h) to s = gives tt
+  moved-within i j (management h) to s = refuses (i .0)
+  moved-within i j (channel h) to s = gives tt
+
+  unless-root : R isRoot → R noTracker × R spent × R ringFull → (n : ℕ) (s : State) → Within R (revokeUnlessRoot n s)
+  unfolding revokeUnlessRoot
+  unless-root i j n s = gives-checked _ _ i (λ t. late j (revoke-stops _ n s))
+
+  revoked-within : R notCarried × R stale × R isRoot → R noTracker × R spent × R ringFull → (c : Capa) (s : State) → Within R (revokeCapa c s)
+  unfolding revokeCapa
+  revoked-within i j noCapa s = gives tt
+  revoked-within i j (region h) s = region-within (i .1) s h andThen (λ n. unless-root (i .2) j n s)
+  revoked-within i j (regionRevoke h) s = gives-branch (isLive (s .regionPool) (s .regions) h) (unless-root (i .2) j _ s) (gives tt)
+  revoked-within i j (management h) s = refuses (i .0)
+  revoked-within i j (channel h) s = gives tt
+
+send-within : (h : Handle) (l target : ℕ) (s : State) → Within (Of (Send h l target)) (send h l target s)
+unfolding send
+send-within h l target s =
+    domain-within tt s h andThen (λ d.
+    slot-within tt s d target andThen (λ t.
+    as-target tt t andThen (λ k.
+    domain-within tt s k andThen (λ to.
+    capacity-within tt to s andThen (λ u.
+    slot-within tt u d l andThen (λ c.
+    moved-within (tt, tt) (tt, tt, tt) c to u andThen (λ v.
+    insert-within tt to c _)))))))
+
+revoke-within : (h : Handle) (l : ℕ) (s : State) → Within (Of (Revoke h l)) (revoke h l s)
+unfolding revoke
+revoke-within h l s =
+    domain-within tt s h andThen (λ d.
+    slot-within tt s d l andThen (λ c.
+    revoked-within (tt, tt, tt) (tt, tt, tt) c s andThen (λ t. gives tt)))
+
+make-revoke-within : (h : Handle) (l : ℕ) (s : State) → Within (Of (MakeRevoke h l)) (createRevokeCapa h l s)
+unfolding createRevokeCapa
+make-revoke-within h l s =
+    domain-within tt s h andThen (λ d.
+    held-within (tt, tt, tt) s d l andThen (λ n.
+    gives-checked _ _ tt (λ c.
+    capacity-within tt d s andThen (λ t. insert-within tt d _ t))))
+
+-- ---- all calls
+
+perform-within : (s : State) (c : Call) → Within (Of c) (perform s c)
+unfolding perform permissions getRefcount coreMap
+perform-within s (Make z) = make-within z s andThen (λ x. gives tt)
+perform-within s (Open m cores) = open-within m cores s andThen (λ x. gives tt)
+perform-within s (Channel h to) = channel-within h to s andThen (λ x. gives tt)
+perform-within s (SetCores h cores) = cores-within h cores s andThen (λ x. gives tt)
+perform-within s (Root h a) = root-within h a s andThen (λ x. gives tt)
+perform-within s (Alias h l a) = alias-within h l a s andThen (λ x. gives tt)
+perform-within s (Carve h l a) = carve-within h l a s andThen (λ x. gives tt)
+perform-within s (Send h l target) = send-within h l target s andThen (λ x. gives tt)
+perform-within s (Revoke h l) = revoke-within h l s andThen (λ x. gives tt)
+perform-within s (MakeRevoke h l) = make-revoke-within h l s andThen (λ x. gives tt)
+perform-within s Pop = gives tt andThen (λ x. gives tt)
+perform-within s (Permissions h) = domain-within tt s h andThen (λ d. gives tt) andThen (λ x. gives tt)
+perform-within s (Refcount h from to) = domain-within tt s h andThen (λ d. gives tt) andThen (λ x. gives tt)
+perform-within s (CoreMap h) = domain-within tt s h andThen (λ d. gives tt) andThen (λ x. gives tt)
+perform-within s (Holders a) = gives tt
+
+-- A refused call's number is one of those that document 01 lists for the call.
+pub call-refusals : (s : State) (c : Call) (r : Refusal) → perform s c ≡ refuse r → T (any (eqb (number r)) (refusals c))
+call-refusals s c r e = refusal (perform-within s c) r e
