@@ -1,0 +1,249 @@
+-- **Book** of demand 3 (document 01): what lives, and whose it is, "from calls and answers alone". Nothing here looks at the tables.
+use Prim.Native.Nat.{ℕ, zero, suc}
+use mathlib.Core.Bool.{Bool, true, false, not, _||_}
+use mathlib.Core.Option.{Option, none, some}
+use mathlib.Core.List.{List, [], _∷_, _++_}
+use lib.Dec.{eqb}
+use lib.ListN.{length, getD, set, replicate}
+use Rattle.model.specs.Lists.{if_then_else_, countUp, isEmpty, slotOf, orElse}
+use Rattle.model.specs.State.{Sizes, Access, Kind, Root, Alias, Carve, parentOf}
+use Rattle.model.specs.Perform.{Call, Reply, Answer}
+
+-- ---- what the book keeps
+
+-- A region that was accepted. Its place in the book, counted from 0 in order of creation, is its name for ever; a parent in the kind is such a place.
+pub record Noted : Type 0 where
+  pub kind : Kind
+  pub owner : ℕ
+  pub start : ℕ
+  pub end : ℕ
+  pub rights : ℕ
+  pub alive : Bool
+
+-- What a slot in use holds: nothing any more, a region, a RegionRevoke of a region (both by place), or the name of a domain (Management or Channel).
+pub data Held : Type 0 where
+  emptied : Held
+  regionOf : ℕ → Held
+  revokeOf : ℕ → Held
+  domainOf : ℕ → Held
+
+-- A domain's slots: `none` is free; the free slots as a stack, the one given next first.
+pub record Slots : Type 0 where
+  pub held : List (Option Held)
+  pub free : List ℕ
+
+-- The slots that a new domain has, the regions by place, and for each domain's number its slots (`none`: not opened).
+pub record Book : Type 0 where
+  pub width : ℕ
+  pub regions : List Noted
+  pub lists : List (Option Slots)
+
+-- An empty book for tables of these sizes: no region, no domain opened.
+abbrev pub blank : Sizes → Book
+blank z = record { width = z .slots; regions = []; lists = replicate (z .domains) none }
+
+-- ---- reading and changing it
+
+-- what a place past the end reads as; no accepted call meets it
+abbrev pub noNoted : Noted
+noNoted = record { kind = Root; owner = 0; start = 0; end = 0; rights = 0; alive = false }
+
+-- the region at a place; a domain's slots; what slot l of domain d holds
+abbrev pub noted : List Noted → ℕ → Noted
+noted rs k = getD rs k noNoted
+
+abbrev pub slotsOf : Book → ℕ → Slots
+slotsOf b d = orElse (slotOf (b .lists) d) (record { held = []; free = [] })
+
+abbrev pub heldAt : Book → ℕ → ℕ → Option Held
+heldAt b d l = slotOf (slotsOf b d .held) l
+
+-- the book with one domain's slots, or its regions, changed
+abbrev pub withSlots : ℕ → Slots → Book → Book
+withSlots d l b = record { width = b .width; regions = b .regions; lists = set (b .lists) d (some l) }
+
+abbrev pub withNoted : List Noted → Book → Book
+withNoted rs b = record { width = b .width; regions = rs; lists = b .lists }
+
+-- ---- slots "are given .., freed and swept as above"
+
+-- A slot is freed: "The slot freed last is given first."
+abbrev pub freeSlot : ℕ → Slots → Slots
+freeSlot i l = record { held = set (l .held) i none; free = i ∷ l .free }
+
+-- several slots freed, one after another
+abbrev pub freeSlots : List ℕ → Slots → Slots
+freeSlots [] l = l
+freeSlots (i ∷ is) l = freeSlots is (freeSlot i l)
+
+-- "None or a dead handle". No call closes a domain.
+abbrev pub isDead : List Noted → Held → Bool
+isDead rs emptied = true
+isDead rs (regionOf k) = not (noted rs k .alive)
+isDead rs (revokeOf k) = not (noted rs k .alive)
+isDead rs (domainOf d) = false
+
+-- the slots that hold such a thing, rising; the first element is slot i
+abbrev pub deadSlots : List Noted → ℕ → List (Option Held) → List ℕ
+deadSlots rs i [] = []
+deadSlots rs i (none ∷ l) = deadSlots rs (suc i) l
+deadSlots rs i (some c ∷ l) = if isDead rs c then i ∷ deadSlots rs (suc i) l else deadSlots rs (suc i) l
+
+-- "When a list is full, slots holding None or a dead handle are freed in rising order."
+unfoldable pub swept : List Noted → Slots → Slots
+swept rs l = if isEmpty (l .free) then freeSlots (deadSlots rs 0 (l .held)) l else l
+
+-- A domain's list before a slot in it is given.
+unfoldable pub makeRoom : ℕ → Book → Book
+makeRoom d b = withSlots d (swept (b .regions) (slotsOf b d)) b
+
+-- The slot is given: what it holds from now on, and the top of the stack is gone.
+abbrev pub pop : List ℕ → List ℕ
+pop [] = []
+pop (i ∷ is) = is
+
+abbrev pub top : List ℕ → ℕ
+top [] = 0
+top (i ∷ is) = i
+
+unfoldable pub put : ℕ → ℕ → Held → Book → Book
+put d n c b = let l = slotsOf b d in withSlots d (record { held = set (l .held) n (some c); free = pop (l .free) }) b
+
+-- Slot n of domain d, the answered one, is given; the list is swept before, if it is full.
+unfoldable pub give : ℕ → ℕ → Held → Book → Book
+give d n c b = put d n c (makeRoom d b)
+
+-- the same where no local slot is answered: the slot that is given next
+unfoldable pub giveNext : ℕ → Held → Book → Book
+giveNext d c b = let b₁ = makeRoom d b in put d (top (slotsOf b₁ d .free)) c b₁
+
+-- ---- the calls
+
+-- Opening: a list of free slots, 0 given first.
+unfoldable pub opened : ℕ → Book → Book
+opened d b = withSlots d (record { held = replicate (b .width) none; free = countUp 0 (b .width) }) b
+
+-- "a live region of that kind, with the range and rights given, the caller's": it takes the next place.
+unfoldable pub added : Kind → ℕ → Access → Book → Book
+added k d a b = withNoted (b .regions ++ (record { kind = k; owner = d; start = a .start; end = a .end; rights = a .rights; alive = true } ∷ [])) b
+
+-- "Root, alias and carve put a live region .. in one": in slot n of domain d.
+unfoldable pub created : Kind → ℕ → ℕ → Access → Book → Book
+created k d n a b = added k d a (give d n (regionOf (length (b .regions))) b)
+
+-- The region at place k is domain d's.
+unfoldable pub ownedBy : ℕ → ℕ → Book → Book
+ownedBy d k b = let r = noted (b .regions) k in withNoted (set (b .regions) k (record { kind = r .kind; owner = d; start = r .start; end = r .end; rights = r .rights; alive = r .alive })) b
+
+-- "a region is that domain's from then on"; all else only moves.
+unfoldable pub handedTo : ℕ → Option Held → Book → Book
+handedTo d none b = b
+handedTo d (some emptied) b = b
+handedTo d (some (regionOf k)) b = ownedBy d k b
+handedTo d (some (revokeOf k)) b = b
+handedTo d (some (domainOf e)) b = b
+
+-- Slot l of domain d is freed.
+unfoldable pub freed : ℕ → ℕ → Book → Book
+freed d l b = withSlots d (freeSlot l (slotsOf b d)) b
+
+-- what is given goes into the slot, if there is something
+unfoldable pub putAny : ℕ → ℕ → Option Held → Book → Book
+putAny d n none b = b
+putAny d n (some c) b = put d n c b
+
+-- "Send frees the sent slot and gives one in the list of the domain that the target names, in the source's order; what it held goes there":
+-- the target's list is swept, if it is full; then the sent slot is read, and freed; then the slot is given.
+unfoldable pub sent : ℕ → ℕ → ℕ → ℕ → Book → Book
+sent d l to n b = let b₁ = makeRoom to b in let c = heldAt b₁ d l in putAny to n c (freed d l (handedTo to c b₁))
+
+-- Region j is k or below it: the parents lead from j to k. n places are enough, as parents come first.
+abbrev pub isUnder : List Noted → ℕ → ℕ → ℕ → Bool
+isUnder rs zero k j = eqb j k
+isUnder rs (suc n) k j = eqb j k || elim (parentOf (noted rs j .kind)) [ none ↦ false | some p ↦ isUnder rs n k p ]
+
+-- Those that pass the test die; i is the first one's place.
+abbrev pub dying : (ℕ → Bool) → ℕ → List Noted → List Noted
+dying t i [] = []
+dying t i (r ∷ rs) = record { kind = r .kind; owner = r .owner; start = r .start; end = r .end; rights = r .rights; alive = if t i then false else r .alive } ∷ dying t (suc i) rs
+
+-- "the region held or named there dies with all below"
+unfoldable pub killed : ℕ → Book → Book
+killed k b = withNoted (dying (isUnder (b .regions) (length (b .regions)) k) 0 (b .regions)) b
+
+-- the same by what the slot held: a region, or a RegionRevoke that names one
+unfoldable pub revoked : Option Held → Book → Book
+revoked none b = b
+revoked (some emptied) b = b
+revoked (some (regionOf k)) b = killed k b
+revoked (some (revokeOf k)) b = killed k b
+revoked (some (domainOf d)) b = b
+
+-- "Revoke empties the slot, still in use"
+unfoldable pub emptySlot : ℕ → ℕ → Book → Book
+emptySlot d l b = let p = slotsOf b d in withSlots d (record { held = set (p .held) l (some emptied); free = p .free }) b
+
+-- the region that a slot holds: "its parent is the region in the slot named"
+abbrev pub placeIn : Option Held → ℕ
+placeIn none = 0
+placeIn (some emptied) = 0
+placeIn (some (regionOf k)) = k
+placeIn (some (revokeOf k)) = 0
+placeIn (some (domainOf d)) = 0
+
+-- the domain that a target slot names
+abbrev pub domainIn : Option Held → ℕ
+domainIn none = 0
+domainIn (some emptied) = 0
+domainIn (some (regionOf k)) = 0
+domainIn (some (revokeOf k)) = 0
+domainIn (some (domainOf d)) = d
+
+-- What an answered slot or domain is.
+abbrev pub localOf : Reply → ℕ
+localOf Reply.done = 0
+localOf (Reply.domain h) = 0
+localOf (Reply.local n) = n
+localOf (Reply.popped u) = 0
+localOf (Reply.permissionList l) = 0
+localOf (Reply.number n) = 0
+localOf (Reply.domainList l) = 0
+
+abbrev pub domainNumber : Reply → ℕ
+domainNumber Reply.done = 0
+domainNumber (Reply.domain h) = h .slot
+domainNumber (Reply.local n) = 0
+domainNumber (Reply.popped u) = 0
+domainNumber (Reply.permissionList l) = 0
+domainNumber (Reply.number n) = 0
+domainNumber (Reply.domainList l) = 0
+
+-- An accepted call.
+unfoldable pub accept : Book → Call → Reply → Book
+-- "Making empties it."
+accept b (Call.Make z) y = blank z
+-- "in a manager's list, opening" takes a slot that names the new domain
+accept b (Call.Open none cores) y = opened (domainNumber y) b
+accept b (Call.Open (some m) cores) y = giveNext (m .slot) (domainOf (domainNumber y)) (opened (domainNumber y) b)
+-- "Channel, RegionRevoke .. take a slot that names their domain or region."
+accept b (Call.Channel h to) y = give (h .slot) (localOf y) (domainOf (to .slot)) b
+accept b (Call.MakeRevoke h l) y = give (h .slot) (localOf y) (revokeOf (placeIn (heldAt b (h .slot) l))) b
+-- "its parent is the region in the slot named, a root's none"
+accept b (Call.Root h a) y = created Root (h .slot) (localOf y) a b
+accept b (Call.Alias h l a) y = created (Alias (placeIn (heldAt b (h .slot) l))) (h .slot) (localOf y) a b
+accept b (Call.Carve h l a) y = created (Carve (placeIn (heldAt b (h .slot) l))) (h .slot) (localOf y) a b
+-- **Send** and **Revoke**
+accept b (Call.Send h l target) y = sent (h .slot) l (domainIn (heldAt b (h .slot) target)) (localOf y) b
+accept b (Call.Revoke h l) y = emptySlot (h .slot) l (revoked (heldAt b (h .slot) l) b)
+-- "pop, core maps and readings change nothing"
+accept b (Call.SetCores h cores) y = b
+accept b Call.Pop y = b
+accept b (Call.Permissions h) y = b
+accept b (Call.Refcount h from to) y = b
+accept b (Call.CoreMap h) y = b
+accept b (Call.Holders a) y = b
+
+-- What a call and its answer add to the book: "Refused calls .. change nothing."
+unfoldable pub note : Book → Call → Answer → Book
+note b c (Answer.yes y) = accept b c y
+note b c (Answer.no r) = b

@@ -1,0 +1,63 @@
+-- Books written out: after document 01's worked example, after a revoke and a sweep, and after making anew.
+use mathlib.Core.Path.{_≡_, refl}
+use Prim.Native.Nat.{ℕ}
+use mathlib.Core.Bool.{Bool, true, false}
+use mathlib.Core.Option.{Option, none, some}
+use mathlib.Core.List.{List, [], _∷_, _++_}
+use Rattle.model.specs.State.{Sizes, Kind, Root, Alias, Carve}
+use Rattle.model.specs.Making.{emptyTables}
+use Rattle.model.specs.Perform.{Call, run}
+use Rattle.model.specs.Checked.Compute.{computing}
+use Rattle.model.specs.Checked.Script.{dom, example}
+use Rattle.book.specs.Book.{Book, Noted, Held, emptied, regionOf, revokeOf, domainOf, Slots, blank, swept, makeRoom, put, give, giveNext, opened, added, created, ownedBy, handedTo, freed, putAny, sent, killed, revoked, emptySlot, accept, note}
+use Rattle.book.specs.Demand3.{noteAll}
+
+-- To compute with the book, name `noting` on an `unfolding` line.
+unfoldable noting : Unit {0}
+unfolding computing swept makeRoom put give giveNext opened added created ownedBy handedTo freed putAny sent killed revoked emptySlot accept note noteAll
+noting = tt
+
+-- the book after a list of calls from empty tables
+abbrev bookAfter : Sizes → List Call → Book
+bookAfter z cs = noteAll (blank z) cs (run (emptyTables z) cs .0)
+
+abbrev sizes : ℕ → ℕ → Sizes
+sizes d s = record { domains = d; slots = s; regions = 4; records = 8; updates = 4 }
+
+-- kind, owner, start, end, rights, alive; slots with the free ones, the one given next first
+abbrev reg : Kind → ℕ → ℕ → ℕ → ℕ → Bool → Noted
+reg k o s e r l = record { kind = k; owner = o; start = s; end = e; rights = r; alive = l }
+
+abbrev slots : List (Option Held) → List ℕ → Option Slots
+slots h f = some (record { held = h; free = f })
+
+-- A holds B's Management in slot 0, the root in 1 and the alias in 3; the carve is B's, in slot 0; the last call was refused.
+after-example : bookAfter (sizes 2 4) example
+    ≡ record {
+      width = 4;
+      regions = reg Root 0 0 16 3 true ∷ reg (Carve 0) 1 4 8 1 true ∷ reg (Alias 0) 0 0 4 3 true ∷ [];
+      lists = slots (some (domainOf 1) ∷ some (regionOf 0) ∷ none ∷ some (regionOf 2) ∷ []) (2 ∷ []) ∷ slots (some (regionOf 1) ∷ none ∷ none ∷ none ∷ []) (1 ∷ 2 ∷ 3 ∷ []) ∷ [];
+    }
+unfolding noting
+after-example = refl
+
+-- B revokes the carve: it dies, and the slot is in use still.
+after-revoke : bookAfter (sizes 2 4) (example ++ (Call.Revoke (dom 1) 0 ∷ []))
+    ≡ record {
+      width = 4;
+      regions = reg Root 0 0 16 3 true ∷ reg (Carve 0) 1 4 8 1 false ∷ reg (Alias 0) 0 0 4 3 true ∷ [];
+      lists = slots (some (domainOf 1) ∷ some (regionOf 0) ∷ none ∷ some (regionOf 2) ∷ []) (2 ∷ []) ∷ slots (some emptied ∷ none ∷ none ∷ none ∷ []) (1 ∷ 2 ∷ 3 ∷ []) ∷ [];
+    }
+unfolding noting
+after-revoke = refl
+
+-- A full list is swept "in rising order", so slot 1 is given.
+after-sweep : bookAfter (sizes 1 2) (Call.Open none 0 ∷ Call.Channel (dom 0) (dom 0) ∷ Call.Channel (dom 0) (dom 0) ∷ Call.Revoke (dom 0) 0 ∷ Call.Revoke (dom 0) 1 ∷ Call.Channel (dom 0) (dom 0) ∷ [])
+    ≡ record { width = 2; regions = []; lists = slots (none ∷ some (domainOf 0) ∷ []) (0 ∷ []) ∷ [] }
+unfolding noting
+after-sweep = refl
+
+-- "Making empties it."
+after-making : bookAfter (sizes 2 4) (example ++ (Call.Make (sizes 2 4) ∷ [])) ≡ blank (sizes 2 4)
+unfolding noting
+after-making = refl

@@ -1,0 +1,20 @@
+-- The book of demand 3 and what is claimed of it come first; the rest is the proof.
+pub mod Book
+pub mod Demand3
+pub mod Small
+pub mod Match
+pub mod Keep
+pub mod Grow
+pub mod Create
+pub mod Move
+pub mod Paired
+pub mod Weigh
+pub mod Claim
+pub mod Gens
+pub mod Dying
+pub mod Kill
+pub mod Revoke
+pub mod Run
+pub mod Theorem
+pub mod Lent
+pub mod Example
