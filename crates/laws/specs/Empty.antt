@@ -16,7 +16,7 @@ use Rattle.laws.specs.Cases.{lt, ge, cmp, ltb-t, ltb-f, eqb-t, eqb-f}
 none-some : {A : Type 0} (x : A) → _≡_ {A = Option A} none (some x) → ⊥
 none-some x p = let z : _≡_ {A = ℕ} 0 1 = cc in omega arith
 
-free-slot : {A : Type 0} (n i : ℕ) → slotOf {A = A} (replicate n none) i ≡ none
+pub free-slot : {A : Type 0} (n i : ℕ) → slotOf {A = A} (replicate n none) i ≡ none
 free-slot zero i = refl
 free-slot (suc n) zero = refl
 free-slot (suc n) (suc i) = free-slot n i

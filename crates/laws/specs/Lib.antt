@@ -7,6 +7,7 @@ pub mod Stack
 pub mod Tracker
 pub mod Tree
 pub mod Kept
+pub mod KeptCalls
 pub mod Keep
 pub mod CallRefusals
 pub mod Capas

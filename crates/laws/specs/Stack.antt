@@ -38,18 +38,18 @@ same-stack (x ∷ a) (y ∷ b) c o f n =
 -- ---- the free stack of n slots, from the links
 
 -- Is a slot on the stack? It is counted, and so it has a link.
-any-count : (l : List ℕ) (i : ℕ) → any (eqb i) l ≡ ltb 0 (count (eqb i) l)
-any-count [] i = refl
-any-count (x ∷ l) i = elim (test (eqb i x)) [
-  | holds t ↦ rw t (sym (ltb-t 0 (1 + count (eqb i) l) (omega arith)))
-  | fails t ↦ rw t (any-count l i ∙ ap (ltb 0) (sym (zero-add (count (eqb i) l))))
+pub any-count : {A : Type 0} (p : A → Bool) (l : List A) → any p l ≡ ltb 0 (count p l)
+any-count p [] = refl
+any-count p (x ∷ l) = elim (test (p x)) [
+  | holds t ↦ rw t (sym (ltb-t 0 (1 + count p l) (omega arith)))
+  | fails t ↦ rw t (any-count p l ∙ ap (ltb 0) (sym (zero-add (count p l))))
 ]
 
-link-in : (l : List ℕ) (i : ℕ) → 0 < count (eqb i) l → freeLink l i ≡ suc (slotOr0 (afterIn l i))
-link-in l i h = rw (any-count l i ∙ ltb-t 0 (count (eqb i) l) h)
+pub link-in : (l : List ℕ) (i : ℕ) → 0 < count (eqb i) l → freeLink l i ≡ suc (slotOr0 (afterIn l i))
+link-in l i h = rw (any-count (eqb i) l ∙ ltb-t 0 (count (eqb i) l) h)
 
-link-out : (l : List ℕ) (i : ℕ) → count (eqb i) l ≡ 0 → freeLink l i ≡ 0
-link-out l i h = rw (any-count l i ∙ ltb-f 0 (count (eqb i) l) (omega arith))
+pub link-out : (l : List ℕ) (i : ℕ) → count (eqb i) l ≡ 0 → freeLink l i ≡ 0
+link-out l i h = rw (any-count (eqb i) l ∙ ltb-f 0 (count (eqb i) l) (omega arith))
 
 -- so its link says how often it is there
 linked : (l : List ℕ) (i : ℕ) → count (eqb i) l ≤ 1 → count (eqb i) l ≡ oneIf (ltb 0 (freeLink l i))

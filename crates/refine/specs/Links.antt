@@ -43,17 +43,6 @@ link-top i l = rw (eqb-t i i refl)
 pub link-under : (i j : ℕ) (l : List ℕ) → j ≢ i → freeLink (i ∷ l) j ≡ freeLink l j
 link-under i j l h = rw (eqb-f j i h, eqb-f i j (λ e. h (sym e)))
 
-pub link-out : (l : List ℕ) (i : ℕ) → count (eqb i) l ≡ 0 → freeLink l i ≡ 0
-link-out [] i h = refl
-link-out (x ∷ l) i h = link-under x i l (λ e. omega (arith, one i x e)) ∙ link-out l i (omega arith)
-
-pub link-in : (l : List ℕ) (i : ℕ) → 0 < count (eqb i) l → 0 < freeLink l i
-link-in [] i h = absurd (omega arith)
-link-in (x ∷ l) i h = elim (ℕ-discrete i x) [
-  | yes e ↦ rw e (omega (arith, link-top x l))
-  | no ne ↦ omega (arith, link-under x i l ne, link-in l i (omega (arith, ap oneIf (eqb-f i x ne))))
-]
-
 -- ---- the stack k, k + 1, .. of n slots
 
 pub up-link : (i k n : ℕ) → k ≤ i → suc i < k + n → freeLink (countUp k n) i ≡ suc (suc i)

@@ -20,6 +20,7 @@ use Rattle.tables.specs.View.{layout}
 use Rattle.arena.specs.Arena.{freshLink, linksFrom, newArena}
 use Rattle.making.specs.Empty.{empty, emptyDomain}
 use Rattle.refine.specs.Rows.{same-up, replicate-up}
+use Rattle.laws.specs.Empty.{free-slot}
 use Rattle.refine.specs.Links.{up-link, up-last}
 use Rattle.refine.specs.Tables.{sizesFor, poolOf, freeSlot, slotFor, slotsFor, domainFor, regionFor, recordIn, placeFor, domainsFor, regionsFor, recordsFor, ringFor, tablesOf}
 use Rattle.refine.specs.Words.{layout-tables}
@@ -45,11 +46,6 @@ fresh-link n i h = elim (cmp (suc i) n) [
       let m : (i + 1) % n ≡ 0 = ap (λ (x : ℕ). x % n) (omega arith) ∙ add-mod-right 0 n ∙ mod-eq-of-lt (omega arith) in
       up-last i 0 n (omega arith) (omega arith) ∙ omega (arith, m)
 ]
-
-free-slot : {A : Type 0} (n i : ℕ) → slotOf {A = A} (replicate n none) i ≡ none
-free-slot zero i = refl
-free-slot (suc n) zero = refl
-free-slot (suc n) (suc i) = free-slot n i
 
 -- a free slot's link names the slot after it
 after-link : (l : List ℕ) (i k : ℕ) → freeLink l i ≡ suc k → slotOr0 (afterIn l i) ≡ k

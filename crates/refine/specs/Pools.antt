@@ -15,7 +15,7 @@ use Rattle.model.specs.Pool.{allocate, free, handleOf, isLive}
 use Rattle.model.specs.Layout.{slotOr0, freeLink}
 use Rattle.model.specs.Sound.{OnceEach, PoolSound, inUse}
 use Rattle.laws.specs.Cases.{lt, ge, cmp, ltb-t, ltb-f, eqb-t, eqb-f, holds, fails, test}
-use Rattle.laws.specs.Stack.{one, once-at-most, none-beyond}
+use Rattle.laws.specs.Stack.{one, once-at-most, none-beyond, link-in, link-out}
 use Rattle.words.specs.Cases.{pick}
 use Rattle.tables.specs.declared.Handle.{Handle}
 use Rattle.arena.specs.declared.Given.{Given}
@@ -25,7 +25,7 @@ use Rattle.arena.specs.declared.Freed.the-variants.{Done, Spent}
 use Rattle.arena.specs.Arena.{headLink, given, taken, pushed, allocated, heldB, raisableB, answerTo, freesB, freed, liveB, capacityOf}
 use Rattle.refine.specs.Sizes.{and-both}
 use Rattle.refine.specs.Rows.{map-up-length, getD-up, set-up}
-use Rattle.refine.specs.Links.{link-top, link-under, link-out, link-in}
+use Rattle.refine.specs.Links.{link-top, link-under}
 use Rattle.refine.specs.Free.{free-fits, free-room, free-below, used-not-free}
 use Rattle.refine.specs.Tables.{handleFor, poolOf}
 

@@ -17,7 +17,8 @@ use Rattle.model.specs.Making.{goodSizes}
 use Rattle.model.specs.Sound.{Sound, QueueSound, QueuedLive, Singly, UpdateWords}
 use Rattle.laws.specs.Accepted.{All, accepted, checked, branch-on}
 use Rattle.laws.specs.Cases.{lt, ge, cmp, ltb-t, eqb-t, eqb-f}
-use Rattle.laws.specs.Tree.Slots.{in-length, is-live, any-count}
+use Rattle.laws.specs.Stack.{any-count}
+use Rattle.laws.specs.Tree.Slots.{in-length, is-live}
 use Rattle.laws.specs.Keep.Tracked.{domain-at}
 
 pub record Ring (s : State) : Type 0 where

@@ -17,7 +17,8 @@ use Rattle.model.specs.Sound.{names}
 use Rattle.laws.specs.Cases.{within, W, within-lo, within-in, within-hi, lt, ge, cmp, below, inside, above, pos, is-true, is-false, ltb-t, ltb-f, within-same, Test, test}
 use Rattle.laws.specs.Tracker.Fields.{Field, get, counter}
 use Rattle.laws.specs.Tree.Sum.{sum, sum-same, sum-front}
-use Rattle.laws.specs.Tree.Slots.{count-sum, any-count}
+use Rattle.laws.specs.Stack.{any-count}
+use Rattle.laws.specs.Tree.Slots.{count-sum}
 
 -- ---- the five counts over the regions
 

@@ -37,13 +37,6 @@ pub count-sum : {A : Type 0} (p : Option A → Bool) (l : List (Option A)) → c
 count-sum p [] = refl
 count-sum p (x ∷ l) = omega (arith, count-sum p l, sum-front (λ k. oneIf (p (slotOf (x ∷ l) k))) (length l))
 
-pub any-count : {A : Type 0} (p : A → Bool) (l : List A) → any p l ≡ ltb 0 (count p l)
-any-count p [] = refl
-any-count p (x ∷ l) = elim (test (p x)) [
-  | holds t ↦ rw t (sym (ltb-t 0 (1 + count p l) (omega arith)))
-  | fails t ↦ rw t (any-count p l ∙ ap (ltb 0) (sym (zero-add (count p l))))
-]
-
 -- ---- members of a list of slot numbers: k is there as often as `count` says
 
 pub each-in : (P : ℕ → Type 0) (l : List ℕ) → Each P l → (k : ℕ) → 0 < count (eqb k) l → P k

@@ -1,0 +1,175 @@
+-- A law: no call but making changes the sizes or the length of a table.
+use mathlib.Core.Path.{_≡_, refl, ap, _∙_}
+use mathlib.Core.Logic.{_≢_}
+use Prim.Native.Nat.{ℕ}
+use mathlib.Core.Option.{Option, none, some}
+use mathlib.Core.List.{List, [], _∷_}
+use lib.Dec.{eqb, eqb→eq}
+use lib.ListN.{length, length-set}
+use Rattle.model.specs.Lists.{Each}
+use Rattle.model.specs.Outcome.{Outcome, ok, refuse}
+use Rattle.laws.specs.Accepted.{All, accepted, refused, bind, bind-any, and-then, branch, checked}
+use Rattle.model.specs.State.{State, Sizes, Handle, Capa, noCapa, region, regionRevoke, management, channel, Kind, Root, Alias, Carve, Access, Update}
+use Rattle.model.specs.Pool.{free, isLive}
+use Rattle.model.specs.Updates.{pop}
+use Rattle.model.specs.Tree.{insertChild}
+use Rattle.model.specs.Calls.{roomForRegion, newDomain, openDomain, openChannel, setCores, createRootRegion, addChild, aliasRegion, exchangeRights, carveRegion, sendCapa, send, revokeUnlessRoot, revokeCapa, revoke, createRevokeCapa}
+use Rattle.model.specs.Perform.{Call, Reply, makeAnew, perform, after, step, run}
+use Rattle.model.specs.Making.{makeTables}
+use Rattle.model.specs.Layout.{lengthFor}
+use Rattle.laws.specs.Kept.{Kept, allocate-same, same, trans, Kept₁, put-domain, put-region, capacity-kept, insert-kept, remove-kept, empty-kept, activate-kept, deactivate-kept, and-so, and-so₁, new-region-kept, send-region-kept, revoke-region-kept}
+
+room-kept : (d : ℕ) (a : Access) (s : State) → All (Kept s) (roomForRegion d a s)
+unfolding roomForRegion
+room-kept d a s = and-then _ (bind (capacity-kept d s) (λ s₁ k. and-then _ (accepted k)))
+
+new-domain-kept : (m : Option ℕ) (c : ℕ) (s : State) → All (Kept₁ s) (newDomain m c s)
+unfolding newDomain
+new-domain-kept m c s = bind (allocate-same _ (s .domainPool .gens) (s .domainPool .free)) (λ x h. accepted (record { sizes = refl; domains = length-set (s .domains) (x .0) _; regions = refl; domainGens = h; regionGens = refl; recordGens = refl }))
+
+open-kept : (m : Option Handle) (c : ℕ) (s : State) → All (Kept₁ s) (openDomain m c s)
+unfolding openDomain
+open-kept none c s = bind (new-domain-kept none c s) (λ x k. accepted k)
+open-kept (some h) c s =
+    bind-any _ (λ m.
+    bind (new-domain-kept (some m) c s) (λ x j.
+    bind (and-so j (capacity-kept m (x .1))) (λ s₂ k.
+    bind (and-so₁ k (insert-kept m _ s₂)) (λ y l. accepted l))))
+
+channel-kept : (h to : Handle) (s : State) → All (Kept₁ s) (openChannel h to s)
+unfolding openChannel
+channel-kept h to s = bind-any _ (λ d. bind-any _ (λ t. bind (capacity-kept d s) (λ s₁ k. and-so₁ k (insert-kept d _ s₁))))
+
+cores-kept : (h : Handle) (c : ℕ) (s : State) → All (Kept s) (setCores h c s)
+unfolding setCores
+cores-kept h c s = bind-any _ (λ d. accepted (put-domain d _ s))
+
+root-kept : (h : Handle) (a : Access) (s : State) → All (Kept₁ s) (createRootRegion h a s)
+unfolding createRootRegion
+root-kept h a s =
+    bind-any _ (λ d.
+    bind (room-kept d a s) (λ s₁ i.
+    bind (and-so₁ i (new-region-kept d Root a s₁)) (λ x j.
+    bind (and-so₁ j (insert-kept d _ (x .1))) (λ y k.
+    bind (and-so k (activate-kept d a (y .1))) (λ s₄ l. accepted l)))))
+
+child-kept : (d p : ℕ) (k : Kind) (a : Access) (s : State) → All (Kept₁ s) (addChild d p k a s)
+unfolding addChild insertChild
+child-kept d p k a s = bind (new-region-kept d k a s) (λ x j. and-so₁ (trans s (x .1) _ (put-region p _ (x .1)) j) (insert-kept d _ _))
+
+alias-kept : (h : Handle) (l : ℕ) (a : Access) (s : State) → All (Kept₁ s) (aliasRegion h l a s)
+unfolding aliasRegion
+alias-kept h l a s =
+    bind-any _ (λ d.
+    bind-any _ (λ p.
+    bind (room-kept d a s) (λ s₁ i.
+    and-then _ (bind (and-so₁ i (child-kept d p (Alias p) a s₁)) (λ x j.
+    bind (and-so j (activate-kept d a (x .1))) (λ s₃ k. accepted k))))))
+
+exchange-kept : (d old : ℕ) (a : Access) (s : State) → All (Kept s) (exchangeRights d old a s)
+unfolding exchangeRights
+exchange-kept d old a s = branch (eqb old (a .rights)) (accepted (same s)) (bind (deactivate-kept d _ s) (λ s₁ k. and-so k (activate-kept d a s₁)))
+
+carve-kept : (h : Handle) (l : ℕ) (a : Access) (s : State) → All (Kept₁ s) (carveRegion h l a s)
+unfolding carveRegion
+carve-kept h l a s =
+    bind-any _ (λ d.
+    bind-any _ (λ p.
+    bind (room-kept d a s) (λ s₁ i.
+    and-then _ (bind (and-so₁ i (child-kept d p (Carve p) a s₁)) (λ x j.
+    bind (and-so j (exchange-kept d _ a (x .1))) (λ s₃ k. accepted k))))))
+
+send-capa-kept : (c : Capa) (to : ℕ) (s : State) → All (Kept s) (sendCapa c to s)
+unfolding sendCapa
+send-capa-kept noCapa to s = accepted (same s)
+send-capa-kept (region h) to s = bind-any _ (λ i. send-region-kept i to s)
+send-capa-kept (regionRevoke h) to s = accepted (same s)
+send-capa-kept (management h) to s = refused
+send-capa-kept (channel h) to s = accepted (same s)
+
+send-kept : (h : Handle) (l t : ℕ) (s : State) → All (Kept₁ s) (send h l t s)
+unfolding send
+send-kept h l t s =
+    bind-any _ (λ d.
+    bind-any _ (λ c.
+    bind-any _ (λ k.
+    bind-any _ (λ to.
+    bind (capacity-kept to s) (λ s₁ i.
+    bind-any _ (λ c′.
+    bind (and-so i (send-capa-kept c′ to s₁)) (λ s₂ j.
+    and-so₁ (trans s s₂ _ (remove-kept d l s₂) j) (insert-kept to c′ _))))))))
+
+unless-root-kept : (i : ℕ) (s : State) → All (Kept s) (revokeUnlessRoot i s)
+unfolding revokeUnlessRoot
+unless-root-kept i s = and-then _ (revoke-region-kept _ i s)
+
+revoke-capa-kept : (c : Capa) (s : State) → All (Kept s) (revokeCapa c s)
+unfolding revokeCapa
+revoke-capa-kept noCapa s = accepted (same s)
+revoke-capa-kept (region h) s = bind-any _ (λ i. unless-root-kept i s)
+revoke-capa-kept (regionRevoke h) s = branch (isLive (s .regionPool) (s .regions) h) (unless-root-kept (h .slot) s) (accepted (same s))
+revoke-capa-kept (management h) s = refused
+revoke-capa-kept (channel h) s = accepted (same s)
+
+revoke-kept : (h : Handle) (l : ℕ) (s : State) → All (Kept s) (revoke h l s)
+unfolding revoke
+revoke-kept h l s = bind-any _ (λ d. bind-any _ (λ c. bind (revoke-capa-kept c s) (λ s₁ k. accepted (trans s s₁ _ (empty-kept d l s₁) k))))
+
+make-revoke-kept : (h : Handle) (l : ℕ) (s : State) → All (Kept₁ s) (createRevokeCapa h l s)
+unfolding createRevokeCapa
+make-revoke-kept h l s = bind-any _ (λ d. bind-any _ (λ i. and-then _ (bind (capacity-kept d s) (λ s₁ k. and-so₁ k (insert-kept d _ s₁)))))
+
+pop-kept : (s : State) (us : List Update) → s .queue .items ≡ us → Kept s (pop s .1)
+unfolding pop
+pop-kept s [] e = rw (e, pop) (record { sizes = refl; domains = refl; regions = refl; domainGens = refl; regionGens = refl; recordGens = refl })
+pop-kept s (u ∷ us) e = rw (e, pop) (record { sizes = refl; domains = refl; regions = refl; domainGens = refl; regionGens = refl; recordGens = refl })
+
+-- a call that is no making
+abbrev pub NotMake : Call → Type 0
+NotMake c = (z : Sizes) → c ≢ Call.Make z
+
+-- No call but making changes the sizes or the length of a table.
+pub perform-kept : (s : State) (c : Call) → NotMake c → All (Kept₁ s) (perform s c)
+unfolding perform
+perform-kept s (Call.Make z) n = absurd (n z refl)
+perform-kept s (Call.Open m c) n = bind (open-kept m c s) (λ x k. accepted k)
+perform-kept s (Call.Channel h to) n = bind (channel-kept h to s) (λ x k. accepted k)
+perform-kept s (Call.SetCores h c) n = bind (cores-kept h c s) (λ x k. accepted k)
+perform-kept s (Call.Root h a) n = bind (root-kept h a s) (λ x k. accepted k)
+perform-kept s (Call.Alias h l a) n = bind (alias-kept h l a s) (λ x k. accepted k)
+perform-kept s (Call.Carve h l a) n = bind (carve-kept h l a s) (λ x k. accepted k)
+perform-kept s (Call.Send h l t) n = bind (send-kept h l t s) (λ x k. accepted k)
+perform-kept s (Call.Revoke h l) n = bind (revoke-kept h l s) (λ x k. accepted k)
+perform-kept s (Call.MakeRevoke h l) n = bind (make-revoke-kept h l s) (λ x k. accepted k)
+perform-kept s Call.Pop n = bind {P = Kept₁ s} (accepted (pop-kept s _ refl)) (λ x k. accepted k)
+perform-kept s (Call.Permissions h) n = bind-any _ (λ x. accepted (same s))
+perform-kept s (Call.Refcount h a b) n = bind-any _ (λ x. accepted (same s))
+perform-kept s (Call.CoreMap h) n = bind-any _ (λ x. accepted (same s))
+perform-kept s (Call.Holders a) n = accepted (same s)
+
+after-kept : (s : State) (m : Outcome (Reply × State)) → All (Kept₁ s) m → Kept s (after s m .1)
+after-kept s (ok x) (accepted h) = h
+after-kept s (refuse r) refused = same s
+
+pub step-kept : (s : State) (c : Call) → NotMake c → Kept s (step s c .1)
+unfolding step
+step-kept s c n = after-kept s _ (perform-kept s c n)
+
+pub run-kept : (s : State) (cs : List Call) → Each NotMake cs → Kept s (run s cs .1)
+unfolding run
+run-kept s [] n = same s
+run-kept s (c ∷ cs) n = trans s (step s c .1) _ (run-kept (step s c .1) cs (n .1)) (step-kept s c (n .0))
+
+-- ---- the length of the tables, which making keeps too
+
+-- as many words
+abbrev pub SameLength : State → State → Type 0
+SameLength s t = lengthFor (t .sizes) ≡ lengthFor (s .sizes)
+
+made-sizes : (z : Sizes) → All (λ (t : State). t .sizes ≡ z) (makeTables z)
+unfolding makeTables
+made-sizes z = and-then _ (accepted refl)
+
+anew-length : (z : Sizes) (s : State) → All (SameLength s) (makeAnew z s)
+unfolding makeAnew
+anew-length z s = bind (made-sizes z) (λ t e. checked (eqb (lengthFor z) (lengthFor (s .sizes))) _ (λ k. accepted (ap lengthFor e ∙ eqb→eq _ _ k)))
