@@ -2,7 +2,7 @@
 use mathlib.Core.Path.{_≡_, refl, sym, ap, _∙_}
 use mathlib.Core.List.{List, [], _∷_, _++_, append-assoc}
 use Prim.Native.Nat.{ℕ, zero, suc, _+_, _-_, _*_, _≤_, _<_}
-use native.Mathlib.Nat.{zero-mul, mul-le-mul-right}
+use native.Mathlib.Nat.{mul-le-mul-right}
 use native.Mathlib.Numerals.{add-one}
 use native.Mathlib.Omega.{arith}
 use borrow.Author.Tests.{lt-ltb}
@@ -10,7 +10,7 @@ use borrow.Rule.Slice.PartMut.{putMid}
 use lib.ListN.{length, getD, set, take, drop, replicate, length-take, length-drop, length-set, List·getD-eq-default}
 use lib.Seq.{sets, length-sets, take-all, take-suc, take-suc-set, set-at, drop-drop, getD-take, getD-set-same, getD-set-other}
 use Rattle.words.specs.Runs.{part, part-at, part-drop, length-part, fetched-in, stored, stored-in, lent-back, take-sets-le, take-sets-lt, drop-sets-lt, drop-sets-add, getD-before}
-use Rattle.words.specs.Rows.{rows, length-rows, getD-rows, rows-store}
+use Rattle.words.specs.Rows.{rows, length-rows, getD-rows, rows-store, rows-more}
 use Rattle.words.specs.Cuts.{cuts, offset}
 use Rattle.tables.specs.declared.sizes.Sizes.{Sizes}
 use Rattle.tables.specs.declared.Slot.{Slot}
@@ -30,13 +30,6 @@ pub slot-read : (p : List ℕ) (a : ℕ) → record { kind = getD p a 0; handle 
 slot-read p a =
     let e : a + 0 ≡ a = omega arith in
     rw (part-at p a 3 0 (omega arith), part-at p a 3 1 (omega arith), part-at p a 3 2 (omega arith), e)
-
-rows-more : {A : Type 0} (w n : ℕ) (f : List ℕ → A) (l : List ℕ) → rows w (suc n) f l ≡ rows w n f l ++ (f (part l (n * w) w) ∷ [])
-unfolding rows part
-rows-more w zero f l = rw zero-mul
-rows-more w (suc n) f l =
-    let e : suc n * w ≡ w + n * w = omega arith in
-    rw e (ap (λ r. f (take w l) ∷ r) (rows-more w n f (drop w l) ∙ rw (drop-drop (n * w) w l)))
 
 -- the first i of n slots are read
 abbrev pub readTo : List ℕ → ℕ → List Slot

@@ -5,13 +5,11 @@ use Prim.Native.Nat.{ℕ, _+_, _-_, _*_, _≤_, _<_}
 use native.Mathlib.Omega.{arith}
 use borrow.Rule.Slice.PartMut.{putMid}
 use lib.ListN.{length, getD, set, take, drop}
-use lib.Seq.{sets, take-all}
-use Rattle.words.specs.Runs.{part, lent-back, sets-all}
-use Rattle.words.specs.Cuts.{cuts, offset, cuts-part}
+use Rattle.words.specs.Cuts.{cuts, offset}
 use Rattle.tables.specs.declared.sizes.Sizes.{Sizes}
 use Rattle.tables.specs.Tables.{Tables, Arena, withDomainPool, withRegionPool, withRecordPool}
 use Rattle.tables.specs.View.{sizesOf, view, widths, poolWidth, ofParts, Sized, Left, arenaOf}
-use Rattle.tables.specs.Sections.{section, section-length, section-inside, only-sets, only-left, section-sets}
+use Rattle.tables.specs.Sections.{section, section-inside, section-lent, section-back, only-left}
 use Rattle.pools.specs.declared.Pool.{Pool}
 use Rattle.pools.specs.declared.Pool.the-variants.{Domains, Regions, Records}
 use Rattle.pools.specs.declared.Span.{Span}
@@ -75,34 +73,16 @@ pool-at t q o n s eo en =
     record { slots = en; start = eo; end = omega arith; inside = omega (arith, section-inside t (poolSection q) s) }
 
 module _ (t : List ℕ) (q : Pool) (r : Span) (s : Sized t) (at : PoolAt t q r) where
-  width : getD (widths (sizesOf t)) (poolSection q) 0 ≡ poolWidth (r .slots)
-  width = pool-width (sizesOf t) q ∙ rw (← at .slots)
-
-  lent : take (r .end - r .start) (drop (r .start) t) ≡ section t (poolSection q)
-  unfolding part
-  lent =
-      let o = offset (widths (sizesOf t)) (poolSection q) in
-      let n = r .end - r .start in
-      let e : n ≡ poolWidth (r .slots) = omega (arith, at .end) in
-      let e₂ : r .start ≡ o + 0 = omega (arith, at .start) in
-      ap (λ (y : ℕ). take n (drop y t)) e₂
-      ∙ sym (cuts-part (widths (sizesOf t)) t (poolSection q) 0 n (omega (arith, width)))
-      ∙ take-all n (section t (poolSection q)) (omega (arith, section-length t (poolSection q) s, width))
+  end-at : r .end ≡ r .start + getD (widths (sizesOf t)) (poolSection q) 0
+  end-at = at .end ∙ ap (λ (w : ℕ). r .start + w) (sym (pool-width (sizesOf t) q ∙ rw (← at .slots)))
 
   pub pool-read : arenaOf (r .slots) (take (r .end - r .start) (drop (r .start) t)) ≡ poolOf (view t) q
-  pool-read = rw (lent, at .slots) (pool-seen t q)
+  pool-read = rw (section-lent t (poolSection q) (r .start) (r .end) s (at .start) end-at, at .slots) (pool-seen t q)
 
   pub pool-back : (p : List ℕ) (x : Arena) → length p ≡ length (take (r .end - r .start) (drop (r .start) t)) → arenaOf (r .slots) p ≡ x
       → Left (putMid (r .start) (r .end - r .start) t p) (withPool (view t) q x)
   pool-back p x hp e =
-      let o = offset (widths (sizesOf t)) (poolSection q) in
       let past = pool-past t q in
-      let n : length p ≡ getD (widths (sizesOf t)) (poolSection q) 0 = hp ∙ ap length lent ∙ section-length t (poolSection q) s in
-      let e₂ : putMid (r .start) (r .end - r .start) t p ≡ sets t (o + 0) p =
-      lent-back t p (r .start) (r .end - r .start) (poolWidth (r .slots)) (omega (arith, at .end)) (n ∙ width) (omega (arith, at .end, at .inside))
-      ∙ ap (λ (y : ℕ). sets t y p) (omega (arith, at .start)) in
-      let fresh : sets (section t (poolSection q)) 0 p ≡ p = sets-all p (section t (poolSection q)) (section-length t (poolSection q) s ∙ sym n) in
-      rw e₂
-      (only-left t (sets t (o + 0) p) (poolSection q) (withPool (view t) q x) s
-      (only-sets t p (poolSection q) 0 (past .0) (omega arith) (omega arith))
-      (rw (section-sets t p (poolSection q) 0 (past .0) (omega arith), fresh) (pool-changed t p q x (rw (← at .slots) e))))
+      let b = section-back t (poolSection q) (r .start) (r .end) s (at .start) end-at p (past .0) (omega (arith, past .1, at .start)) hp in
+      only-left t (putMid (r .start) (r .end - r .start) t p) (poolSection q) (withPool (view t) q x) s (b .0)
+      (rw (b .1) (pool-changed t p q x (rw (← at .slots) e)))

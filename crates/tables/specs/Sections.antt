@@ -1,12 +1,13 @@
 -- Sections of the tables: a store in one changes the view there and nowhere else.
 use mathlib.Core.Path.{_≡_, refl, sym, ap, _∙_}
 use mathlib.Core.List.{List, []}
-use Prim.Native.Nat.{ℕ, _+_, _≤_, _<_}
+use Prim.Native.Nat.{ℕ, _+_, _-_, _≤_, _<_}
 use native.Mathlib.Omega.{arith}
-use lib.ListN.{length, getD, set}
-use lib.Seq.{sets, length-sets, set-getD, getD-set-same}
-use Rattle.words.specs.Runs.{getD-before}
-use Rattle.words.specs.Cuts.{cuts, offset, offset-inside, cuts-sets, length-cut}
+use borrow.Rule.Slice.PartMut.{putMid}
+use lib.ListN.{length, getD, set, take, drop}
+use lib.Seq.{sets, length-sets, set-getD, getD-set-same, take-all}
+use Rattle.words.specs.Runs.{part, getD-before, sets-all, lent-back}
+use Rattle.words.specs.Cuts.{cuts, offset, offset-inside, cuts-sets, cuts-part, length-cut}
 use Rattle.tables.specs.Tables.{Tables}
 use Rattle.tables.specs.View.{sizesOf, view, widths, total, ofParts, Sized, Left}
 
@@ -63,3 +64,27 @@ only-left t u k s z o e =
 pub section-inside : (t : List ℕ) (k : ℕ) → Sized t → offset (widths (sizesOf t)) k + getD (widths (sizesOf t)) k 0 ≤ length t
 unfolding total
 section-inside t k s = rw (s .exact) (offset-inside (widths (sizesOf t)) k)
+
+-- ---- a section lent as the words from a up to e
+
+module _ (t : List ℕ) (k a e : ℕ) (s : Sized t) (start : a ≡ offset (widths (sizesOf t)) k) (end : e ≡ a + getD (widths (sizesOf t)) k 0) where
+  pub section-lent : take (e - a) (drop a t) ≡ section t k
+  unfolding part
+  section-lent =
+      let n = e - a in
+      let e₁ : a ≡ offset (widths (sizesOf t)) k + 0 = omega arith in
+      ap (λ (y : ℕ). take n (drop y t)) e₁
+      ∙ sym (cuts-part (widths (sizesOf t)) t k 0 n (omega arith))
+      ∙ take-all n (section t k) (omega (arith, section-length t k s))
+
+  -- p comes back
+  pub section-back : (p : List ℕ) → k < 8 → 5 ≤ a → length p ≡ length (take (e - a) (drop a t))
+      → Only t (putMid a (e - a) t p) k × (getD (cuts (widths (sizesOf t)) (putMid a (e - a) t p)) k [] ≡ p)
+  section-back p hk h5 hp =
+      let o = offset (widths (sizesOf t)) k in
+      let w = getD (widths (sizesOf t)) k 0 in
+      let n : length p ≡ w = hp ∙ ap length section-lent ∙ section-length t k s in
+      let e₂ : putMid a (e - a) t p ≡ sets t (o + 0) p =
+      lent-back t p a (e - a) w (omega arith) n (omega (arith, section-inside t k s)) ∙ ap (λ (y : ℕ). sets t y p) (omega arith) in
+      let fresh : sets (section t k) 0 p ≡ p = sets-all p (section t k) (section-length t k s ∙ sym n) in
+      rw e₂ (only-sets t p k 0 hk (omega arith) (omega arith), section-sets t p k 0 hk (omega arith) ∙ fresh)

@@ -1,10 +1,10 @@
 -- A list of places fitted to another length, and filled so place by place.
 use Prim.Native.Nat.{ℕ, zero, suc, _+_, _<_, _≤_}
-use mathlib.Core.Path.{_≡_, refl, sym, _∙_}
-use mathlib.Core.List.{List, [], _∷_}
+use mathlib.Core.Path.{_≡_, refl, sym, ap, _∙_}
+use mathlib.Core.List.{List, [], _∷_, _++_}
 use native.Mathlib.Decide.{ℕ-discrete}
 use native.Mathlib.Omega.{arith}
-use lib.ListN.{length, getD, set, length-set}
+use lib.ListN.{length, getD, set, replicate, length-set}
 use lib.Seq.{ext-getD, getD-set-same, getD-set-other}
 use Rattle.tables.specs.declared.Update.{Update}
 use Rattle.tables.specs.Tables.{noUpdate}
@@ -28,6 +28,28 @@ getD-fitted (suc n) [] zero h = refl
 getD-fitted (suc n) (u ∷ ps) zero h = refl
 getD-fitted (suc n) [] (suc k) h = getD-fitted n [] k (omega arith)
 getD-fitted (suc n) (u ∷ ps) (suc k) h = getD-fitted n ps k (omega arith)
+
+pub fitted-empty : (n : ℕ) → fitted n [] ≡ replicate n noUpdate
+unfolding fitted
+fitted-empty zero = refl
+fitted-empty (suc n) = ap (λ (l : List Update). noUpdate ∷ l) (fitted-empty n)
+
+-- one place more
+pub fitted-more : (n : ℕ) (ps : List Update) (u : Update) (i : ℕ) → length ps ≡ i → i < n → set (fitted n ps) i u ≡ fitted n (ps ++ (u ∷ []))
+unfolding fitted
+fitted-more zero ps u i e h = absurd (omega arith)
+fitted-more (suc n) [] u zero e h = refl
+fitted-more (suc n) [] u (suc i) e h = absurd (omega arith)
+fitted-more (suc n) (p ∷ ps) u zero e h = absurd (omega arith)
+fitted-more (suc n) (p ∷ ps) u (suc i) e h = ap (λ (l : List Update). p ∷ l) (fitted-more n ps u i (omega arith) (omega arith))
+
+-- a place that is there is set
+pub fitted-set : (n : ℕ) (ps : List Update) (i : ℕ) (u : Update) → i < length ps → fitted n (set ps i u) ≡ set (fitted n ps) i u
+unfolding fitted
+fitted-set zero ps i u h = refl
+fitted-set (suc n) [] i u h = absurd (omega arith)
+fitted-set (suc n) (p ∷ ps) zero u h = refl
+fitted-set (suc n) (p ∷ ps) (suc i) u h = ap (λ (l : List Update). p ∷ l) (fitted-set n ps i u (omega arith))
 
 -- fitted to more places and back
 pub fitted-back : (m n : ℕ) (ps : List Update) → length ps ≡ m → m ≤ n → fitted m (fitted n ps) ≡ ps

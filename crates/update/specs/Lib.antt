@@ -5,4 +5,5 @@ pub mod Turns
 pub mod Queue
 pub mod Search
 pub mod Sizes
+pub mod Changes
 pub mod Laid

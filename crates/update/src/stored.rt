@@ -1,58 +1,153 @@
-// The ring in the tables: loaded, lent to the steps, and stored again.
+// The ring in the tables: loaded, lent to the steps, and stored where they changed it.
 ghost use mathlib.Core.Path.{_≡_};
-ghost use Rattle.tables.specs.View.{view, Sized, Left};
-ghost use Rattle.update.specs.Ring.{cleanupOf, pushOf, popOf, markOf};
-ghost use Rattle.update.specs.Stored.{ringOf, withRingOf};
+ghost use Prim.Native.Nat.{_+_, _*_, _≤_};
+ghost use lib.ListN.{length};
+ghost use lib.Seq.{sets};
+ghost use Rattle.words.specs.Runs.{part};
+ghost use Rattle.words.specs.Rows.{rows};
+ghost use Rattle.tables.specs.Tables.{withPlaces, withUpdate};
+ghost use Rattle.tables.specs.View.{view, Sized, Left, updateOf, updateWords};
+ghost use Rattle.update.specs.Ring.{cap, cleanupOf, pushOf, popOf, markOf};
+ghost use Rattle.update.specs.Fitted.{fitted};
+ghost use Rattle.update.specs.Stored.{ringOf, withRingOf, ringIn, RingAt};
 use crate::Item;
 use crate::PLACES;
 use crate::Ring;
 use crate::cleanup;
 use crate::lent;
+use crate::permission;
+use tables::Update;
 
-// Where the tables have no such place, `load_update` gives nothing.
+// The words of the ring, from `start` up to `end`.
+struct Span {
+    start: usize,
+    end: usize,
+    places: usize,
+}
+
+fn span_of(t: &[u64]) -> Span
+    requires { ⌜ Sized (now t) ⌝ }
+    ensures { λ r. ⌜ RingAt (now (t .entry)) r ⌝ }
+{
+    let z = tables::read_sizes(t);
+    let start = tables::sizes::ring_at(z);
+    let places = z.updates + 1;
+    Span {
+        start,
+        end: start + places * 4,
+        places,
+    }
+}
+
+// ---- In the words of the ring
+
+fn read_update(p: &[u64], a: usize) -> Update
+    requires { ⌜ a + 4 ≤ length (now p) ⌝ }
+    ensures { λ r. ⌜ r ≡ updateOf (part (now (p .entry)) a 4) ⌝ }
+{
+    Update {
+        kind: p[a],
+        a: p[a + 1],
+        b: p[a + 2],
+        c: p[a + 3],
+    }
+}
+
+fn write_update(p: &mut [u64], a: usize, u: Update)
+    requires { ⌜ a + 4 ≤ length (now p) ⌝ }
+    ensures { λ _. ⌜ now (p .exit) ≡ sets (now (p .entry)) a (updateWords u) ⌝ }
+{
+    p[a] = u.kind;
+    p[a + 1] = u.a;
+    p[a + 2] = u.b;
+    p[a + 3] = u.c;
+}
+
+fn ring_in(p: &[u64], n: usize, read: usize, write: usize) -> Ring
+    requires { ⌜ length (now p) ≡ n * 4 ⌝ }
+    requires { ⌜ n ≤ cap ⌝ }
+    ensures { λ r. ⌜ r ≡ ringIn n (now (p .entry)) read write ⌝ }
+{
+    let mut places = [tables::no_update(); PLACES];
+    let mut i = 0;
+    while i < n {
+        places[i] = read_update(p, i * 4);
+        i += 1;
+    }
+    Ring {
+        places,
+        read,
+        write,
+        size: n,
+    }
+}
+
+fn write_ring(p: &mut [u64], n: usize, ring: Ring)
+    requires { ⌜ length (now p) ≡ n * 4 ⌝ }
+    requires { ⌜ n ≤ cap ⌝ }
+    ensures { λ _. ⌜ rows 4 n updateOf (now (p .exit)) ≡ fitted n (ring .places) ⌝ }
+{
+    let mut i = 0;
+    while i < n {
+        let u = ring.places[i];
+        write_update(p, i * 4, u);
+        i += 1;
+    }
+}
+
+// ---- In the tables
+
 pub fn load_ring(t: &[u64]) -> Ring
     requires { ⌜ Sized (now t) ⌝ }
     ensures { λ r. ⌜ r ≡ ringOf (view (now (t .entry))) ⌝ }
 {
-    let z = tables::read_sizes(t);
-    let none = tables::no_update();
-    let mut ring = Ring {
-        places: [none; PLACES],
-        read: tables::read_place(t) as usize,
-        write: tables::write_place(t) as usize,
-        size: z.updates + 1,
-    };
-    let mut i = 0;
-    while i < PLACES {
-        let u = tables::load_update(t, i);
-        ring.places[i] = u;
-        i += 1;
-    }
-    ring
+    let s = span_of(t);
+    let read = tables::read_place(t) as usize;
+    let write = tables::write_place(t) as usize;
+    let a = s.start;
+    let e = s.end;
+    ring_in(&t[a..e], s.places, read, write)
 }
 
-// Where the tables have no such place, `store_update` stores nothing.
 pub fn store_ring(t: &mut [u64], ring: Ring)
     requires { ⌜ Sized (now t) ⌝ }
     ensures { λ _. ⌜ Left (now (t .exit)) (withRingOf (view (now (t .entry))) ring) ⌝ }
 {
     tables::set_places(t, ring.read as u64, ring.write as u64);
-    let mut i = 0;
-    while i < PLACES {
-        let u = ring.places[i];
-        tables::store_update(t, i, u);
-        i += 1;
-    }
+    let s = span_of(t);
+    let a = s.start;
+    let e = s.end;
+    write_ring(&mut t[a..e], s.places, ring);
+}
+
+// Place i, and the two that the header names: all that a step changes.
+fn store_place(t: &mut [u64], i: usize, u: Update, read: usize, write: usize)
+    requires { ⌜ Sized (now t) ⌝ }
+    ensures { λ _. ⌜ Left (now (t .exit)) (withPlaces (withUpdate (view (now (t .entry))) i u) read write) ⌝ }
+{
+    tables::store_update(t, i, u);
+    tables::set_places(t, read as u64, write as u64);
 }
 
 // Queues the domain with its core map unless it is queued already; false where the ring is full.
+// Only a push moves the write place.
 pub fn mark_domain(t: &mut [u64], slot: u64, generation: u64, cores: u64) -> bool
     requires { ⌜ Sized (now t) ⌝ }
     ensures { λ r. ⌜ (r ≡ markOf (ringOf (view (now (t .entry)))) slot generation cores .ok)
         × Left (now (t .exit)) (withRingOf (view (now (t .entry))) (markOf (ringOf (view (now (t .entry)))) slot generation cores .ring)) ⌝ }
 {
-    let p = lent::mark_lent(load_ring(t), slot, generation, cores);
-    store_ring(t, p.ring);
+    let ring = load_ring(t);
+    let at = ring.write;
+    let p = lent::mark_lent(ring, slot, generation, cores);
+    if p.ring.write != at {
+        store_place(
+            t,
+            at,
+            permission(slot, generation, cores),
+            p.ring.read,
+            p.ring.write,
+        );
+    }
     p.ok
 }
 
@@ -62,8 +157,13 @@ pub fn push_cleanup(t: &mut [u64], start: u64, end: u64) -> bool
     ensures { λ r. ⌜ (r ≡ pushOf (ringOf (view (now (t .entry)))) (cleanupOf start end) .ok)
         × Left (now (t .exit)) (withRingOf (view (now (t .entry))) (pushOf (ringOf (view (now (t .entry)))) (cleanupOf start end) .ring)) ⌝ }
 {
-    let p = lent::push_lent(load_ring(t), cleanup(start, end));
-    store_ring(t, p.ring);
+    let ring = load_ring(t);
+    let at = ring.write;
+    let u = cleanup(start, end);
+    let p = lent::push_lent(ring, u);
+    if p.ok {
+        store_place(t, at, u, p.ring.read, p.ring.write);
+    }
     p.ok
 }
 
@@ -73,7 +173,11 @@ pub fn pop_update(t: &mut [u64]) -> Item
     ensures { λ r. ⌜ (r ≡ popOf (ringOf (view (now (t .entry)))) .item)
         × Left (now (t .exit)) (withRingOf (view (now (t .entry))) (popOf (ringOf (view (now (t .entry)))) .ring)) ⌝ }
 {
-    let p = lent::pop_lent(load_ring(t));
-    store_ring(t, p.ring);
+    let ring = load_ring(t);
+    let at = ring.read;
+    let p = lent::pop_lent(ring);
+    if p.item.got {
+        store_place(t, at, tables::no_update(), p.ring.read, p.ring.write);
+    }
     p.item
 }

@@ -26,6 +26,14 @@ module _ {A : Type 0} where
       let e : suc i * w ≡ w + i * w = omega arith in
       rw e (getD-rows w n f (drop w l) i d (omega arith) ∙ ap (λ (x : List ℕ). f (take w x)) (drop-drop (i * w) w l))
 
+  -- one record more at the end
+  pub rows-more : (w n : ℕ) (f : List ℕ → A) (l : List ℕ) → rows w (suc n) f l ≡ rows w n f l ++ (f (part l (n * w) w) ∷ [])
+  unfolding rows part
+  rows-more w zero f l = rw zero-mul
+  rows-more w (suc n) f l =
+      let e : suc n * w ≡ w + n * w = omega arith in
+      rw e (ap (λ (r : List A). f (take w l) ∷ r) (rows-more w n f (drop w l) ∙ rw (drop-drop (n * w) w l)))
+
   -- a run of stores inside record i changes just that record
   pub rows-sets : (w n : ℕ) (f : List ℕ → A) (l vs : List ℕ) (i k : ℕ) → k + length vs ≤ w
       → rows w n f (sets l (i * w + k) vs) ≡ set (rows w n f l) i (f (sets (part l (i * w) w) k vs))

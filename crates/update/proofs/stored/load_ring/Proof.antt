@@ -1,78 +1,47 @@
--- Place by place from the first.
+-- What is lent is the ring.
+use mathlib.Core.Path.{_∙_}
+use Rattle.update.specs.Stored.{ring-read}
 use borrow.Author.Needs.{needs}
-use Prim.Native.Nat.{_+_, _-_}
-use mathlib.Core.Path.{refl, ap}
-use native.Mathlib.Omega.{arith}
-use Rattle.tables.specs.declared.sizes.Sizes.{Sizes}
-use Rattle.tables.specs.View.{view, ofParts}
-use Rattle.update.specs.Ring.{cap}
-use Rattle.update.specs.Fitted.{filled-none}
-use Rattle.update.specs.Stored.{Loaded, loaded-more, loaded-all}
 use Rattle.update.proofs.stored.load_ring.Statement.{statement}
 use Rattle.update.proofs.stored.load_ring.Tie as tie
 
-abbrev Inv-loop : tie.InvT-loop
-Inv-loop t ring₀ i₀ ring i = Loaded (view t) i ring
+span-of-requires : tie.Need-span-of-requires
+span-of-requires c κs = search needs
 
-abbrev μ-loop : tie.MeasureT-loop
-μ-loop t ring₀ i₀ ring i = cap - i
-
-read-sizes-requires : tie.Need-read-sizes-requires Inv-loop μ-loop
-read-sizes-requires c κs = search needs
-
-no-update-requires : tie.Need-no-update-requires Inv-loop μ-loop
-no-update-requires c κs = search needs
-
-read-place-requires : tie.Need-read-place-requires Inv-loop μ-loop
+read-place-requires : tie.Need-read-place-requires
 read-place-requires c κs = search needs
 
-write-place-requires : tie.Need-write-place-requires Inv-loop μ-loop
+write-place-requires : tie.Need-write-place-requires
 write-place-requires c κs = search needs
 
-add-t12 : tie.Need-add-t12 Inv-loop μ-loop
-add-t12 c = let h = rw (← (c .before .before .before .before .read-sizes .ensures)) at (c .before .before .before .before .before .before .pre .limits) in omega arith
+mul-ring-in : tie.Need-mul-ring-in
+mul-ring-in c = search needs
 
-loop-holds : tie.Need-loop-holds Inv-loop μ-loop
-unfolding view ofParts
-loop-holds c = record { long = refl; places = filled-none _ _; read = (c .before .before .read-place .ensures); write = (c .before .write-place .ensures); size = ap (λ (z : Sizes). z .updates + 1) (c .before .before .before .before .read-sizes .ensures) }
+sub-ring-in : tie.Need-sub-ring-in
+sub-ring-in c = search needs
 
-load-update-requires : tie.Need-load-update-requires Inv-loop μ-loop
-load-update-requires c κs = search needs
+part-ring-in-start : tie.Need-part-ring-in-start
+part-ring-in-start c = search needs
 
-mul-u : tie.Need-mul-u Inv-loop μ-loop
-mul-u c = search needs
+part-ring-in-end : tie.Need-part-ring-in-end
+part-ring-in-end c = search needs
 
-element-set-from-u : tie.Need-element-set-from-u Inv-loop μ-loop
-element-set-from-u c = search needs
+ring-in-requires : tie.Need-ring-in-requires
+ring-in-requires c κs = search needs
 
-add-i : tie.Need-add-i Inv-loop μ-loop
-add-i c = omega arith
-
-loop-less : tie.Need-loop-less Inv-loop μ-loop
-loop-less c = omega arith
-
-loop-again : tie.Need-loop-again Inv-loop μ-loop
-loop-again c = loaded-more _ _ (c .before .before .loop .ring) _ (c .before .before .loop .inv) (c .load-update .ensures)
-
-returns : tie.Need-returns Inv-loop μ-loop
-returns c = loaded-all _ _ _ (c .before .loop .inv) (c .loop-test .left)
+returns : tie.Need-returns
+returns c = (c .ring-in .ensures) ∙ rw ((c .before .before .before .read-place .ensures), (c .before .before .write-place .ensures)) (ring-read _ _ (c .before .before .before .before .before .before .pre) (c .before .before .before .before .span-of .ensures))
 
 pub load-ring-spec : {M : Type 1} → statement M
 load-ring-spec =
     tie.close
     (tie.spec
-    Inv-loop
-    μ-loop
-    read-sizes-requires
-    no-update-requires
+    span-of-requires
     read-place-requires
     write-place-requires
-    add-t12
-    loop-holds
-    load-update-requires
-    mul-u
-    element-set-from-u
-    add-i
-    loop-less
-    loop-again
+    mul-ring-in
+    sub-ring-in
+    part-ring-in-start
+    part-ring-in-end
+    ring-in-requires
     returns)

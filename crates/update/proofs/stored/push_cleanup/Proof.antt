@@ -1,4 +1,7 @@
--- The ring loaded, lent and stored.
+-- The ring loaded and lent; the new place stored where the push is accepted.
+use mathlib.Core.Path.{ap, _∙_}
+use Rattle.update.specs.Ring.{pushOf}
+use Rattle.update.specs.Changes.{push-left, push-stored}
 use borrow.Author.Needs.{needs}
 use Rattle.update.proofs.stored.push_cleanup.Statement.{statement}
 use Rattle.update.proofs.stored.push_cleanup.Tie as tie
@@ -12,14 +15,20 @@ cleanup-requires c κs = search needs
 push-lent-requires : tie.Need-push-lent-requires
 push-lent-requires c κs = search needs
 
-store-ring-requires : tie.Need-store-ring-requires
-store-ring-requires c κs = search needs
+store-place-requires : tie.Need-store-place-requires
+store-place-requires c κs = search needs
 
 same-length : tie.Need-same-length
 same-length c = search needs
 
 returns : tie.Need-returns
-returns c = (cc, rw (c .before .before .before .before .push-lent .ensures, c .before .before .before .before .before .cleanup .ensures, (c .before .before .before .before .before .before .load-ring .ensures)) at (c .before .before .store-ring .ensures))
+returns c = push-stored _ (c .before .before .before .before .before .before .before .before .before .before .pre) _ (c .before .before .before .before .before .before .before .load-ring .ensures) _ _ _ ((c .before .before .before .before .before .push-lent .ensures) ∙ ap (pushOf _) (c .before .before .before .before .before .before .cleanup .ensures)) (c .before .before .before .before .if1 .taken) (rw (c .before .before .before .before .before .before .cleanup .ensures) at (c .before .before .store-place .ensures))
+
+same-length-2 : tie.Need-same-length-2
+same-length-2 c = search needs
+
+returns-2 : tie.Need-returns-2
+returns-2 c = push-left _ (c .before .before .before .before .before .before .pre) _ (c .before .before .before .load-ring .ensures) _ _ ((c .before .push-lent .ensures) ∙ ap (pushOf _) (c .before .before .cleanup .ensures)) (c .if1 .left)
 
 pub push-cleanup-spec : {M : Type 1} → statement M
 push-cleanup-spec =
@@ -28,6 +37,8 @@ push-cleanup-spec =
     load-ring-requires
     cleanup-requires
     push-lent-requires
-    store-ring-requires
+    store-place-requires
     same-length
-    returns)
+    returns
+    same-length-2
+    returns-2)

@@ -1,0 +1,100 @@
+//! Times steps of the engine on lent tables beside the same steps of the Rust engine (README.md).
+
+mod ours;
+mod timing;
+
+use std::hint::black_box;
+use std::mem::size_of;
+
+use engine::utils::{calls, mirror, steps};
+use engine::{CapaEngine, Domain, Handle};
+
+fn domain_of(slot: u64, gen: u64) -> Handle<Domain> {
+    mirror::handle(shared::calls::Handle { slot, gen })
+}
+
+/// The domain with that slot, which was never freed.
+fn domain(slot: u64) -> Handle<Domain> {
+    domain_of(slot, 0)
+}
+
+/// The next generation: a domain that is not queued yet.
+fn next(generation: &mut u64) -> u64 {
+    *generation += 1;
+    *generation
+}
+
+// ---- where the operations start from; our tables are the words of the Rust engine's
+
+/// Two domains.
+fn opened(e: &mut CapaEngine) {
+    for _ in 0..2 {
+        calls::open(e, None, 3).unwrap();
+    }
+}
+
+/// 64 of the 128 slots of domain 0 hold a capability.
+fn half_list(e: &mut CapaEngine) {
+    opened(e);
+    for _ in 0..64 {
+        steps::insert(e, domain(0));
+    }
+}
+
+/// 64 of the 128 places are in use, domain 0 in the last of them.
+fn half_ring(e: &mut CapaEngine) {
+    opened(e);
+    for i in 0..63 {
+        steps::push(e, i, i + 1);
+    }
+    steps::mark(e, domain(0), 3);
+}
+
+/// 512 of the 1,024 regions are in use.
+fn half_regions(e: &mut CapaEngine) {
+    opened(e);
+    for _ in 0..512 {
+        steps::allocate(e, domain(0));
+    }
+}
+
+// ---- the table
+
+fn words(e: &CapaEngine) -> Vec<u64> {
+    mirror::tables(e).words()
+}
+
+/// Times one operation on both from the same state. Once done, it has left the same tables on both.
+fn row(name: &str, state: fn(&mut CapaEngine), mut ours: impl FnMut(&mut [u64]), mut rust: impl FnMut(&mut CapaEngine)) {
+    let mut e = mirror::new_engine();
+    state(&mut e);
+    let mut t = words(&e);
+    ours(&mut t);
+    rust(&mut e);
+    assert!(t == words(&e), "{name}: the two engines differ");
+    let (a, b) = timing::pair(|| ours(black_box(&mut t)), || rust(black_box(&mut e)));
+    println!(
+        "| {name} | {:.0} | {:.0} | {:.1} | {:.0} to {:.0} | {:.0} to {:.0} |",
+        a.smallest, b.smallest, a.smallest / b.smallest, a.median, a.largest, b.median, b.largest
+    );
+}
+
+fn main() {
+    let e = mirror::new_engine();
+    let mut work = words(&e);
+    let mut other = mirror::new_engine();
+    let mut bytes = vec![1u8; size_of::<CapaEngine>()];
+    println!("Tables of {} words ({} bytes); the Rust engine has {} bytes.\n", work.len(), 8 * work.len(), bytes.len());
+    println!("| operation | ours, ns | Rust, ns | ratio | ours, median to largest | Rust, median to largest |\n|---|---|---|---|---|---|");
+
+    let d = domain(0);
+    let (mut g, mut h) = (0, 0);
+    row("insert and remove a capability", half_list, |t| { let i = ours::insert(t, 0); ours::remove(t, 0, i) }, |e| { let i = steps::insert(e, d); steps::remove(e, d, i) });
+    row("mark a domain that is queued", half_ring, |t| ours::mark(t, 0, 0, 3), |e| steps::mark(e, d, 3));
+    row("mark a domain that is not, and pop", half_ring, |t| { ours::mark(t, 1, next(&mut g), 3); ours::pop(t); }, |e| { steps::mark(e, domain_of(1, next(&mut h)), 3); steps::pop(e); });
+    row("push and pop", half_ring, |t| { ours::push(t, 0, 1); ours::pop(t); }, |e| { steps::push(e, 0, 1); steps::pop(e); });
+    row("allocate and free a region", half_regions, |t| { let i = ours::allocate(t); ours::free(t, i) }, |e| { let r = steps::allocate(e, d); steps::free(e, r) });
+    row("make empty tables", opened, ours::make, steps::make);
+    row("copy the tables", opened, |t| ours::copy(t, &mut work), |e| mirror::copy(e, &mut other));
+    row("clear the work area", opened, |_| ours::clear(black_box(&mut work)), |_| black_box(&mut bytes).fill(0));
+}

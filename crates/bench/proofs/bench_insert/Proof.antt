@@ -1,0 +1,40 @@
+-- The engine's step where the test holds, else nothing.
+use mathlib.Core.Path.{sym, ap, _∙_}
+use Rattle.tables.specs.Tests.{sized-true}
+use Rattle.bench.specs.Steps.{insertedOf, taken, refused}
+use borrow.Author.Needs.{needs}
+use Rattle.bench.proofs.bench_insert.Statement.{statement}
+use Rattle.bench.proofs.bench_insert.Tie as tie
+
+is-sized-requires : tie.Need-is-sized-requires
+is-sized-requires c κs = search needs
+
+insert-capa-requires : tie.Need-insert-capa-requires
+insert-capa-requires c κs = sized-true _ (sym (c .before .before .is-sized .ensures) ∙ (c .before .if1 .taken))
+
+inserted-requires : tie.Need-inserted-requires
+inserted-requires c κs = search needs
+
+same-length : tie.Need-same-length
+same-length c = search needs
+
+returns : tie.Need-returns
+returns c = taken _ _ (c .before .before .before .before .before .before .is-sized .ensures) (c .before .before .before .before .before .if1 .taken) _ _ ((c .inserted .ensures) ∙ ap insertedOf ((c .before .before .before .insert-capa .ensures) .0)) _ _ ((c .before .before .before .insert-capa .ensures) .1)
+
+same-length-2 : tie.Need-same-length-2
+same-length-2 c = search needs
+
+returns-2 : tie.Need-returns-2
+returns-2 c = refused _ _ (c .before .is-sized .ensures) (c .if1 .left) _ _
+
+pub bench-insert-spec : {M : Type 1} → statement M
+bench-insert-spec =
+    tie.close
+    (tie.spec
+    is-sized-requires
+    insert-capa-requires
+    inserted-requires
+    same-length
+    returns
+    same-length-2
+    returns-2)
