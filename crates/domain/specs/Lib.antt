@@ -9,3 +9,7 @@ pub mod StackLaws
 pub mod SweepLaws
 pub mod Stored
 pub mod Calls
+pub mod Activate
+pub mod Opened
+pub mod Then
+pub mod Fresh

@@ -1,9 +1,18 @@
-// A domain's slot list: read out of the tables, changed and put back as one record (document 01, **Sweep**).
+// A domain (domain.rs): its slot list, read out of the tables, changed and put back as one record (document 01, **Sweep**), and
+// what it gains and loses.
+pub mod activate;
 pub mod capas;
 pub mod list;
+pub mod opened;
 pub mod record;
 pub mod sweep;
 
+pub use activate::activate_region;
+pub use activate::cleanup;
+pub use activate::deactivate_region;
+pub use activate::insert;
+pub use activate::notify;
+pub use activate::reserve;
 pub use capas::capa_at;
 pub use capas::empty_capa;
 pub use capas::has_capacity_for;
@@ -14,6 +23,8 @@ pub use list::give;
 pub use list::put;
 pub use list::slot_of;
 pub use list::take;
+pub use opened::fresh_list;
+pub use opened::new_domain;
 pub use record::load_list;
 pub use record::store_list;
 pub use sweep::free_invalid_capas;

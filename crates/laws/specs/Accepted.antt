@@ -1,5 +1,8 @@
 -- What holds of an outcome if it is accepted: one rule for each form that the definitions use. For the laws; no part of what a reader must believe.
+use mathlib.Core.Path.{_≡_, subst}
 use mathlib.Core.Bool.{Bool, true, false, not}
+use Prim.Native.Nat.{ℕ}
+use native.Mathlib.Omega.{arith}
 use lib.Dec.{T}
 use Rattle.model.specs.Lists.{if_then_else_}
 use Rattle.model.specs.Outcome.{Outcome, ok, refuse, _>>=_, _>>_, require, Refusal}
@@ -46,3 +49,8 @@ checked false r h = refused
 pub both : {A : Type 0} {P Q : A → Type 0} {m : Outcome A} → All P m → All Q m → All (λ x. P x × Q x) m
 both (accepted h) (accepted k) = accepted (h, k)
 both refused refused = refused
+
+-- what is known of an accepted call
+pub all-ok : {A : Type 0} (P : A → Type 0) (m : Outcome A) (a : A) → All P m → m ≡ ok a → P a
+all-ok P m a (accepted {a = b} h) e = let z : b ≡ a = cc in subst P z h
+all-ok P m a refused e = absurd (let z : _≡_ {A = ℕ} 0 1 = cc in omega arith)

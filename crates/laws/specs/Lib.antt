@@ -16,6 +16,7 @@ pub mod Empty
 pub mod PopSound
 pub mod CountsLaw
 pub mod SoundTest
+pub mod Test
 pub mod TestLaw
 pub mod RingFull
 pub mod Words

@@ -1,9 +1,10 @@
 // The three pools of the tables: each is the arena in its section.
 ghost use mathlib.Core.Path.{_≡_};
+ghost use lib.ListN.{getD};
 ghost use Rattle.words.specs.Cuts.{offset};
 ghost use Rattle.tables.specs.Tables.{withDomainPool, withRegionPool, withRecordPool};
 ghost use Rattle.tables.specs.View.{sizesOf, widths, view, Sized, Left};
-ghost use Rattle.arena.specs.Arena.{given, allocated, answerTo, freed, liveB, capacityOf, newArena};
+ghost use Rattle.arena.specs.Arena.{given, allocated, answerTo, freed, isFreeB, liveB, capacityOf, newArena};
 ghost use Rattle.pools.specs.Pools.{poolSection, poolSlots, poolOf, withPool, PoolAt};
 ghost use Rattle.pools.specs.Wiping.{wiped, slotFreed};
 use arena::Freed;
@@ -141,6 +142,39 @@ pub fn capacity_in(t: &[u64], q: Pool) -> usize
     arena::capacity(&t[a..e], s.slots)
 }
 
+// Whether slot i is free.
+pub fn is_free_in(t: &[u64], q: Pool, i: usize) -> bool
+    requires { ⌜ Sized (now t) ⌝ }
+    ensures { λ r. ⌜ r ≡ isFreeB (poolOf (view (now (t .entry))) q) i ⌝ }
+{
+    let s = span_of(t, q);
+    let a = s.start;
+    let e = s.end;
+    arena::is_free(&t[a..e], s.slots, i)
+}
+
+// The generation that slot i has now.
+pub fn generation_in(t: &[u64], q: Pool, i: usize) -> u64
+    requires { ⌜ Sized (now t) ⌝ }
+    ensures { λ r. ⌜ r ≡ getD (poolOf (view (now (t .entry))) q .gens) i 0 ⌝ }
+{
+    let s = span_of(t, q);
+    let a = s.start;
+    let e = s.end;
+    arena::generation(&t[a..e], s.slots, i)
+}
+
+// How many slots are in use.
+pub fn count_in(t: &[u64], q: Pool) -> u64
+    requires { ⌜ Sized (now t) ⌝ }
+    ensures { λ r. ⌜ r ≡ poolOf (view (now (t .entry))) q .count ⌝ }
+{
+    let s = span_of(t, q);
+    let a = s.start;
+    let e = s.end;
+    words::word(&t[a..e], 1)
+}
+
 // ---- Each by its name
 
 pub fn allocate_domain(t: &mut [u64]) -> Given
@@ -197,6 +231,13 @@ pub fn region_is_live(t: &[u64], h: Handle) -> bool
     is_live_in(t, Pool::Regions, h)
 }
 
+pub fn domain_is_free(t: &[u64], i: usize) -> bool
+    requires { ⌜ Sized (now t) ⌝ }
+    ensures { λ r. ⌜ r ≡ isFreeB (view (now (t .entry)) .domainPool) i ⌝ }
+{
+    is_free_in(t, Pool::Domains, i)
+}
+
 pub fn domain_capacity(t: &[u64]) -> usize
     requires { ⌜ Sized (now t) ⌝ }
     ensures { λ r. ⌜ r ≡ capacityOf (view (now (t .entry)) .domainPool) ⌝ }
@@ -216,4 +257,25 @@ pub fn record_capacity(t: &[u64]) -> usize
     ensures { λ r. ⌜ r ≡ capacityOf (view (now (t .entry)) .recordPool) ⌝ }
 {
     capacity_in(t, Pool::Records)
+}
+
+pub fn domain_generation(t: &[u64], i: usize) -> u64
+    requires { ⌜ Sized (now t) ⌝ }
+    ensures { λ r. ⌜ r ≡ getD (view (now (t .entry)) .domainPool .gens) i 0 ⌝ }
+{
+    generation_in(t, Pool::Domains, i)
+}
+
+pub fn region_generation(t: &[u64], i: usize) -> u64
+    requires { ⌜ Sized (now t) ⌝ }
+    ensures { λ r. ⌜ r ≡ getD (view (now (t .entry)) .regionPool .gens) i 0 ⌝ }
+{
+    generation_in(t, Pool::Regions, i)
+}
+
+pub fn region_count(t: &[u64]) -> u64
+    requires { ⌜ Sized (now t) ⌝ }
+    ensures { λ r. ⌜ r ≡ view (now (t .entry)) .regionPool .count ⌝ }
+{
+    count_in(t, Pool::Regions)
 }

@@ -16,13 +16,13 @@ pub stack-below : (n i : ℕ) (l : List ℕ) → ((k : ℕ) → n ≤ k → coun
 stack-below n i l h p = elim (cmp i n) [ lt a ↦ a | ge a ↦ absurd (omega (arith, h i a)) ]
 
 -- a stack is as long as its slots are counted
-stack-length : (n : ℕ) (l : List ℕ) → ((k : ℕ) → n ≤ k → count (eqb k) l ≡ 0) → sum (λ k. count (eqb k) l) n ≡ length l
+pub stack-length : (n : ℕ) (l : List ℕ) → ((k : ℕ) → n ≤ k → count (eqb k) l ≡ 0) → sum (λ k. count (eqb k) l) n ≡ length l
 stack-length n [] h = sum-zero n
 stack-length n (x ∷ l) h =
     let at = sum-at (λ k. oneIf (eqb k x)) n x (stack-below n x (x ∷ l) h (omega (arith, one x x refl))) (λ k ne. rw (eqb-f k x ne)) in
     omega (arith, sum-add (λ k. oneIf (eqb k x)) (λ k. count (eqb k) l) (λ k. count (eqb k) (x ∷ l)) n (λ k i. refl), at, one x x refl, stack-length n l (λ k i. omega (arith, h k i)))
 
-sum-slots : (n : ℕ) → sum (λ k. 1) n ≡ n
+pub sum-slots : (n : ℕ) → sum (λ k. 1) n ≡ n
 sum-slots zero = refl
 sum-slots (suc n) = omega (arith, sum-slots n)
 
@@ -30,7 +30,7 @@ module _ (n : ℕ) (used : ℕ → ℕ) (free : List ℕ) (h : OnceEach n used f
   no-more : (k : ℕ) → n ≤ k → count (eqb k) free ≡ 0
   no-more k i = omega (arith, none-beyond n used free h k i)
 
-  all-slots : sum used n + length free ≡ n
+  pub all-slots : sum used n + length free ≡ n
   all-slots =
       let e = sum-same (λ k. used k + count (eqb k) free) (λ k. 1) n (λ k i. h k ∙ ap oneIf (ltb-t k n i)) in
       omega (arith, e, sum-slots n, sum-add used (λ k. count (eqb k) free) (λ k. used k + count (eqb k) free) n (λ k i. refl), stack-length n free no-more)

@@ -118,7 +118,7 @@ pool-shaped : (n : ℕ) (p : state.Pool) → length (p .gens) ≡ n → PoolShap
 unfolding poolOf
 pool-shaped n p h = record { links = map-up-length (model.freeLink (p .free)) n; gens = h }
 
-slots-many : (n : ℕ) (o : Option state.Domain) → length (domainFor n o .slots) ≡ n
+pub slots-many : (n : ℕ) (o : Option state.Domain) → length (domainFor n o .slots) ≡ n
 slots-many n none = length-replicate n noSlot
 slots-many n (some x) = map-up-length (λ i. slotFor (x .locals .free) i (slotOf (x .locals .held) i)) n
 

@@ -107,7 +107,7 @@ module _ (s : State) (d : ℕ) (r : Base s) (live : Live s d) where
   pub region-base : (p : ℕ) (g h : Region) → In (s .regions) p g → Ready d (putRegion p h s)
   region-base p g h e = (aside-base s (putRegion p h s) (record { sizes = refl; domainPool = refl; size = refl; domains = λ n. refl }) refl (table-put (s .sizes .regions) (s .regions) (s .regionPool) (r .regions) p g h e (in-length (s .regions) p g e)) r, live)
 
-  join-base : (p i : ℕ) → T (isSome (slotOf (s .regions) p)) → Ready d (insertChild p i s)
+  pub join-base : (p i : ℕ) → T (isSome (slotOf (s .regions) p)) → Ready d (insertChild p i s)
   unfolding insertChild
   join-base p i t = let (g, e) = live-is (slotOf (s .regions) p) t in region-base p g _ e
 

@@ -101,7 +101,7 @@ module _ (s : State) (good : Whole s) (d : ℕ) (t : Live s d) where
 -- ---- the calls
 
 module _ (s : State) (sound : Sound s) where
-  domain-whole : (m : Option ℕ) (cores : ℕ) → Word cores → All (λ (y : ℕ × State). Whole (y .1) × ((k : ℕ) → Live s k → Live (y .1) k)) (newDomain m cores s)
+  pub domain-whole : (m : Option ℕ) (cores : ℕ) → Word cores → All (λ (y : ℕ × State). Whole (y .1) × ((k : ℕ) → Live s k → Live (y .1) k)) (newDomain m cores s)
   unfolding newDomain
   domain-whole m cores w =
       let good = sound-good s sound in

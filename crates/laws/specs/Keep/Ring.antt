@@ -53,7 +53,7 @@ abbrev Fresh : Update → List Update → Type 0
 Fresh (permission h c) l = count (isPermissionOf h) l ≡ 0
 Fresh (cleanup a b) l = Unit {0}
 
-eqb-turned : (m n : ℕ) → eqb m n ≡ eqb n m
+pub eqb-turned : (m n : ℕ) → eqb m n ≡ eqb n m
 eqb-turned m n = elim (ℕ-discrete m n) [ yes e ↦ eqb-t m n e ∙ sym (eqb-t n m (sym e)) | no e ↦ eqb-f m n e ∙ sym (eqb-f n m (λ q. e (sym q))) ]
 
 same-turned : (h k : Handle) → sameHandle h k ≡ sameHandle k h

@@ -23,13 +23,13 @@ use Rattle.laws.specs.Keep.Whole.{Whole, revoke-whole, send-whole}
 abbrev Kept : State → State → Type 0
 Kept s t = Whole t × Aside s t
 
-live-slot : (s : State) (h : Handle) → T (isLive (s .regionPool) (s .regions) h) → (g : Region) × In (s .regions) (h .slot) g
+pub live-slot : (s : State) (h : Handle) → T (isLive (s .regionPool) (s .regions) h) → (g : Region) × In (s .regions) (h .slot) g
 live-slot s h t = live-is (slotOf (s .regions) (h .slot)) (search and-l)
 
 module _ (s : State) (good : Whole s) where
   -- ---- send
 
-  send-capa : (c : Capa) (o : ℕ) (x : Domain) → In (s .domains) o x → All (Kept s) (sendCapa c o s)
+  pub send-capa : (c : Capa) (o : ℕ) (x : Domain) → In (s .domains) o x → All (Kept s) (sendCapa c o s)
   unfolding sendCapa
   send-capa noCapa o x at = accepted (good, aside-self s)
   send-capa (region h) o x at = bind (region-live s h) (λ i (n, t). let (g, e) = live-slot s h t in send-whole s good i g (ap (slotOf (s .regions)) n ∙ e) o x at)
@@ -39,7 +39,7 @@ module _ (s : State) (good : Whole s) where
 
   -- ---- revoke
 
-  parent-is : (k : Kind) → T (not (isRootKind k)) → (p : ℕ) × (parentOf k ≡ some p)
+  pub parent-is : (k : Kind) → T (not (isRootKind k)) → (p : ℕ) × (parentOf k ≡ some p)
   parent-is Root t = absurd t
   parent-is (Alias p) t = (p, refl)
   parent-is (Carve p) t = (p, refl)
@@ -50,7 +50,7 @@ module _ (s : State) (good : Whole s) where
       let n = parent-is (g .kind) (rw (region-at s i g e) at t) in
       weaken (revoke-whole s good i (n .0) g e (n .1)) (λ u k. k .0))
 
-  revoke-capa : (c : Capa) → All (Kept s) (revokeCapa c s)
+  pub revoke-capa : (c : Capa) → All (Kept s) (revokeCapa c s)
   unfolding revokeCapa
   revoke-capa noCapa = accepted (good, aside-self s)
   revoke-capa (region h) = bind (region-live s h) (λ i (n, t). let (g, e) = live-slot s h t in revoke-unless i g (ap (slotOf (s .regions)) n ∙ e))
@@ -65,7 +65,7 @@ list-whole s good d t l =
     let x = live-is (slotOf (s .domains) d) t in
     ((listed-behind s d (x .0) (x .1) l (s .regions) (good .0), listed-base s d (good .1) t l .0), listed-live s d (x .0) (x .1) l)
 
-remove-whole : (s : State) → Whole s → (d l : ℕ) → Live s d → Whole (removeCapa d l s) × ((k : ℕ) → Live s k → Live (removeCapa d l s) k)
+pub remove-whole : (s : State) → Whole s → (d l : ℕ) → Live s d → Whole (removeCapa d l s) × ((k : ℕ) → Live s k → Live (removeCapa d l s) k)
 unfolding removeCapa
 remove-whole s good d l t = list-whole s good d t _
 

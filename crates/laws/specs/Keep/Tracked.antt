@@ -106,7 +106,7 @@ module _ (s : State) (d : ℕ) (x : Domain) (e : In (s .domains) d x) (w : Walk)
       | no m ↦ rw (tracker-there (s .domains) d (withTracker (w .records) (domainAt s d)) k m) (v k m)
     ]
 
-    put-tracked : (q : Queue) → Tracked (withQueue q (put s d w)) T′
+    pub put-tracked : (q : Queue) → Tracked (withQueue q (put s d w)) T′
     put-tracked q = record {
       form = tracker-all (λ k l. Form l) form (λ k m. h .form k);
       counts = λ f k a. tracker-all (λ j l. countAt f l a ≡ T′ f j a) (here f a) (λ j m. h .counts f j a ∙ sym (same f j a m)) k;

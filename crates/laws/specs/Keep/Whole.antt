@@ -48,14 +48,14 @@ module _ (s : State) (good : Good s) (r : Base s) (i p : ℕ) (g h : Region) (e 
   less-table : Table (s .sizes .regions) less (s .regionPool)
   less-table = table-put (s .sizes .regions) (s .regions) (s .regionPool) (r .regions) p h _ at (in-length (s .regions) p h at)
 
-  leave-base : Base (leaveParent i s)
+  pub leave-base : Base (leaveParent i s)
   leave-base =
       let (q, z, m) = leave-same i s in
       let k = subst (λ (w : Sizes). Table (w .regions) less (s .regionPool)) (sym m) less-table in
       let k₁ = subst (λ (w : Pool). Table (leaveParent i s .sizes .regions) less w) (sym z) k in
       aside-base s (leaveParent i s) left q (subst (λ rs. Table (leaveParent i s .sizes .regions) rs (leaveParent i s .regionPool)) (sym less-there) k₁) r
 
-  given-base : (t : State) → Base t → Beside (leaveParent i s) t → All (λ u. Base u × Beside t u) (giveBack g t)
+  pub given-base : (t : State) → Base t → Beside (leaveParent i s) t → All (λ u. Base u × Beside t u) (giveBack g t)
   given-base t k b = give-all (λ u. Base u × Beside t u) t g p n (λ m. (k, beside-self t)) (λ m.
       rw (region-at t p (parent s good i p g h e empty n at) (parent-there s good i p g h e empty n at t b)) (gained-base t (h .owner) (k, aside-live (aside-then left (b .aside)) (h .owner) (good .owners p h at)) _))
 
@@ -63,7 +63,7 @@ module _ (s : State) (good : Good s) (r : Base s) (i p : ℕ) (g h : Region) (e 
   slot-there : (t : State) → Beside (leaveParent i s) t → (y : Region) × In (t .regions) i y
   slot-there t b = live-is (slotOf (t .regions) i) (subst (λ (rs : List (Option Region)). T (isSome (slotOf rs i))) (sym (b .regions ∙ less-there)) (live-put (s .regions) p _ (in-length (s .regions) p h at) i (is-live _ g e)))
 
-  free-base : (t : State) → Base t → Beside (leaveParent i s) t → All Base (freeRegion i t)
+  pub free-base : (t : State) → Base t → Beside (leaveParent i s) t → All Base (freeRegion i t)
   unfolding freeRegion
   free-base t k b =
       let (y, m) = slot-there t b in
@@ -81,7 +81,7 @@ module _ (s : State) (good : Good s) (r : Base s) (i p : ℕ) (g h : Region) (e 
 
 -- ---- the region and all below it
 
-leaves-whole : (s : State) → Leaves (λ t. Whole t × Aside s t)
+pub leaves-whole : (s : State) → Leaves (λ t. Whole t × Aside s t)
 unfolding Leaves
 leaves-whole s t i p g h ((k, r), b) q e empty n at = weaken (both (leaf-good t k i p g h e empty n at) (leaf-base t k r i p g h e empty n at)) (λ u ((j, c), v). ((j, v), aside-then b c))
 

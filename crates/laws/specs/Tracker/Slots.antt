@@ -14,7 +14,7 @@ use Rattle.laws.specs.Answers.{Gives, gives, gives-then, gives-weaken, g
 use Rattle.laws.specs.Tracker.Pools.{Moved, NoRecord, uses-append, stay, weave, frame, allocate-moves, free-moves}
 
 -- a walk on the records l
-abbrev Walks : Pool → List Record → Walk → Type 0
+abbrev pub Walks : Pool → List Record → Walk → Type 0
 Walks p l w = Moved p (w .pool) l (w .records)
 
 -- ---- the pieces
@@ -49,7 +49,7 @@ add-to-moves r s e q p =
     gives (weave h k (λ i. omega (arith, uses-append i (x .0) (x .1 ∷ []), uses-append i (x .0) (withCounts (raise r (y .0 .counts)) (y .0) ∷ y .1)))))))
     (gives (stay p (q ∷ [])))
 
-add-moves : (r s e : ℕ) (l : List Record) (p : Pool) → Gives (Walks p l) NoRecord (addRegion r s e l p)
+pub add-moves : (r s e : ℕ) (l : List Record) (p : Pool) → Gives (Walks p l) NoRecord (addRegion r s e l p)
 unfolding addRegion
 add-moves r s e [] p = gives-then (gap-moves r s e p) (λ x h. gives h)
 add-moves r s e (q ∷ l) p =
@@ -67,7 +67,7 @@ remove-from-moves r s e q p =
     (λ i. omega (arith, uses-append i (x .0) (y .0 ∷ y .1), uses-append i (x .0) (u .0), uses-append i (x .0 ++ u .0) (y .1))))))))
     (gives (stay p (q ∷ [])))
 
-remove-moves : (r s e : ℕ) (l : List Record) (p : Pool) → Gives (Walks p l) NoRecord (removeRegion r s e l p)
+pub remove-moves : (r s e : ℕ) (l : List Record) (p : Pool) → Gives (Walks p l) NoRecord (removeRegion r s e l p)
 unfolding removeRegion
 remove-moves r s e [] p = gives (stay p [])
 remove-moves r s e (q ∷ l) p = gives-then (remove-from-moves r s e q p) (λ w k. gives-then (remove-moves r s e l (w .pool)) (λ v j. gives (weave k j (λ i. omega (arith, uses-append i (w .records) (v .records))))))

@@ -29,7 +29,7 @@ alive-le none y s = omega arith
 alive-le (some z) none s = absurd (none-some (bare (some z)) _ (s z refl) refl)
 alive-le (some z) (some w) s = omega arith
 
-fewer : (rs rs′ : List (Option Region)) (i : ℕ) (g : Region) → In rs i g → Revoked rs i rs′ → count isSome rs′ < count isSome rs
+pub fewer : (rs rs′ : List (Option Region)) (i : ℕ) (g : Region) → In rs i g → Revoked rs i rs′ → count isSome rs′ < count isSome rs
 fewer rs rs′ i g e v =
     let w : List (Option Region) → ℕ → ℕ = λ l k. oneIf (isSome (slotOf l k)) in
     omega (
@@ -40,7 +40,7 @@ fewer rs rs′ i g e v =
       sum-lt (w rs′) (w rs) (length rs) i (in-length rs i g e) (λ k. alive-le (slotOf rs′ k) (slotOf rs k) (v .left k)) (omega (arith, ap (λ (x : Option Region). oneIf (isSome x)) (v .gone i (Below.here refl)), ap (λ (x : Option Region). oneIf (isSome x)) e)),
     )
 
-ranked-left : (rs rs′ : List (Option Region)) (r : ℕ → ℕ) (i : ℕ) → Ranked rs r → Revoked rs i rs′ → Ranked rs′ r
+pub ranked-left : (rs rs′ : List (Option Region)) (r : ℕ → ℕ) (i : ℕ) → Ranked rs r → Revoked rs i rs′ → Ranked rs′ r
 ranked-left rs rs′ r i q v = record {
   root = λ k x e n. let w = was rs rs′ k x (v .left k x e) e in q .root k (w .0) (w .1) (w .2 ∙ n);
   child = λ k p x e n. let w = was rs rs′ k x (v .left k x e) e in q .child k p (w .0) (w .1) (w .2 ∙ n);
@@ -53,10 +53,10 @@ unfoldable pub Leaves : (State → Type 0) → Type 0
 Leaves P = (s : State) (i p : ℕ) (g h : Region) → P s → Regions (s .regions) → In (s .regions) i g → g .children ≡ [] → parentOf (g .kind) ≡ some p → In (s .regions) p h → All P (revokeLeaf i s)
 
 module _ (P : State → Type 0) (leaf : Leaves P) (r : ℕ → ℕ) where
-  abbrev Done : State → ℕ → State → Type 0
+  abbrev pub Done : State → ℕ → State → Type 0
   Done s i t = P t × Revoked (s .regions) i (t .regions)
 
-  unfoldable Ok : ℕ → Type 0
+  unfoldable pub Ok : ℕ → Type 0
   Ok m = (s : State) (i p : ℕ) (g : Region) → P s → Regions (s .regions) → Ranked (s .regions) r → In (s .regions) i g → parentOf (g .kind) ≡ some p → count isSome (s .regions) ≤ m + r i → All (Done s i) (revokeRegion m i s)
 
   ok-zero : Ok 0
@@ -103,7 +103,7 @@ module _ (P : State → Type 0) (leaf : Leaves P) (r : ℕ → ℕ) where
   unfolding Ok
   ok-suc m ok s i p g k z q e n f = one-more m ok s i p g k z q e n f
 
-  ok-all : (m : ℕ) → Ok m
+  pub ok-all : (m : ℕ) → Ok m
   ok-all zero = ok-zero
   ok-all (suc m) = ok-suc m (ok-all m)
 

@@ -67,7 +67,7 @@ remove-regions : (p i : ℕ) (h : Region) (s : State) → In (s .regions) p h �
 unfolding removeChild
 remove-regions p i h s e = rw (region-at s p h e)
 
-by-parent : (k : Kind) (p : ℕ) (s : State) (f : ℕ → State) → parentOf k ≡ some p → (elim k [ Root ↦ s | Alias q ↦ f q | Carve q ↦ f q ]) ≡ f p
+pub by-parent : (k : Kind) (p : ℕ) (s : State) (f : ℕ → State) → parentOf k ≡ some p → (elim k [ Root ↦ s | Alias q ↦ f q | Carve q ↦ f q ]) ≡ f p
 by-parent Root p s f e = absurd (none-some none p refl e)
 by-parent (Alias q) p s f e = ap f (some-same (some q) q p refl e)
 by-parent (Carve q) p s f e = ap f (some-same (some q) q p refl e)

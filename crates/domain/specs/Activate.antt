@@ -1,0 +1,62 @@
+-- Steps on a domain: room in its list, a capability put there, and a range gained or lost with the update that this queues (domain.rs).
+use mathlib.Core.Bool.{Bool, true, false}
+use Prim.Native.Nat.{ℕ}
+use lib.Dec.{eqb}
+use lib.ListN.{getD}
+use Rattle.words.specs.Cases.{pick}
+use Rattle.tables.specs.declared.Slot.{Slot}
+use Rattle.tables.specs.Tables.{Tables, headAt}
+use Rattle.update.specs.Ring.{markOf, pushOf, cleanupOf}
+use Rattle.update.specs.Stored.{ringOf, withRingOf}
+use Rattle.region.specs.declared.AccessRights.{AccessRights}
+use Rattle.region.specs.Turns.{addRegion, removeRegion}
+use Rattle.answers.specs.declared.Answer.{Answer}
+use Rattle.answers.specs.declared.Answer.the-variants.{Done, Refused}
+use Rattle.answers.specs.declared.Refusal.{Refusal}
+use Rattle.answers.specs.declared.Refusal.the-variants.{NoLocal, RingFull}
+use Rattle.answers.specs.Answers.{Step, done, andThen}
+use Rattle.domain.specs.declared.Inserted.{Inserted}
+use Rattle.domain.specs.declared.Inserted.the-variants.{At, Full}
+use Rattle.domain.specs.Lists.{giveSlot}
+use Rattle.domain.specs.Record.{listAt}
+use Rattle.domain.specs.Capas.{roomB, withCapacity, withCapa}
+
+-- done where the test holds
+abbrev pub orRefused : Refusal → Bool → Answer
+orRefused r true = Done 0
+orRefused r false = Refused r
+
+-- a free slot in domain d's list, which is swept where it is full (the model's hasCapacity)
+unfoldable pub reserve : ℕ → Tables → Step
+reserve d s = record { answer = orRefused NoLocal (roomB (withCapacity s d) d); tables = withCapacity s d }
+
+abbrev pub insertedAnswer : Inserted → Answer
+insertedAnswer (At i) = Done i
+insertedAnswer Full = Refused NoLocal
+
+-- a capability in the first free slot; the answer is the slot (the model's insertCapa)
+unfoldable pub insert : ℕ → Slot → Tables → Step
+insert d x s = record { answer = insertedAnswer (giveSlot (listAt s d) .at); tables = withCapa s d x }
+
+-- domain d is queued with its core map unless it is queued already (the model's pushPermission)
+unfoldable pub notify : ℕ → Tables → Step
+notify d s =
+    let p = markOf (ringOf s) d (getD (s .domainPool .gens) d 0) (headAt s d .cores) in
+    record { answer = orRefused RingFull (p .ok); tables = withRingOf s (p .ring) }
+
+-- start and end are queued for cleanup (the model's push)
+unfoldable pub cleanup : ℕ → ℕ → Tables → Step
+cleanup a b s =
+    let p = pushOf (ringOf s) (cleanupOf a b) in
+    record { answer = orRefused RingFull (p .ok); tables = withRingOf s (p .ring) }
+
+-- a change, told by 1, queues domain d
+abbrev pub notifyIf : ℕ → ℕ → Tables → Step
+notifyIf d changed s = pick (eqb changed 0) (done 0 s) (notify d s)
+
+-- domain d gains, or loses, the range (the model's activate and deactivate)
+unfoldable pub activate : ℕ → AccessRights → Tables → Step
+activate d a s = andThen (addRegion d a s) (notifyIf d)
+
+unfoldable pub deactivate : ℕ → AccessRights → Tables → Step
+deactivate d a s = andThen (removeRegion d a s) (notifyIf d)

@@ -1,0 +1,102 @@
+// Steps on domain d as answers: room in its list, a capability put there, and a range gained or lost with the update that this
+// queues (document 01, **Tracker**, **Updates**).
+ghost use mathlib.Core.Path.{_≡_};
+ghost use Rattle.tables.specs.View.{view, Sized, Left};
+ghost use Rattle.domain.specs.Activate.{orRefused, reserve, insert, notify, cleanup, notifyIf, activate, deactivate};
+use crate::Inserted;
+use crate::capas;
+use answers::Answer;
+use answers::Refusal;
+use region::AccessRights;
+use tables::Slot;
+
+fn or_refused(ok: bool, r: Refusal) -> Answer
+    ensures { λ a. ⌜ a ≡ orRefused r ok ⌝ }
+{
+    if ok {
+        Answer::Done(0)
+    } else {
+        Answer::Refused(r)
+    }
+}
+
+// 12 where no slot is free after a sweep.
+pub fn reserve(t: &mut [u64], d: usize) -> Answer
+    requires { ⌜ Sized (now t) ⌝ }
+    ensures { λ r. ⌜ r ≡ reserve d (view (now (t .entry))) .answer ⌝ }
+    ensures { λ _. ⌜ Left (now (t .exit)) (reserve d (view (now (t .entry))) .tables) ⌝ }
+{
+    let room = capas::has_capacity_for(t, d);
+    or_refused(room, Refusal::NoLocal)
+}
+
+// The answer is the slot.
+pub fn insert(t: &mut [u64], d: usize, capa: Slot) -> Answer
+    requires { ⌜ Sized (now t) ⌝ }
+    ensures { λ r. ⌜ r ≡ insert d capa (view (now (t .entry))) .answer ⌝ }
+    ensures { λ _. ⌜ Left (now (t .exit)) (insert d capa (view (now (t .entry))) .tables) ⌝ }
+{
+    match capas::insert_capa(t, d, capa) {
+        Inserted::At(i) => Answer::Done(i as u64),
+        Inserted::Full => Answer::Refused(Refusal::NoLocal),
+    }
+}
+
+// ---- Updates
+
+// Queues domain d with its core map, unless it is queued already.
+pub fn notify(t: &mut [u64], d: usize) -> Answer
+    requires { ⌜ Sized (now t) ⌝ }
+    ensures { λ r. ⌜ r ≡ notify d (view (now (t .entry))) .answer ⌝ }
+    ensures { λ _. ⌜ Left (now (t .exit)) (notify d (view (now (t .entry))) .tables) ⌝ }
+{
+    let head = tables::load_head(t, d);
+    let generation = pools::domain_generation(t, d);
+    let queued = update::mark_domain(t, d as u64, generation, head.cores);
+    or_refused(queued, Refusal::RingFull)
+}
+
+pub fn cleanup(t: &mut [u64], start: u64, end: u64) -> Answer
+    requires { ⌜ Sized (now t) ⌝ }
+    ensures { λ r. ⌜ r ≡ cleanup start end (view (now (t .entry))) .answer ⌝ }
+    ensures { λ _. ⌜ Left (now (t .exit)) (cleanup start end (view (now (t .entry))) .tables) ⌝ }
+{
+    let queued = update::push_cleanup(t, start, end);
+    or_refused(queued, Refusal::RingFull)
+}
+
+// `changed` is 1 where a count left or came to 0 (`PermissionChange`).
+fn notify_if(t: &mut [u64], d: usize, changed: u64) -> Answer
+    requires { ⌜ Sized (now t) ⌝ }
+    ensures { λ r. ⌜ r ≡ notifyIf d changed (view (now (t .entry))) .answer ⌝ }
+    ensures { λ _. ⌜ Left (now (t .exit)) (notifyIf d changed (view (now (t .entry))) .tables) ⌝ }
+{
+    if changed == 0 {
+        return Answer::Done(0);
+    }
+    notify(t, d)
+}
+
+// ---- A range gained and lost
+
+pub fn activate_region(t: &mut [u64], d: usize, a: AccessRights) -> Answer
+    requires { ⌜ Sized (now t) ⌝ }
+    ensures { λ r. ⌜ r ≡ activate d a (view (now (t .entry))) .answer ⌝ }
+    ensures { λ _. ⌜ Left (now (t .exit)) (activate d a (view (now (t .entry))) .tables) ⌝ }
+{
+    match region::add_region(t, d, a) {
+        Answer::Done(changed) => notify_if(t, d, changed),
+        Answer::Refused(r) => Answer::Refused(r),
+    }
+}
+
+pub fn deactivate_region(t: &mut [u64], d: usize, a: AccessRights) -> Answer
+    requires { ⌜ Sized (now t) ⌝ }
+    ensures { λ r. ⌜ r ≡ deactivate d a (view (now (t .entry))) .answer ⌝ }
+    ensures { λ _. ⌜ Left (now (t .exit)) (deactivate d a (view (now (t .entry))) .tables) ⌝ }
+{
+    match region::remove_region(t, d, a) {
+        Answer::Done(changed) => notify_if(t, d, changed),
+        Answer::Refused(r) => Answer::Refused(r),
+    }
+}

@@ -1,0 +1,196 @@
+// The readings (document 01, **Reading**). Each follows as many links as there are records at most.
+ghost use mathlib.Core.Path.{_≡_};
+ghost use Prim.Native.Nat.{_+_, _≤_, max};
+ghost use lib.ListN.{length};
+ghost use Rattle.words.specs.Cases.{pick};
+ghost use Rattle.tables.specs.View.{view, Sized};
+ghost use Rattle.arena.specs.Arena.{isFreeB};
+ghost use Rattle.readings.specs.Readings.{recordsOf, flagIf, rightsOf, meets, largestReach, permissionList, foundAt, planOf, isHolder, holdersOf, fillRun};
+use region::counts;
+use region::links;
+use tables::Region;
+
+// A record of the permission list. Its three words leave no byte unsettled.
+#[repr(C)]
+pub struct Permission {
+    pub start: u64,
+    pub end: u64,
+    pub rights: u64,
+}
+
+// A record's permission, and the link behind it.
+pub struct Found {
+    pub p: Permission,
+    pub next: u64,
+}
+
+// How many records fill a run, the link of the first, and how many there are.
+pub struct Plan {
+    pub turns: usize,
+    pub at: u64,
+    pub answer: u64,
+}
+
+// ---- Numbers
+
+fn larger(a: u64, b: u64) -> u64
+    ensures { λ r. ⌜ r ≡ max a b ⌝ }
+{
+    if a < b { b } else { a }
+}
+
+// The flag where its count is above 0, else none.
+fn flag_if(flag: u64, n: u64) -> u64
+    ensures { λ r. ⌜ r ≡ flagIf flag n ⌝ }
+    ensures { λ r. ⌜ r ≤ flag ⌝ }
+{
+    if 0 < n { flag } else { 0 }
+}
+
+// The rights whose count is above 0.
+pub fn get_ops(q: Region) -> u64
+    ensures { λ r. ⌜ r ≡ rightsOf q ⌝ }
+{
+    let rw = flag_if(1, q.read_count) + flag_if(2, q.write_count);
+    let rwx = rw + flag_if(4, q.exec_count) + flag_if(8, q.super_count);
+    rwx + flag_if(128, q.uncache_count)
+}
+
+// The reach of a record that begins at `last` or before and ends after `start`, else 0.
+fn reach_in(q: Region, start: u64, last: u64) -> u64
+    ensures { λ r. ⌜ r ≡ pick (meets start (last + 1) q) (q .«ref_count») 0 ⌝ }
+{
+    if words::both(start < q.end, q.start <= last) {
+        q.ref_count
+    } else {
+        0
+    }
+}
+
+// The largest such reach in domain d.
+fn largest_reach(t: &[u64], d: usize, start: u64, last: u64) -> u64
+    requires { ⌜ Sized (now t) ⌝ }
+    ensures { λ r. ⌜ r ≡ largestReach start (last + 1) (recordsOf (view (now (t .entry))) d) ⌝ }
+{
+    let mut most = 0;
+    let mut left = words::size(t, 3);
+    let mut k = links::first(t, d);
+    while 0 < left {
+        if k == 0 {
+            return most;
+        }
+        let q = tables::load_record(t, links::slot_to(k));
+        most = larger(most, reach_in(q, start, last));
+        k = q.next;
+        left -= 1;
+    }
+    most
+}
+
+// The largest reach of a record that begins before `end` and ends after `start`.
+pub fn get_refcount(t: &[u64], d: usize, start: u64, end: u64) -> u64
+    requires { ⌜ Sized (now t) ⌝ }
+    ensures { λ r. ⌜ r ≡ largestReach start end (recordsOf (view (now (t .entry))) d) ⌝ }
+{
+    if 0 < end {
+        largest_reach(t, d, start, end - 1)
+    } else {
+        0
+    }
+}
+
+// ---- The permission list
+
+// The number of domain d's records.
+fn count(t: &[u64], d: usize) -> u64
+    requires { ⌜ Sized (now t) ⌝ }
+    ensures { λ r. ⌜ r ≡ length (recordsOf (view (now (t .entry))) d) ⌝ }
+{
+    let mut n = 0;
+    let mut left = words::size(t, 3);
+    let mut k = links::first(t, d);
+    while 0 < left {
+        if k == 0 {
+            return n;
+        }
+        let q = tables::load_record(t, links::slot_to(k));
+        k = q.next;
+        n += 1;
+        left -= 1;
+    }
+    n
+}
+
+// What filling a run of `room` places goes by.
+pub fn plan_of(t: &[u64], d: usize, room: usize) -> Plan
+    requires { ⌜ Sized (now t) ⌝ }
+    ensures { λ r. ⌜ r ≡ planOf (view (now (t .entry))) d room ⌝ }
+{
+    let n = count(t, d);
+    Plan {
+        turns: counts::least(n, room as u64) as usize,
+        at: links::first(t, d),
+        answer: n,
+    }
+}
+
+// The permission of the record at link k, and the link behind it.
+pub fn found_at(t: &[u64], k: u64) -> Found
+    requires { ⌜ Sized (now t) ⌝ }
+    ensures { λ r. ⌜ r ≡ foundAt (view (now (t .entry))) k ⌝ }
+{
+    let q = tables::load_record(t, links::slot_to(k));
+    let p = Permission {
+        start: q.start,
+        end: q.end,
+        rights: get_ops(q),
+    };
+    Found { p, next: q.next }
+}
+
+// Domain d's permission list into a lent run; the answer is its whole length.
+pub fn permissions(t: &[u64], d: usize, run: &mut [Permission]) -> u64
+    requires { ⌜ Sized (now t) ⌝ }
+    ensures { λ r. ⌜ (r ≡ length (permissionList (view (now (t .entry))) d)) × (now (run .exit) ≡ fillRun (permissionList (view (now (t .entry))) d) (now (run .entry))) ⌝ }
+{
+    let p = plan_of(t, d, run.len());
+    let mut at = p.at;
+    let mut k = 0;
+    while k < p.turns {
+        let f = found_at(t, at);
+        run[k] = f.p;
+        at = f.next;
+        k = k + 1;
+    }
+    p.answer
+}
+
+// ---- The holders of an address
+
+// Whether domain d is in use and has reach above 0 at a.
+fn is_holder(t: &[u64], d: usize, a: u64) -> bool
+    requires { ⌜ Sized (now t) ⌝ }
+    ensures { λ r. ⌜ r ≡ isHolder (view (now (t .entry))) a d ⌝ }
+{
+    words::both(!pools::domain_is_free(t, d), 0 < largest_reach(t, d, a, a))
+}
+
+// The slots of the domains with reach above 0 at a into a lent run, rising; the answer is their number.
+pub fn holders(t: &[u64], a: u64, run: &mut [u64]) -> u64
+    requires { ⌜ Sized (now t) ⌝ }
+    ensures { λ r. ⌜ r ≡ length (holdersOf (view (now (t .entry))) a) ⌝ }
+    ensures { λ _. ⌜ now (run .exit) ≡ fillRun (holdersOf (view (now (t .entry))) a) (now (run .entry)) ⌝ }
+{
+    let mut left = words::size(t, 0);
+    let mut n: usize = 0;
+    let mut d: usize = 0;
+    while 0 < left {
+        if is_holder(t, d, a) {
+            words::put(run, n, d as u64);
+            n += 1;
+        }
+        d += 1;
+        left -= 1;
+    }
+    n as u64
+}

@@ -1,0 +1,86 @@
+-- A domain gains, or loses, a range: the walk over its tracker, and where a count left or came to 0 the update that this queues. The walks are the
+-- tracker's; here the answer of a walk, 1 or 0, becomes the model's `putWalk`.
+use mathlib.Core.Path.{_≡_, refl, ap, _∙_}
+use Prim.Native.Nat.{ℕ, _-_, _^_, _<_}
+use mathlib.Core.Bool.{Bool, true, false}
+use mathlib.Core.Option.{some, none}
+use lib.ListN.{length-set}
+use lib.Seq.{getD-set-same}
+use Rattle.model.specs.Lists.{if_then_else_, oneIf, Each, slotOf, In}
+use Rattle.model.specs.Outcome.{Outcome, ok, _>>=_}
+use Rattle.model.specs.State.{State, Domain, Counts, putDomain, withTracker, withRecordPool}
+use Rattle.model.specs.Tracker.{Walk, gain, lose}
+use Rattle.model.specs.Updates.{pushPermission}
+use Rattle.model.specs.Regions as model
+use Rattle.model.specs.Regions.{putWalk}
+use Rattle.model.specs.Sound.{Rising}
+use Rattle.laws.specs.Tracker.Fields.{Field, get}
+use Rattle.laws.specs.Tree.Slots.{in-length, live-is}
+use Rattle.laws.specs.Capas.Slots.{each-weaken}
+use Rattle.laws.specs.Capas.Held.{domain-at}
+use Rattle.answers.specs.Answers.{Step, andThen}
+use Rattle.region.specs.Turns.{addRegion, removeRegion}
+use Rattle.domain.specs.Activate.{notifyIf, activate, deactivate}
+use Rattle.refine.specs.Sizes.{good-limits}
+use Rattle.refine.specs.Tables.{tablesOf}
+use Rattle.refine.specs.Agrees.{Agrees, agrees-call, agrees-from, bind-assoc}
+use Rattle.refine.specs.Queue.RingSteps.{notify-refines}
+use Rattle.refine.specs.Tracker.RecordSteps.{Held}
+use Rattle.refine.specs.Tracker.TrackerCounts.{Raisable}
+use Rattle.refine.specs.Tracker.Gain.{add-refines}
+use Rattle.refine.specs.Tracker.Lose.{remove-refines}
+use Rattle.refine.specs.Calls.Bounds.{Able}
+use Rattle.refine.specs.Calls.Acts.{plain, Acts, Deacts}
+
+-- ---- what the walks need
+
+raisable : (k : Counts) → ((f : Field) → get f k < 2 ^ 64 - 1) → Raisable k
+raisable k h = record { reach = h Field.Reach; read = h Field.Read; write = h Field.Write; exec = h Field.Exec; super = h Field.Super }
+
+module _ (s : State) (able : Able s) (d : ℕ) (x : Domain) (at : In (s .domains) d x) where
+  held : Held s d x
+  held = record { long = able .base .domains .size; at = at; few = good-limits (s .sizes) (able .base .ring .sizesGood) .records-high; sound = able .pool }
+
+  rising : Rising 0 (x .tracker)
+  rising = rw (domain-at s d x at) at (able .form d .rising)
+
+  low : Each (λ q. Raisable (q .counts)) (x .tracker)
+  low = each-weaken _ _ (x .tracker) (λ q. raisable (q .counts)) (rw (domain-at s d x at) at (able .low d))
+
+  -- ---- a walk is put back, and a change queues the domain
+
+  abbrev after : Walk → State
+  after w = withRecordPool (w .pool) (putDomain d (withTracker (w .records) x) s)
+
+  told : (w : Walk) (b : Bool) → Agrees (notifyIf d (oneIf b) (tablesOf (after w))) (plain (if b then pushPermission d (after w) else ok (after w)))
+  unfolding _>>=_
+  told w true =
+      let q = able .base .ring .queue in
+      notify-refines (after w) (good-limits (s .sizes) (able .base .ring .sizesGood) .updates-high) (q .readPlace) (q .fits) d (withTracker (w .records) x)
+      (length-set (s .domains) d (some (withTracker (w .records) x)) ∙ able .base .domains .size)
+      (getD-set-same (s .domains) d (some (withTracker (w .records) x)) none (in-length (s .domains) d x at))
+  told w false = (refl, refl)
+
+  put-is : (w : Walk) → putWalk d w s ≡ if w .changed then pushPermission d (after w) else ok (after w)
+  unfolding putWalk
+  put-is w = ap (λ (y : Domain). let t = withRecordPool (w .pool) (putDomain d (withTracker (w .records) y) s) in if w .changed then pushPermission d t else ok t) (domain-at s d x at)
+
+  -- the walk m of the model, which the code's step z does
+  walk-refines : (z : Step) (m : Outcome Walk) → Agrees z (m >>= λ w. ok (oneIf (w .changed), after w)) → Agrees (andThen z (notifyIf d)) (plain (m >>= λ w. putWalk d w s))
+  walk-refines z m h =
+      agrees-call _ _ _ (bind-assoc m _ _)
+      (agrees-from z (notifyIf d) m (λ w. (oneIf (w .changed), after w)) (λ w. plain (putWalk d w s)) h (λ w e. agrees-call _ _ _ (ap plain (put-is w)) (told w (w .changed))))
+
+pub activate-refines : Acts
+unfolding activate model.activate
+activate-refines s d a able live z =
+    let (x, at) = live-is (slotOf (s .domains) d) live in
+    agrees-call _ _ _ (ap (λ (y : Domain). plain (gain (a .ops .0) (a .start) (a .end) (y .tracker) (s .recordPool) >>= λ w. putWalk d w s)) (domain-at s d x at))
+    (walk-refines s able d x at (addRegion d a (tablesOf s)) (gain (a .ops .0) (a .start) (a .end) (x .tracker) (s .recordPool)) (add-refines s d x a (held s able d x at) (rising s able d x at) (low s able d x at) z))
+
+pub deactivate-refines : Deacts
+unfolding deactivate model.deactivate
+deactivate-refines s d a able live z =
+    let (x, at) = live-is (slotOf (s .domains) d) live in
+    agrees-call _ _ _ (ap (λ (y : Domain). plain (lose (a .ops .0) (a .start) (a .end) (y .tracker) (s .recordPool) >>= λ w. putWalk d w s)) (domain-at s d x at))
+    (walk-refines s able d x at (removeRegion d a (tablesOf s)) (lose (a .ops .0) (a .start) (a .end) (x .tracker) (s .recordPool)) (remove-refines s d x a (held s able d x at) (rising s able d x at) z))

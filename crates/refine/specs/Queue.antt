@@ -1,0 +1,4 @@
+-- The update ring in the tables.
+pub mod Round
+pub mod Ring
+pub mod RingSteps

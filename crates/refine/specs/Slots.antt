@@ -1,0 +1,6 @@
+-- Domains and their slot lists in the tables.
+pub mod Domains
+pub mod Locals
+pub mod ListSteps
+pub mod Sweep
+pub mod Opening

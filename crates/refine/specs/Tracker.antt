@@ -1,0 +1,20 @@
+-- The trackers in the tables: gain and loss, turn by turn.
+pub mod Trackers
+pub mod TrackerSteps
+pub mod Linked
+pub mod RecordSteps
+pub mod RecordFrees
+pub mod WalkSteps
+pub mod GainSteps
+pub mod LossSteps
+pub mod Walking
+pub mod Walks
+pub mod TrackerCounts
+pub mod Merge
+pub mod GainTurns
+pub mod GainWalk
+pub mod LossTurns
+pub mod LossWalk
+pub mod MergedWalk
+pub mod Gain
+pub mod Lose

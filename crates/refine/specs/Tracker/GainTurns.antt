@@ -1,0 +1,135 @@
+-- The turns of the code's gain, by where the range starts and ends about the record at hand. b is done, the rest is to come; the rest of the range
+-- starts at st. Each law says what the turn does to the tables of the state in the middle of the walk.
+use mathlib.Core.Path.{_≡_, refl, sym, ap, _∙_}
+use Prim.Native.Nat.{ℕ, suc, _≤_, _<_, min}
+use mathlib.Core.Bool.{Bool, true, false, _||_, or-false}
+use mathlib.Core.List.{List, [], _∷_, _++_}
+use native.Mathlib.Omega.{arith}
+use lib.Dec.{ltb}
+use Rattle.model.specs.Lists.{oneIf}
+use Rattle.model.specs.State.{State, Record, Pool, Domain}
+use Rattle.model.specs.Layout.{link}
+use Rattle.model.specs.Tracker.{raise, changes}
+use Rattle.laws.specs.Cases.{lt, ge, cmp, ltb-t, ltb-f, eqb-f}
+use Rattle.laws.specs.Words.SameTrackers.{firstSlot}
+use Rattle.words.specs.Cases.{pick}
+use Rattle.tables.specs.declared.Region.{Region}
+use Rattle.tables.specs.Tables.{Tables, recordAt, withRecord}
+use Rattle.region.specs.declared.AccessRights.{AccessRights}
+use Rattle.region.specs.declared.Cursor.{Cursor}
+use Rattle.region.specs.declared.Progress.the-variants.{Going}
+use Rattle.region.specs.declared.Way.the-variants.{Add}
+use Rattle.region.specs.Links.{slotTo, inserted, split}
+use Rattle.region.specs.Counts.{changesB}
+use Rattle.region.specs.Turns.{Turn, to, over, onward, nextOf, fillTurn, cutStart, cutEnd, raiseTurn, addAt, addTurn, turn}
+use Rattle.refine.specs.Tables.{recordFor, tablesOf}
+use Rattle.refine.specs.Tracker.Linked.{slot-of, lastLink}
+use Rattle.refine.specs.Tracker.RecordSteps.{tracked}
+use Rattle.refine.specs.Tracker.GainSteps.{newRecord, raisedRecord}
+use Rattle.refine.specs.Tracker.TrackerCounts.{Raisable, made-is, raised-is, changes-is, noted-is}
+use Rattle.refine.specs.Tracker.Walking.{leb-t, leb-f, cursor, Fits, row-here, changed-here}
+use Rattle.refine.specs.Tracker.Walks.{behind}
+
+pub pick-t : {A : Type 0} (b : Bool) (x y : A) → b ≡ true → pick b x y ≡ x
+pick-t b x y e = rw e
+
+pub pick-f : {A : Type 0} (b : Bool) (x y : A) → b ≡ false → pick b x y ≡ y
+pick-f b x y e = rw e
+
+pick-min : (m e : ℕ) → pick (ltb m e) m e ≡ min e m
+pick-min m e = elim (cmp m e) [
+  | lt h ↦ let k : min e m ≡ m = omega arith in rw (ltb-t m e h, k)
+  | ge h ↦ let k : min e m ≡ e = omega arith in rw (ltb-f m e h, k)
+]
+
+-- the five cases, for a record with its row
+module _ (t : Tables) (d : ℕ) (a : AccessRights) (c : Cursor) (q : Region) where
+  at-gap : c .start < q .start → addAt t d a c q ≡ fillTurn t d a c (pick (ltb (q .start) (a .end)) (q .start) (a .end))
+  unfolding addAt
+  at-gap h = pick-t _ _ _ (ltb-t (c .start) (q .start) h)
+
+  at-pass : q .start ≤ c .start → q .end ≤ c .start → addAt t d a c q ≡ to (Going (nextOf c (q .next) (c .start) false)) t
+  unfolding addAt
+  at-pass h k = pick-f _ _ _ (ltb-f (c .start) (q .start) h) ∙ pick-t _ _ _ (leb-t (q .end) (c .start) k)
+
+  at-cut : q .start < c .start → c .start < q .end → addAt t d a c q ≡ cutStart t c
+  unfolding addAt
+  at-cut h k = pick-f _ _ _ (ltb-f (c .start) (q .start) (omega arith)) ∙ pick-f _ _ _ (leb-f (q .end) (c .start) k) ∙ pick-t _ _ _ (ltb-t (q .start) (c .start) h)
+
+  at-start : q .start ≡ c .start → c .start < q .end → addAt t d a c q ≡ pick (ltb (a .end) (q .end)) (cutEnd t c (a .end)) (raiseTurn t a c q)
+  unfolding addAt
+  at-start h k = pick-f _ _ _ (ltb-f (c .start) (q .start) (omega arith)) ∙ pick-f _ _ _ (leb-f (q .end) (c .start) k) ∙ pick-f _ _ _ (ltb-f (q .start) (c .start) (omega arith))
+
+module _ (s : State) (d : ℕ) (x : Domain) (a : AccessRights) (st : ℕ) (z : Bool) (b : List Record) (p : Pool) where
+  abbrev tables : List Record → Tables
+  tables l = tablesOf (tracked s d x (b ++ l) p)
+
+  -- the range is done
+  pub turn-done : (l : List Record) → a .end ≤ st → turn Add (tables l) d a (cursor b l st z) ≡ over (cursor b l st z) (tables l)
+  unfolding addTurn cursor
+  turn-done l h = rw (leb-t (a .end) st h)
+
+  fill-is : (l : List Record) (e : ℕ) → fillTurn (tables l) d a (cursor b l st z) e
+      ≡ onward (inserted (tables l) d (lastLink b) (recordFor (newRecord (a .ops .0) st e 0) (firstSlot l))) (λ k. record { prev = k; at = link (firstSlot l); start = e; changed = 1 })
+  unfolding fillTurn cursor
+  fill-is l e = ap (λ (q : Region). onward (inserted (tables l) d (lastLink b) q) (λ k. record { prev = k; at = link (firstSlot l); start = e; changed = 1 })) (made-is (a .ops .0) st e 0 (firstSlot l))
+
+  module _ (todo : st < a .end) where
+    -- no record is left
+    pub turn-last : turn Add (tables []) d a (cursor b [] st z)
+        ≡ onward (inserted (tables []) d (lastLink b) (recordFor (newRecord (a .ops .0) st (a .end) 0) (firstSlot []))) (λ k. record { prev = k; at = link (firstSlot []); start = a .end; changed = 1 })
+    unfolding addTurn cursor
+    turn-last = pick-f _ _ _ (leb-f (a .end) st todo) ∙ fill-is [] (a .end)
+
+    module _ (q : Record) (l : List Record) (h : Fits s d x (b ++ q ∷ l) p) where
+      abbrev t : Tables
+      t = tables (q ∷ l)
+
+      abbrev c : Cursor
+      c = cursor b (q ∷ l) st z
+
+      abbrev row : Region
+      row = recordFor q (firstSlot l)
+
+      turn-row : turn Add t d a c ≡ addAt t d a c row
+      unfolding addTurn cursor
+      turn-row =
+          rw (leb-f (a .end) st todo, eqb-f (suc (q .slot)) 0 (λ k. omega arith)) (ap (λ (i : ℕ). addAt t d a c (recordAt t i)) (slot-of (q .slot)) ∙ ap (addAt t d a c) (row-here s d x b l q p h))
+
+      -- a gap before q
+      pub turn-gap : st < q .start → turn Add t d a c
+          ≡ onward (inserted t d (lastLink b) (recordFor (newRecord (a .ops .0) st (min (a .end) (q .start)) 0) (firstSlot (q ∷ l))))
+          (λ k. record { prev = k; at = link (firstSlot (q ∷ l)); start = min (a .end) (q .start); changed = 1 })
+      unfolding cursor
+      turn-gap k = turn-row ∙ at-gap t d a c row k ∙ ap (fillTurn t d a c) (pick-min (q .start) (a .end)) ∙ fill-is (q ∷ l) (min (a .end) (q .start))
+
+      -- q lies before the range
+      pub turn-pass : q .start ≤ st → q .end ≤ st → turn Add t d a c ≡ to (Going (behind q l st (z || false))) t
+      unfolding cursor
+      turn-pass k m = turn-row ∙ at-pass t d a c row k m ∙ ap (λ (y : Bool). to (Going (behind q l st y)) t) (sym (or-false z))
+
+      -- the range starts inside q
+      pub turn-cut : q .start < st → st < q .end → turn Add t d a c ≡ onward (split t (q .slot) st) (λ k. record { prev = suc (q .slot); at = k; start = st; changed = oneIf z })
+      unfolding cutStart cursor
+      turn-cut k m = turn-row ∙ at-cut t d a c row k m ∙ ap (λ (i : ℕ). onward (split t i st) (λ k. record { prev = suc (q .slot); at = k; start = st; changed = oneIf z })) (slot-of (q .slot))
+
+      module _ (same : q .start ≡ st) (some-of-it : q .start < q .end) where
+        -- the range starts with q, and ends inside it
+        pub turn-trim : a .end < q .end → turn Add t d a c ≡ onward (split t (q .slot) (a .end)) (λ k. c)
+        unfolding cutEnd cursor
+        turn-trim m = turn-row ∙ at-start t d a c row same (omega arith) ∙ pick-t _ _ _ (ltb-t (a .end) (q .end) m) ∙ ap (λ (i : ℕ). onward (split t i (a .end)) (λ k. c)) (slot-of (q .slot))
+
+        pub turn-raise : q .end ≤ a .end → Raisable (q .counts)
+            → turn Add t d a c ≡ to (Going (behind (raisedRecord (a .ops .0) q) l (q .end) (z || changes (q .counts) (raise (a .ops .0) (q .counts))))) (tables (raisedRecord (a .ops .0) q ∷ l))
+        unfolding raiseTurn cursor
+        turn-raise m u =
+            let r = raisedRecord (a .ops .0) q in
+            let next : Region → Turn = λ y. to (Going (nextOf c (link (firstSlot l)) (q .end) (changesB row y))) (withRecord t (slotTo (suc (q .slot))) y) in
+            turn-row
+            ∙ at-start t d a c row same (omega arith)
+            ∙ pick-f _ _ _ (ltb-f (a .end) (q .end) m)
+            ∙ ap next (raised-is (a .ops .0) q (firstSlot l) u)
+            ∙ ap (λ (i : ℕ). to (Going (nextOf c (link (firstSlot l)) (q .end) (changesB row (recordFor r (firstSlot l))))) (withRecord t i (recordFor r (firstSlot l)))) (slot-of (q .slot))
+            ∙ ap (λ (u : Tables). to (Going (nextOf c (link (firstSlot l)) (q .end) (changesB row (recordFor r (firstSlot l))))) u) (changed-here s d x b l q p h r refl)
+            ∙ ap (λ (k : Bool). to (Going (nextOf c (link (firstSlot l)) (q .end) k)) (tables (r ∷ l))) (changes-is q r (firstSlot l) (firstSlot l))
+            ∙ ap (λ (k : ℕ). to (Going (record { prev = suc (q .slot); at = link (firstSlot l); start = q .end; changed = k })) (tables (r ∷ l))) (noted-is z (changes (q .counts) (r .counts)))

@@ -1,0 +1,80 @@
+-- What the model's two walks share: records done are put before the walk over the rest, and a record is cut at an edge of the range.
+use mathlib.Core.Path.{_≡_, refl, sym, ap, _∙_}
+use Prim.Native.Nat.{ℕ, _≤_, _<_}
+use mathlib.Core.Bool.{Bool, true, false, _||_, or-assoc}
+use mathlib.Core.List.{List, [], _∷_, _++_, append-assoc}
+use Rattle.model.specs.Outcome.{Outcome, ok, refuse, _>>=_, Refusal, noTracker}
+use Rattle.model.specs.State.{Record, Pool}
+use Rattle.model.specs.Pool.{allocate}
+use Rattle.model.specs.Tracker.{Walk, withEnd, splitAt, cutBefore, cutAfter, meets}
+use Rattle.laws.specs.Cases.{ltb-t, ltb-f}
+use Rattle.refine.specs.Agrees.{ok-then, bind-assoc}
+use Rattle.refine.specs.Tracker.RecordSteps.{from}
+
+abbrev pub walked : List Record → Pool → Bool → Walk
+walked l p c = record { records = l; pool = p; changed = c }
+
+-- a walk, with records b done before it, where c says whether there was a change
+unfoldable pub ahead : List Record → Bool → Outcome Walk → Outcome Walk
+ahead b c m = m >>= λ w. ok (walked (b ++ w .records) (w .pool) (c || w .changed))
+
+pub ahead-ahead : (b b′ : List Record) (c c′ : Bool) (m : Outcome Walk) → ahead b c (ahead b′ c′ m) ≡ ahead (b ++ b′) (c || c′) m
+unfolding ahead _>>=_
+ahead-ahead b b′ c c′ (ok w) =
+    let r = sym (append-assoc b b′ (w .records)) in
+    let z = sym (or-assoc c c′ (w .changed)) in
+    λ i. ok (walked (r i) (w .pool) (z i))
+ahead-ahead b b′ c c′ (refuse x) = refl
+
+pub ahead-then : {A : Type 0} (b : List Record) (c : Bool) (m : Outcome A) (f : A → Outcome Walk) → ahead b c (m >>= f) ≡ m >>= (λ y. ahead b c (f y))
+unfolding ahead
+ahead-then b c m f = bind-assoc m f _
+
+ahead-ok : (b : List Record) (c : Bool) (w : Walk) → ahead b c (ok w) ≡ ok (walked (b ++ w .records) (w .pool) (c || w .changed))
+unfolding ahead _>>=_
+ahead-ok b c w = refl
+
+-- what follows a walk with records before it
+module _ (n : Pool → Outcome Walk) where
+  unfoldable afterWalk : Walk → Outcome Walk
+  afterWalk w = ahead (w .records) (w .changed) (n (w .pool))
+
+  after-refused : (b : List Record) (c : Bool) (r : Refusal) → ahead b c (refuse r) >>= afterWalk ≡ ahead b c (refuse r >>= afterWalk)
+  unfolding ahead _>>=_
+  after-refused b c r = refl
+
+  pub ahead-out : (b : List Record) (c : Bool) (m : Outcome Walk) → ahead b c m >>= (λ w. ahead (w .records) (w .changed) (n (w .pool))) ≡ ahead b c (m >>= λ w. ahead (w .records) (w .changed) (n (w .pool)))
+  unfolding afterWalk
+  ahead-out b c (ok w) =
+      ap (λ k. k >>= afterWalk) (ahead-ok b c w) ∙ ok-then _ afterWalk ∙ sym (ap (ahead b c) (ok-then w afterWalk) ∙ ahead-ahead b (w .records) c (w .changed) (n (w .pool)))
+  ahead-out b c (refuse r) = after-refused b c r
+
+-- ---- a record cut
+
+module _ (c : ℕ) (q : Record) (p : Pool) where
+  pub before-whole : c ≤ q .start → cutBefore c q p ≡ ok ([], q, p)
+  unfolding cutBefore
+  before-whole h = rw (ltb-f (q .start) c h)
+
+  pub before-cut : q .start < c → cutBefore c q p ≡ allocate noTracker p >>= λ z. ok (withEnd c q ∷ [], from c (z .0) q, z .1)
+  unfolding cutBefore splitAt _>>=_
+  before-cut h = rw (ltb-t (q .start) c h) (bind-assoc (allocate noTracker p) _ _)
+
+  pub after-whole : q .end ≤ c → cutAfter c q p ≡ ok (q, [], p)
+  unfolding cutAfter
+  after-whole h = rw (ltb-f c (q .end) h)
+
+  pub after-cut : c < q .end → cutAfter c q p ≡ allocate noTracker p >>= λ z. ok (withEnd c q, from c (z .0) q ∷ [], z .1)
+  unfolding cutAfter splitAt _>>=_
+  after-cut h = rw (ltb-t c (q .end) h) (bind-assoc (allocate noTracker p) _ _)
+
+-- ---- does a record meet the range
+
+pub meets-t : (s e : ℕ) (q : Record) → s < q .end → q .start < e → meets s e q ≡ true
+meets-t s e q a b = rw (ltb-t s (q .end) a, ltb-t (q .start) e b)
+
+pub meets-below : (s e : ℕ) (q : Record) → q .end ≤ s → meets s e q ≡ false
+meets-below s e q a = rw (ltb-f s (q .end) a)
+
+pub meets-above : (s e : ℕ) (q : Record) → s < q .end → e ≤ q .start → meets s e q ≡ false
+meets-above s e q a b = rw (ltb-t s (q .end) a, ltb-f (q .start) e b)

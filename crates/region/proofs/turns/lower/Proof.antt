@@ -1,0 +1,74 @@
+-- The lowered record is stored, or unlinked and freed.
+use Rattle.region.proofs.Steps.{lower-kept, lower-gone, onward-done, onward-refused}
+use borrow.Author.Needs.{needs}
+use Rattle.region.proofs.turns.lower.Statement.{statement}
+use Rattle.region.proofs.turns.lower.Tie as tie
+
+decrease-requires : tie.Need-decrease-requires
+decrease-requires c κs = search needs
+
+slot-to-requires : tie.Need-slot-to-requires
+slot-to-requires c κs = search needs
+
+change-requires : tie.Need-change-requires
+change-requires c κs = search needs
+
+store-record-requires : tie.Need-store-record-requires
+store-record-requires c κs = search needs
+
+going-requires : tie.Need-going-requires
+going-requires c κs = search needs
+
+same-length : tie.Need-same-length
+same-length c = search needs
+
+returns : tie.Need-returns
+returns c = rw (c .going .ensures) (lower-kept _ _ _ _ _ _ _ (c .before .before .before .before .before .before .before .before .before .decrease .ensures) (c .before .before .before .before .before .before .before .change .ensures) _ (c .before .before .before .before .before .if1 .taken) (rw (c .before .before .before .before .before .before .before .before .slot-to .ensures) at (c .before .before .before .store-record .ensures)))
+
+set-next-requires : tie.Need-set-next-requires
+set-next-requires c κs = search needs
+
+free-requires : tie.Need-free-requires
+free-requires c κs = search needs
+
+enum-known-v : tie.Need-enum-known-v
+enum-known-v c = search needs
+
+dropped-requires : tie.Need-dropped-requires
+dropped-requires c κs = search needs
+
+enum-known-r : tie.Need-enum-known-r
+enum-known-r c = search needs
+
+same-length-2 : tie.Need-same-length-2
+same-length-2 c = search needs
+
+returns-2 : tie.Need-returns-2
+returns-2 c = rw (lower-gone _ _ _ _ _ _ _ (c .before .before .before .before .before .before .before .before .before .before .before .before .before .before .before .before .decrease .ensures) (c .before .before .before .before .before .before .before .before .before .before .before .before .before .before .change .ensures) (c .before .before .before .before .before .before .before .before .before .before .before .before .if1 .left), (c .dropped .ensures)) (onward-done _ _ _ _ (rw ((c .before .before .before .before .before .before .before .before .before .before .set-next .ensures .seen), (c .before .before .before .before .before .before .before .before .before .before .before .before .before .before .before .slot-to .ensures)) at (c .before .before .before .before .before .before .free .ensures)) _ (c .before .before .v .given .1))
+
+same-length-3 : tie.Need-same-length-3
+same-length-3 c = search needs
+
+returns-3 : tie.Need-returns-3
+returns-3 c = rw (lower-gone _ _ _ _ _ _ _ (c .before .before .before .before .before .before .before .before .before .before .before .before .before .before .before .decrease .ensures) (c .before .before .before .before .before .before .before .before .before .before .before .before .before .change .ensures) (c .before .before .before .before .before .before .before .before .before .before .before .if1 .left)) (onward-refused _ _ _ _ (rw ((c .before .before .before .before .before .before .before .before .before .set-next .ensures .seen), (c .before .before .before .before .before .before .before .before .before .before .before .before .before .before .slot-to .ensures)) at (c .before .before .before .before .before .free .ensures)) _ (c .before .r .given .1))
+
+pub lower-spec : {M : Type 1} → statement M
+lower-spec =
+    tie.close
+    (tie.spec
+    decrease-requires
+    slot-to-requires
+    change-requires
+    store-record-requires
+    going-requires
+    same-length
+    returns
+    set-next-requires
+    free-requires
+    enum-known-v
+    dropped-requires
+    enum-known-r
+    same-length-2
+    returns-2
+    same-length-3
+    returns-3)

@@ -1,0 +1,40 @@
+// The tracker (region.rs; document 01, **Tracker**): a domain's records, linked in rising order.
+// A link is a record's slot + 1, or 0 for none; the record before the first one is the domain itself, link 0.
+pub mod counts;
+pub mod links;
+pub mod tracker;
+pub mod turns;
+
+use answers::Answer;
+use rights::Rights;
+pub use tracker::add_region;
+pub use tracker::remove_region;
+
+// A range with rights (`AccessRights` of the source).
+pub struct AccessRights {
+    pub start: u64,
+    pub end: u64,
+    pub ops: Rights,
+}
+
+// Where a walk is: the links of the record before and of the record at hand, the address from which the range is still to be
+// done, and 1 where a count left or came to 0, else 0 (`PermissionChange`).
+pub struct Cursor {
+    pub prev: u64,
+    pub at: u64,
+    pub start: u64,
+    pub changed: u64,
+}
+
+// What one turn of a walk comes to.
+pub enum Progress {
+    Going(Cursor),
+    Over(Answer),
+}
+
+// What a walk does.
+pub enum Way {
+    Add,
+    Remove,
+    Merge,
+}

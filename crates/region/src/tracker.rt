@@ -1,0 +1,61 @@
+// The tracker of domain d (`RegionTracker`).
+ghost use mathlib.Core.Path.{_≡_};
+ghost use Rattle.tables.specs.View.{view, Sized, Left};
+ghost use Rattle.region.specs.Turns.{walked, addRegion, removeRegion};
+use crate::AccessRights;
+use crate::Cursor;
+use crate::Progress;
+use crate::Way;
+use crate::links;
+use crate::turns;
+use answers::Answer;
+use answers::Refusal;
+
+// A walk from the first record on. The bound on its turns is met only where links go round.
+fn walk(t: &mut [u64], d: usize, way: Way, a: AccessRights, changed: u64) -> Answer
+    requires { ⌜ Sized (now t) ⌝ }
+    ensures { λ r. ⌜ r ≡ walked way d a changed (view (now (t .entry))) .answer ⌝ }
+    ensures { λ _. ⌜ Left (now (t .exit)) (walked way d a changed (view (now (t .entry))) .tables) ⌝ }
+{
+    let mut left = 3 * words::size(t, 3) + 3;
+    let mut c = Cursor {
+        prev: 0,
+        at: links::first(t, d),
+        start: a.start,
+        changed,
+    };
+    while 0 < left {
+        match turns::turn(t, d, way, a, c) {
+            Progress::Going(next) => {
+                c = next;
+            }
+            Progress::Over(answer) => return answer,
+        }
+        left -= 1;
+    }
+    Answer::Refused(Refusal::Memory)
+}
+
+// Domain d gains the range; answers 1 where a count left or came to 0, else 0.
+pub fn add_region(t: &mut [u64], d: usize, a: AccessRights) -> Answer
+    requires { ⌜ Sized (now t) ⌝ }
+    ensures { λ r. ⌜ r ≡ addRegion d a (view (now (t .entry))) .answer ⌝ }
+    ensures { λ _. ⌜ Left (now (t .exit)) (addRegion d a (view (now (t .entry))) .tables) ⌝ }
+{
+    match walk(t, d, Way::Add, a, 0) {
+        Answer::Done(changed) => walk(t, d, Way::Merge, a, changed),
+        Answer::Refused(r) => Answer::Refused(r),
+    }
+}
+
+// Domain d loses the range.
+pub fn remove_region(t: &mut [u64], d: usize, a: AccessRights) -> Answer
+    requires { ⌜ Sized (now t) ⌝ }
+    ensures { λ r. ⌜ r ≡ removeRegion d a (view (now (t .entry))) .answer ⌝ }
+    ensures { λ _. ⌜ Left (now (t .exit)) (removeRegion d a (view (now (t .entry))) .tables) ⌝ }
+{
+    match walk(t, d, Way::Remove, a, 0) {
+        Answer::Done(changed) => walk(t, d, Way::Merge, a, changed),
+        Answer::Refused(r) => Answer::Refused(r),
+    }
+}

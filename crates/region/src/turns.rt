@@ -1,0 +1,233 @@
+// One turn of a walk over a domain's records. Each turn changes one record, or goes on to the next.
+ghost use mathlib.Core.Path.{_≡_};
+ghost use Rattle.tables.specs.View.{view, Sized, Left};
+ghost use Rattle.region.specs.declared.Progress.the-variants.{Going};
+ghost use Rattle.region.specs.Turns.{nextOf, droppedOf, fillTurn, cutStart, cutEnd, raiseTurn, lowerTurn, addAt, addTurn, removeAt, removeTurn, mergeAt, mergeTurn, turn};
+use crate::AccessRights;
+use crate::Cursor;
+use crate::Progress;
+use crate::Way;
+use crate::counts;
+use crate::links;
+use answers::Answer;
+use answers::Refusal;
+use tables::Region;
+
+// On to the record behind the one at hand, with the range done up to `start`.
+fn going(c: Cursor, next: u64, start: u64, change: bool) -> Progress
+    ensures { λ r. ⌜ r ≡ Going (nextOf c next start change) ⌝ }
+{
+    Progress::Going(Cursor {
+        prev: c.at,
+        at: next,
+        start,
+        changed: if change { 1 } else { c.changed },
+    })
+}
+
+// A gap before the record at hand becomes a record up to `end`; that is a change.
+fn fill(t: &mut [u64], d: usize, a: AccessRights, c: Cursor, end: u64) -> Progress
+    requires { ⌜ Sized (now t) ⌝ }
+    ensures { λ r. ⌜ r ≡ fillTurn (view (now (t .entry))) d a c end .answer ⌝ }
+    ensures { λ _. ⌜ Left (now (t .exit)) (fillTurn (view (now (t .entry))) d a c end .tables) ⌝ }
+{
+    let q = counts::new(c.start, end, a.ops, c.at);
+    match links::insert(t, d, c.prev, q) {
+        Answer::Done(link) => Progress::Going(Cursor {
+            prev: link,
+            at: c.at,
+            start: end,
+            changed: 1,
+        }),
+        Answer::Refused(r) => Progress::Over(Answer::Refused(r)),
+    }
+}
+
+// The record at hand is cut at the range's start, and the walk goes on with its right half.
+fn cut_start(t: &mut [u64], c: Cursor) -> Progress
+    requires { ⌜ Sized (now t) ⌝ }
+    ensures { λ r. ⌜ r ≡ cutStart (view (now (t .entry))) c .answer ⌝ }
+    ensures { λ _. ⌜ Left (now (t .exit)) (cutStart (view (now (t .entry))) c .tables) ⌝ }
+{
+    match links::split_region_at(t, links::slot_to(c.at), c.start) {
+        Answer::Done(link) => Progress::Going(Cursor {
+            prev: c.at,
+            at: link,
+            start: c.start,
+            changed: c.changed,
+        }),
+        Answer::Refused(r) => Progress::Over(Answer::Refused(r)),
+    }
+}
+
+// The record at hand is cut at the range's end, and the walk stays there.
+fn cut_end(t: &mut [u64], c: Cursor, end: u64) -> Progress
+    requires { ⌜ Sized (now t) ⌝ }
+    ensures { λ r. ⌜ r ≡ cutEnd (view (now (t .entry))) c end .answer ⌝ }
+    ensures { λ _. ⌜ Left (now (t .exit)) (cutEnd (view (now (t .entry))) c end .tables) ⌝ }
+{
+    match links::split_region_at(t, links::slot_to(c.at), end) {
+        Answer::Done(link) => Progress::Going(c),
+        Answer::Refused(r) => Progress::Over(Answer::Refused(r)),
+    }
+}
+
+// The record at hand lies in the range and gains.
+fn raise(t: &mut [u64], a: AccessRights, c: Cursor, q: Region) -> Progress
+    requires { ⌜ Sized (now t) ⌝ }
+    ensures { λ r. ⌜ r ≡ raiseTurn (view (now (t .entry))) a c q .answer ⌝ }
+    ensures { λ _. ⌜ Left (now (t .exit)) (raiseTurn (view (now (t .entry))) a c q .tables) ⌝ }
+{
+    let p = counts::increase(q, a.ops);
+    tables::store_record(t, links::slot_to(c.at), p);
+    going(c, q.next, q.end, counts::change(q, p))
+}
+
+// It loses, and at reach 0 it is dropped at once.
+fn lower(t: &mut [u64], d: usize, a: AccessRights, c: Cursor, q: Region) -> Progress
+    requires { ⌜ Sized (now t) ⌝ }
+    ensures { λ r. ⌜ r ≡ lowerTurn (view (now (t .entry))) d a c q .answer ⌝ }
+    ensures { λ _. ⌜ Left (now (t .exit)) (lowerTurn (view (now (t .entry))) d a c q .tables) ⌝ }
+{
+    let p = counts::decrease(q, a.ops);
+    let i = links::slot_to(c.at);
+    let change = counts::change(q, p);
+    if p.ref_count != 0 {
+        tables::store_record(t, i, p);
+        return going(c, q.next, c.start, change);
+    }
+    links::set_next(t, d, c.prev, q.next);
+    match links::free(t, i) {
+        Answer::Done(v) => dropped(c, q.next, change),
+        Answer::Refused(r) => Progress::Over(Answer::Refused(r)),
+    }
+}
+
+// The record at hand is gone.
+fn dropped(c: Cursor, next: u64, change: bool) -> Progress
+    ensures { λ r. ⌜ r ≡ Going (droppedOf c next change) ⌝ }
+{
+    Progress::Going(Cursor {
+        prev: c.prev,
+        at: next,
+        start: c.start,
+        changed: if change { 1 } else { c.changed },
+    })
+}
+
+// `add_region`, with record q at hand: a gap before it is filled, the range's edges cut it, and in the range it is raised.
+fn add_at(t: &mut [u64], d: usize, a: AccessRights, c: Cursor, q: Region) -> Progress
+    requires { ⌜ Sized (now t) ⌝ }
+    ensures { λ r. ⌜ r ≡ addAt (view (now (t .entry))) d a c q .answer ⌝ }
+    ensures { λ _. ⌜ Left (now (t .exit)) (addAt (view (now (t .entry))) d a c q .tables) ⌝ }
+{
+    if c.start < q.start {
+        return fill(t, d, a, c, counts::least(q.start, a.end));
+    }
+    if q.end <= c.start {
+        return going(c, q.next, c.start, false);
+    }
+    if q.start < c.start {
+        return cut_start(t, c);
+    }
+    if a.end < q.end {
+        return cut_end(t, c, a.end);
+    }
+    raise(t, a, c, q)
+}
+
+// A turn of `add_region`, until the range is done.
+fn add(t: &mut [u64], d: usize, a: AccessRights, c: Cursor) -> Progress
+    requires { ⌜ Sized (now t) ⌝ }
+    ensures { λ r. ⌜ r ≡ addTurn (view (now (t .entry))) d a c .answer ⌝ }
+    ensures { λ _. ⌜ Left (now (t .exit)) (addTurn (view (now (t .entry))) d a c .tables) ⌝ }
+{
+    if a.end <= c.start {
+        return Progress::Over(Answer::Done(c.changed));
+    }
+    if c.at == 0 {
+        return fill(t, d, a, c, a.end);
+    }
+    let q = tables::load_record(t, links::slot_to(c.at));
+    add_at(t, d, a, c, q)
+}
+
+// `remove_region`, with record q at hand: the range's edges cut it, and in the range it is lowered.
+fn remove_at(t: &mut [u64], d: usize, a: AccessRights, c: Cursor, q: Region) -> Progress
+    requires { ⌜ Sized (now t) ⌝ }
+    ensures { λ r. ⌜ r ≡ removeAt (view (now (t .entry))) d a c q .answer ⌝ }
+    ensures { λ _. ⌜ Left (now (t .exit)) (removeAt (view (now (t .entry))) d a c q .tables) ⌝ }
+{
+    if a.end <= q.start {
+        return Progress::Over(Answer::Done(c.changed));
+    }
+    if q.end <= c.start {
+        return going(c, q.next, c.start, false);
+    }
+    if q.start < c.start {
+        return cut_start(t, c);
+    }
+    if a.end < q.end {
+        return cut_end(t, c, a.end);
+    }
+    lower(t, d, a, c, q)
+}
+
+// A turn of `remove_region`, until the records end or lie past the range.
+fn remove(t: &mut [u64], d: usize, a: AccessRights, c: Cursor) -> Progress
+    requires { ⌜ Sized (now t) ⌝ }
+    ensures { λ r. ⌜ r ≡ removeTurn (view (now (t .entry))) d a c .answer ⌝ }
+    ensures { λ _. ⌜ Left (now (t .exit)) (removeTurn (view (now (t .entry))) d a c .tables) ⌝ }
+{
+    if c.at == 0 {
+        return Progress::Over(Answer::Done(c.changed));
+    }
+    let q = tables::load_record(t, links::slot_to(c.at));
+    remove_at(t, d, a, c, q)
+}
+
+// `coalesce`: record q at hand takes in record n behind it, which is freed; else n is at hand.
+fn merge_at(t: &mut [u64], c: Cursor, q: Region, n: Region) -> Progress
+    requires { ⌜ Sized (now t) ⌝ }
+    ensures { λ r. ⌜ r ≡ mergeAt (view (now (t .entry))) c q n .answer ⌝ }
+    ensures { λ _. ⌜ Left (now (t .exit)) (mergeAt (view (now (t .entry))) c q n .tables) ⌝ }
+{
+    if !counts::mergeable(q, n) {
+        return going(c, q.next, c.start, false);
+    }
+    tables::store_record(t, links::slot_to(c.at), links::bounded(q, n.end, n.next));
+    match links::free(t, links::slot_to(q.next)) {
+        Answer::Done(v) => Progress::Going(c),
+        Answer::Refused(r) => Progress::Over(Answer::Refused(r)),
+    }
+}
+
+// A turn of `coalesce`, until no record is behind the one at hand.
+fn merge(t: &mut [u64], c: Cursor) -> Progress
+    requires { ⌜ Sized (now t) ⌝ }
+    ensures { λ r. ⌜ r ≡ mergeTurn (view (now (t .entry))) c .answer ⌝ }
+    ensures { λ _. ⌜ Left (now (t .exit)) (mergeTurn (view (now (t .entry))) c .tables) ⌝ }
+{
+    if c.at == 0 {
+        return Progress::Over(Answer::Done(c.changed));
+    }
+    let q = tables::load_record(t, links::slot_to(c.at));
+    if q.next == 0 {
+        return Progress::Over(Answer::Done(c.changed));
+    }
+    let n = tables::load_record(t, links::slot_to(q.next));
+    merge_at(t, c, q, n)
+}
+
+// A turn of each way.
+pub fn turn(t: &mut [u64], d: usize, way: Way, a: AccessRights, c: Cursor) -> Progress
+    requires { ⌜ Sized (now t) ⌝ }
+    ensures { λ r. ⌜ r ≡ turn way (view (now (t .entry))) d a c .answer ⌝ }
+    ensures { λ _. ⌜ Left (now (t .exit)) (turn way (view (now (t .entry))) d a c .tables) ⌝ }
+{
+    match way {
+        Way::Add => add(t, d, a, c),
+        Way::Remove => remove(t, d, a, c),
+        Way::Merge => merge(t, c),
+    }
+}

@@ -1,0 +1,99 @@
+-- Regions made, sent and revoked (document 01, **Send**, **Revoke**; segment.rs).
+use mathlib.Core.Bool.{Bool}
+use Prim.Native.Nat.{ℕ, zero, suc, _%_}
+use lib.Dec.{eqb, ltb}
+use Rattle.words.specs.Cases.{pick}
+use Rattle.tables.specs.declared.RegionCapa.{RegionCapa}
+use Rattle.tables.specs.Tables.{Tables, regionAt, withRegion, withRegionPool}
+use Rattle.arena.specs.declared.Given.{Given}
+use Rattle.arena.specs.declared.Given.the-variants.{At, Full}
+use Rattle.arena.specs.Arena.{given, allocated, answerTo}
+use Rattle.pools.specs.declared.Pool.the-variants as pool
+use Rattle.pools.specs.Wiping.{slotFreed}
+use Rattle.rights.specs.Rights.{has, CLEANUP}
+use Rattle.answers.specs.declared.Refusal.the-variants.{Memory, NoRegion}
+use Rattle.answers.specs.Answers.{Step, done, refused, andThen}
+use Rattle.region.specs.declared.AccessRights.{AccessRights}
+use Rattle.region.specs.Links.{linkTo, slotTo, freedAnswer}
+use Rattle.domain.specs.Activate.{activate, deactivate, cleanup}
+use Rattle.segment.specs.Children.{withOwner, removeChild}
+
+-- a range with the rights of a stored word
+abbrev pub access : ℕ → ℕ → ℕ → AccessRights
+access a b rights = record { start = a; end = b; ops = record { 0 = rights % 256 } }
+
+-- ---- a region comes and goes
+
+-- region of domain d, with that kind and that link to its parent
+abbrev pub capaFor : ℕ → ℕ → ℕ → AccessRights → RegionCapa
+capaFor d kind parent a =
+    record { kind = kind; owner = linkTo d; parent = parent; start = a .start; end = a .end; rights = a .ops .0; child = 0; next = 0 }
+
+abbrev pub taken : Tables → Tables
+taken s = withRegionPool s (allocated (s .regionPool))
+
+abbrev madeAt : Tables → RegionCapa → Given → Step
+madeAt s r (At h) = done (h .slot) (withRegion (taken s) (h .slot) r)
+madeAt s r Full = refused NoRegion (taken s)
+
+-- a region in a slot of its own; the answer is the slot (the model's newRegion)
+unfoldable pub newRegion : RegionCapa → Tables → Step
+newRegion r s = madeAt s r (given (s .regionPool))
+
+-- region i leaves its slot (the model's freeRegion)
+unfoldable pub freedRegion : ℕ → Tables → Step
+freedRegion i s = record { answer = freedAnswer (answerTo (s .regionPool) i); tables = slotFreed s pool.Regions i }
+
+-- ---- send
+
+-- the range from x up to y, where it is not empty, leaves domain old and joins domain new
+unfoldable pub movePiece : ℕ → ℕ → ℕ → ℕ → ℕ → Tables → Step
+movePiece old new r x y s = pick (ltb x y) (andThen (deactivate old (access x y r) s) (λ v. activate new (access x y r))) (done 0 s)
+
+-- the range from x up to e less the carved children from link k on, n at most (the model's sendRanges over effectiveFrom)
+unfoldable pub sendFrom : ℕ → ℕ → ℕ → ℕ → ℕ → ℕ → ℕ → Tables → Step
+sendFrom old new r e zero x k s = refused Memory s
+sendFrom old new r e (suc n) x k s =
+    let c = regionAt s (slotTo k) in
+    pick (eqb k 0) (movePiece old new r x e s)
+    (pick (eqb (c .kind) 3) (andThen (movePiece old new r x (c .start) s) (λ v. sendFrom old new r e n (c .end) (c .next))) (sendFrom old new r e n x (c .next) s))
+
+-- region i becomes domain new's, with its effective ranges (the model's sendRegion)
+unfoldable pub sendRegion : ℕ → ℕ → Tables → Step
+sendRegion i new s =
+    let g = regionAt s i in
+    sendFrom (slotTo (g .owner)) new (g .rights) (g .end) (suc (s .sizes .regions)) (g .start) (g .child) (withRegion s i (withOwner g (linkTo new)))
+
+-- ---- revoke
+
+-- a root, kind 1, is in no list (the model's leaveParent)
+unfoldable pub leaveParent : ℕ → Tables → Tables
+leaveParent i s = pick (eqb (regionAt s i .kind) 1) s (removeChild s (slotTo (regionAt s i .parent)) i)
+
+-- what a carve, kind 3, held goes back to its parent's domain with the parent's rights (the model's giveBack)
+unfoldable pub giveBack : RegionCapa → Tables → Step
+giveBack g s =
+    let p = regionAt s (slotTo (g .parent)) in
+    pick (eqb (g .kind) 3) (activate (slotTo (p .owner)) (access (g .start) (g .end) (p .rights)) s) (done 0 s)
+
+unfoldable pub cleanupIf : RegionCapa → Tables → Step
+cleanupIf g s = pick (has (g .rights % 256) CLEANUP) (cleanup (g .start) (g .end) s) (done 0 s)
+
+-- a region without children (the model's revokeLeaf)
+unfoldable pub revokeLeaf : ℕ → Tables → Step
+revokeLeaf i s =
+    let g = regionAt s i in
+    andThen (deactivate (slotTo (g .owner)) (access (g .start) (g .end) (g .rights)) (leaveParent i s)) (λ u s₁.
+    andThen (giveBack g s₁) (λ v s₂.
+    andThen (freedRegion i s₂) (λ w. cleanupIf g)))
+
+-- head child by head child; n falls with each region above and each region freed (the model's revokeRegion)
+unfoldable pub revokeRegion : ℕ → ℕ → Tables → Step
+revokeRegion zero i s = refused Memory s
+revokeRegion (suc n) i s =
+    let k = regionAt s i .child in
+    pick (eqb k 0) (revokeLeaf i s) (andThen (revokeRegion n (slotTo k) s) (λ v. revokeRegion n i))
+
+-- as many as there are live regions
+unfoldable pub revoke : ℕ → Tables → Step
+revoke i s = revokeRegion (s .regionPool .count) i s

@@ -1,0 +1,138 @@
+-- One turn of each walk: over a child list, over the carved children that a send leaves out, down a tree that is revoked.
+use mathlib.Core.Path.{_≡_, refl, sym, _∙_}
+use mathlib.Core.Bool.{Bool, true, false}
+use mathlib.Core.List.{List}
+use Prim.Native.Nat.{ℕ, zero, suc, _-_, _%_, _<_}
+use native.Mathlib.Omega.{arith}
+use borrow.Author.Tests.{eq-eqb, ne-eqb}
+use lib.ListN.{getD}
+use Rattle.rights.specs.Laws.{contains-flag}
+use Rattle.rights.specs.Rights.{has, contains, CLEANUP}
+use Rattle.tables.specs.declared.RegionCapa.{RegionCapa}
+use Rattle.tables.specs.Tables.{Tables, regionAt}
+use Rattle.tables.specs.View.{sizesOf, view, ofParts, Sized}
+use Rattle.answers.specs.declared.Refusal.{Refusal}
+use Rattle.answers.specs.declared.Refusal.the-variants.{Memory}
+use Rattle.answers.specs.declared.Answer.{Answer}
+use Rattle.answers.specs.declared.Answer.the-variants.{Done, Refused}
+use Rattle.answers.specs.Answers.{andThen}
+use Rattle.region.specs.Links.{slotTo}
+use Rattle.domain.specs.Then.{Ran, stays, step-done, on-refused}
+use Rattle.segment.specs.declared.Place.{Place}
+use Rattle.segment.specs.declared.Search.{Search}
+use Rattle.segment.specs.Children.{endsB, findFrom}
+use Rattle.segment.specs.Regions.{movePiece, sendFrom, revokeLeaf, revokeRegion}
+
+-- how many regions there are, as the code reads it
+pub regions-read : (t : List ℕ) → getD t 2 0 ≡ view t .sizes .regions
+unfolding view ofParts sizesOf
+regions-read t = refl
+
+abbrev pub place : ℕ → ℕ → Place
+place p k = record { prev = p; at = k }
+
+-- ---- a search
+
+pub find-out : (w : Search) (s : Tables) (n : ℕ) (c : Place) → n ≡ 0 → findFrom w s n c ≡ c
+unfolding findFrom
+find-out w s n c e = rw e
+
+pub find-none : (w : Search) (s : Tables) (n p k : ℕ) → 0 < n → k ≡ 0 → findFrom w s n (place p k) ≡ place p k
+unfolding findFrom
+find-none w s zero p k h e = absurd (omega arith)
+find-none w s (suc n) p k h e = rw (eq-eqb k 0 e)
+
+module _ (w : Search) (s : Tables) (r : RegionCapa) (b : Bool) (n p k : ℕ) (h : 0 < n) (nk : k ≡ 0 → ⊥) (er : r ≡ regionAt s (slotTo k)) (eb : b ≡ endsB w k r) where
+  pub find-here : b ≡ true → findFrom w s n (place p k) ≡ place p k
+  unfolding findFrom
+  find-here y = here n h
+    where
+      here : (n : ℕ) → 0 < n → findFrom w s n (place p k) ≡ place p k
+      here zero h = absurd (omega arith)
+      here (suc n) h = rw (ne-eqb k 0 nk, ← er, ← eb, y)
+
+  pub find-on : b ≡ false → findFrom w s (n - 1) (place k (r .next)) ≡ findFrom w s n (place p k)
+  unfolding findFrom
+  find-on y = on n h
+    where
+      on : (n : ℕ) → 0 < n → findFrom w s (n - 1) (place k (r .next)) ≡ findFrom w s n (place p k)
+      on zero h = absurd (omega arith)
+      on (suc n) h = let e : suc n - 1 ≡ n = omega arith in rw (ne-eqb k 0 nk, ← er, ← eb, y, e)
+
+-- ---- a send
+
+module _ (old new r e n x k : ℕ) where
+  pub send-out : (u : List ℕ) → Sized u → n ≡ 0 → Ran u (Refused Memory) (sendFrom old new r e n x k (view u))
+  unfolding sendFrom
+  send-out u s z = rw z (refl, stays u s)
+
+  module _ (s : Tables) (h : 0 < n) where
+    pub send-last : k ≡ 0 → movePiece old new r x e s ≡ sendFrom old new r e n x k s
+    unfolding sendFrom
+    send-last z = last n h
+      where
+        last : (n : ℕ) → 0 < n → movePiece old new r x e s ≡ sendFrom old new r e n x k s
+        last zero h = absurd (omega arith)
+        last (suc n) h = rw (eq-eqb k 0 z)
+
+    module _ (c : RegionCapa) (nk : k ≡ 0 → ⊥) (ec : c ≡ regionAt s (slotTo k)) where
+      pub send-skip : (c .kind ≡ 3 → ⊥) → sendFrom old new r e (n - 1) x (c .next) s ≡ sendFrom old new r e n x k s
+      unfolding sendFrom
+      send-skip nc = skip n h
+        where
+          skip : (n : ℕ) → 0 < n → sendFrom old new r e (n - 1) x (c .next) s ≡ sendFrom old new r e n x k s
+          skip zero h = absurd (omega arith)
+          skip (suc n) h = let z : suc n - 1 ≡ n = omega arith in rw (ne-eqb k 0 nk, ← ec, ne-eqb (c .kind) 3 nc, z)
+
+      carve : c .kind ≡ 3 → andThen (movePiece old new r x (c .start) s) (λ v. sendFrom old new r e (n - 1) (c .end) (c .next)) ≡ sendFrom old new r e n x k s
+      unfolding sendFrom
+      carve y = piece n h
+        where
+          piece : (n : ℕ) → 0 < n
+              → andThen (movePiece old new r x (c .start) s) (λ v. sendFrom old new r e (n - 1) (c .end) (c .next)) ≡ sendFrom old new r e n x k s
+          piece zero h = absurd (omega arith)
+          piece (suc n) h = let z : suc n - 1 ≡ n = omega arith in rw (ne-eqb k 0 nk, ← ec, eq-eqb (c .kind) 3 y, z)
+
+      module _ (y : c .kind ≡ 3) (u : List ℕ) (a : Answer) (ran : Ran u a (movePiece old new r x (c .start) s)) where
+        pub send-on : (v : ℕ) → a ≡ Done v → sendFrom old new r e (n - 1) (c .end) (c .next) (view u) ≡ sendFrom old new r e n x k s
+        send-on v d = sym (step-done _ _ u a ran v d) ∙ carve y
+
+        pub send-refused : (q : Refusal) → a ≡ Refused q → Ran u (Refused q) (sendFrom old new r e n x k s)
+        send-refused q d = rw (← carve y) (on-refused _ _ u a ran q d)
+
+-- ---- a revoke
+
+module _ (n i : ℕ) where
+  pub revoke-out : (u : List ℕ) → Sized u → n ≡ 0 → Ran u (Refused Memory) (revokeRegion n i (view u))
+  unfolding revokeRegion
+  revoke-out u s z = rw z (refl, stays u s)
+
+  module _ (s : Tables) (h : 0 < n) (g : RegionCapa) (eg : g ≡ regionAt s i) where
+    pub revoke-here : g .child ≡ 0 → revokeLeaf i s ≡ revokeRegion n i s
+    unfolding revokeRegion
+    revoke-here z = here n h
+      where
+        here : (n : ℕ) → 0 < n → revokeLeaf i s ≡ revokeRegion n i s
+        here zero h = absurd (omega arith)
+        here (suc n) h = rw (← eg, eq-eqb (g .child) 0 z)
+
+    module _ (nk : g .child ≡ 0 → ⊥) where
+      below : andThen (revokeRegion (n - 1) (slotTo (g .child)) s) (λ v. revokeRegion (n - 1) i) ≡ revokeRegion n i s
+      unfolding revokeRegion
+      below = go n h
+        where
+          go : (n : ℕ) → 0 < n → andThen (revokeRegion (n - 1) (slotTo (g .child)) s) (λ v. revokeRegion (n - 1) i) ≡ revokeRegion n i s
+          go zero h = absurd (omega arith)
+          go (suc n) h = let z : suc n - 1 ≡ n = omega arith in rw (← eg, ne-eqb (g .child) 0 nk, z)
+
+      module _ (u : List ℕ) (a : Answer) (ran : Ran u a (revokeRegion (n - 1) (slotTo (g .child)) s)) where
+        pub revoke-on : (v : ℕ) → a ≡ Done v → revokeRegion (n - 1) i (view u) ≡ revokeRegion n i s
+        revoke-on v d = sym (step-done _ _ u a ran v d) ∙ below
+
+        pub revoke-refused : (q : Refusal) → a ≡ Refused q → Ran u (Refused q) (revokeRegion n i s)
+        revoke-refused q d = rw (← below) (on-refused _ _ u a ran q d)
+
+-- ---- the flag that asks for cleanup
+
+pub cleanup-test : (w x : ℕ) (b : Bool) → x ≡ w % 256 → b ≡ contains x CLEANUP → b ≡ has (w % 256) CLEANUP
+cleanup-test w x b ex eb = eb ∙ rw ex (contains-flag 5 (w % 256))
