@@ -97,7 +97,7 @@ pub fn compare(seed: u64, calls: u64, length: usize) -> bool {
         let (list, difference) = random_list(list_seed(seed, number), length, None, &mut totals);
         if difference.is_some() {
             println!("list {number} of seed {seed} differs; cut down:");
-            print_list(&shorten(list, None), None);
+            print_list(&shorten(list, |l| differs(l, None).map(|d| d.at)), None);
             return false;
         }
     }
@@ -105,7 +105,7 @@ pub fn compare(seed: u64, calls: u64, length: usize) -> bool {
     true
 }
 
-fn list_seed(seed: u64, number: u64) -> u64 {
+pub fn list_seed(seed: u64, number: u64) -> u64 {
     Random(seed ^ number.wrapping_mul(0xd1342543de82ef95)).next()
 }
 
@@ -125,7 +125,7 @@ pub fn wrong_ports(seed: u64, calls: u64, length: usize, print: bool) -> Vec<&'s
         match found {
             None => missed.push(fault.name()),
             Some(list) => {
-                let short = shorten(list, Some(fault));
+                let short = shorten(list, |l| differs(l, Some(fault)).map(|d| d.at));
                 println!("told apart after {:>7} calls, by a list of {:>2}: {}", totals.calls, short.len(), fault.name());
                 if print {
                     print_list(&short, Some(fault));
@@ -141,8 +141,9 @@ fn differs(list: &[Call], fault: Option<Fault>) -> Option<Difference> {
     run(fault, &mut Totals::new(), |k, _| list.get(k).copied()).1
 }
 
-/// Leaves out ever smaller runs of calls, and then single ones again and again, while a difference remains.
-fn shorten(mut list: Vec<Call>, fault: Option<Fault>) -> Vec<Call> {
+/// Leaves out ever smaller runs of calls, and then single ones again and again, while a difference remains. `differs` gives the
+/// number of the first call that shows it.
+pub fn shorten(mut list: Vec<Call>, differs: impl Fn(&[Call]) -> Option<usize>) -> Vec<Call> {
     let mut width = list.len() / 2;
     while width > 0 {
         let before = list.len();
@@ -150,9 +151,9 @@ fn shorten(mut list: Vec<Call>, fault: Option<Fault>) -> Vec<Call> {
         while at < list.len() {
             let mut shorter = list.clone();
             shorter.drain(at..(at + width).min(list.len()));
-            match differs(&shorter, fault) {
-                Some(d) => {
-                    shorter.truncate(d.at + 1);
+            match differs(&shorter) {
+                Some(at) => {
+                    shorter.truncate(at + 1);
                     list = shorter;
                 }
                 None => at += width,

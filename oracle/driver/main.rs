@@ -3,6 +3,7 @@
 mod antt;
 mod compare;
 mod judge;
+mod ours;
 mod outside;
 mod random;
 mod sample;
@@ -21,6 +22,8 @@ driver wrong-ports SEED CALLS LENGTH [lists]  each wrong port must be told apart
 driver mirror SEED LISTS               private fields as read here against the engine's own readings
 driver sample SEED LISTS LENGTH        lists with answers and a hash of the tables' words after each call
 driver replay FILE                     a sample, answered again
+driver ours PROGRAM SEED CALLS LENGTH  random lists, the Rust beside the proved engine in program `replay`
+driver ours PROGRAM FILE               a sample
 driver antt PREFIX < lists             theorems about the model, one for each list
 driver outside                         what the Rust does outside the domain of equality";
 
@@ -53,6 +56,11 @@ fn main() -> ExitCode {
             (Some(s), Some(n), Some(l)) => Ok(sample::print(s, n, l as usize)),
             _ => Err(USAGE.to_string()),
         },
+        ["ours", program, seed, calls, length] => match (number(seed), number(calls), number(length)) {
+            (Some(s), Some(c), Some(l)) => ours::compare(program, s, c, l as usize),
+            _ => Err(USAGE.to_string()),
+        },
+        ["ours", program, file] => ours::sample(program, file),
         ["antt", prefix] => antt::print(prefix),
         ["outside"] => Ok(outside::check()),
         ["replay", file] => sample::replay(file),

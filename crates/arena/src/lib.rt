@@ -22,7 +22,7 @@ pub enum Freed {
 
 // ---- The words by their meaning
 
-fn link(p: &[u64], n: usize, i: usize) -> u64
+pub fn link(p: &[u64], n: usize, i: usize) -> u64
     requires { ⌜ length (now p) ≡ poolWidth n ⌝ }
     ensures { λ r. ⌜ r ≡ getD (arenaOf n (now (p .entry)) .links) i 0 ⌝ }
 {

@@ -48,7 +48,7 @@ fn start_of(t: &[u64], q: Pool) -> usize
     }
 }
 
-fn span_of(t: &[u64], q: Pool) -> Span
+pub fn span_of(t: &[u64], q: Pool) -> Span
     requires { ⌜ Sized (now t) ⌝ }
     ensures { λ r. ⌜ PoolAt (now (t .entry)) q r ⌝ }
 {

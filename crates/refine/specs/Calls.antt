@@ -13,3 +13,4 @@ pub mod SmallCalls
 pub mod CreateCalls
 pub mod MoveCalls
 pub mod Performs
+pub mod ReadingCalls

@@ -78,7 +78,7 @@ ok-counted rs d q h = at-counted rs d (edgesOf rs) q h
 abbrev pub coveredAt : List (Option Region) → ℕ → List ℕ → List Record → Bool
 coveredAt rs d ps l = every (λ a. eqb (regionReach rs d a) 0 || any (λ q. holds (q .start) (q .end) a) l) (0 ∷ ps ++ map (λ (q : Record). q .end) l)
 
-each-append : {A : Type 0} (P : A → Type 0) (l m : List A) → Each P (l ++ m) → Each P l × Each P m
+pub each-append : {A : Type 0} (P : A → Type 0) (l m : List A) → Each P (l ++ m) → Each P l × Each P m
 each-append P [] m h = (tt, h)
 each-append P (x ∷ l) m h = let k = each-append P l m (h .1) in ((h .0, k .0), k .1)
 

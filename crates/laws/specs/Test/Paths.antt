@@ -65,7 +65,7 @@ module _ {A : Type 0} (l : List (Option A)) (up : A → Option ℕ) where
 
 -- ---- a list without repeats of slots below n is no longer than n
 
-counted : (n : ℕ) (l : List ℕ) → ((k : ℕ) → n ≤ k → count (eqb k) l ≡ 0) → sum (λ k. count (eqb k) l) n ≡ length l
+pub counted : (n : ℕ) (l : List ℕ) → ((k : ℕ) → n ≤ k → count (eqb k) l ≡ 0) → sum (λ k. count (eqb k) l) n ≡ length l
 counted n [] h = sum-zero n
 counted n (x ∷ l) h =
     let at = sum-at (λ k. oneIf (eqb k x)) n x (below (cmp x n)) (λ k ne. rw (eqb-f k x ne)) in

@@ -56,7 +56,7 @@ near rs d f a (some g ∷ l) h = go (concerns rs d g) refl h (near rs d f a l)
     go true e k ih = ((λ t. (k .0, k .1 .0)), ih (k .1 .1))
     go false e k ih = ((λ t. absurd (false-is e t)), ih k)
 
-holds-same : (f a s e : ℕ) → f ≤ a → (f < s → a < s) → (f < e → a < e) → holds s e f ≡ holds s e a
+pub holds-same : (f a s e : ℕ) → f ≤ a → (f < s → a < s) → (f < e → a < e) → holds s e f ≡ holds s e a
 holds-same f a s e h u v = rw (le-part, lt-part)
   where
     le-part : leb s f ≡ leb s a

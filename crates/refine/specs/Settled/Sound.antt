@@ -41,7 +41,7 @@ free-kind (suc zero) h e = refl
 free-kind (suc (suc k)) h e = absurd (omega arith)
 
 -- a region that is no root has the parent that its link names
-parent-is : (k p : ℕ) → 2 ≤ k → parentOf (kindFrom k (suc p)) ≡ some p
+pub parent-is : (k p : ℕ) → 2 ≤ k → parentOf (kindFrom k (suc p)) ≡ some p
 parent-is zero p h = absurd (omega arith)
 parent-is (suc zero) p h = absurd (omega arith)
 parent-is (suc (suc zero)) p h = refl

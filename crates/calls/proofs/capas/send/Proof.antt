@@ -7,25 +7,25 @@ use Rattle.calls.proofs.capas.send.Statement.{statement}
 use Rattle.calls.proofs.capas.send.Tie as tie
 
 live-domain-requires : tie.Need-live-domain-requires
-live-domain-requires c κs = (c .before .before .pre)
+live-domain-requires c κs = search needs
 
 enum-known-d : tie.Need-enum-known-d
 enum-known-d c = search needs
 
 target-held-requires : tie.Need-target-held-requires
-target-held-requires c κs = (c .before .before .before .before .before .before .before .pre)
+target-held-requires c κs = search needs
 
 enum-known-to : tie.Need-enum-known-to
 enum-known-to c = search needs
 
 reserve-requires : tie.Need-reserve-requires
-reserve-requires c κs = (c .before .before .before .before .before .before .before .before .before .before .before .before .pre)
+reserve-requires c κs = search needs
 
 enum-known-u : tie.Need-enum-known-u
 enum-known-u c = search needs
 
 pass-requires : tie.Need-pass-requires
-pass-requires c κs = (c .before .before .before .before .before .before .reserve .ensures .1 .sized)
+pass-requires c κs = search needs
 
 enum-known-r : tie.Need-enum-known-r
 enum-known-r c = search needs

@@ -1,0 +1,49 @@
+-- The clauses of `Tidy` and `Sound` about capabilities and the ring, which this crate tests, and those of earlier tests that it leans on.
+use mathlib.Core.Path.{_≡_}
+use Prim.Native.Nat.{ℕ, _+_, _≤_, _<_}
+use mathlib.Core.Bool.{true}
+use Rattle.model.specs.Lists.{Each, In}
+use Rattle.model.specs.State as state
+use Rattle.model.specs.State.{Word}
+use Rattle.model.specs.Sound.{Sound, OnceEach, inUse, OwnerSound, ManagerSound, RevokeFit, HandleFit, QueueSound}
+use Rattle.tables.specs.Tables.{Tables, noUpdate}
+use Rattle.refine.specs.Shape.{Shaped}
+use Rattle.refine.specs.Decode.Read.{taken, stateOf}
+use Rattle.refine.specs.Settled.Tidy.{Tidy, PoolTidy, RegionTidy, UpdateTidy, domainRow, regionRow, place, behind}
+
+-- ---- what is known before
+
+-- what is stored are words
+pub record Stored (v : Tables) : Type 0 where
+  pub cores : (i : ℕ) → i < v .sizes .domains → Word (domainRow v i .head .cores)
+  pub first : (k : ℕ) → k < v .sizes .updates + 1 → Word (place v k .a)
+  pub second : (k : ℕ) → k < v .sizes .updates + 1 → Word (place v k .b)
+  pub third : (k : ℕ) → k < v .sizes .updates + 1 → Word (place v k .c)
+
+-- of the pools and the tree: each domain and region is in use or free once, and what the words of a region in use say
+pub record Before (v : Tables) : Type 0 where
+  pub shaped : Shaped v
+  pub domainPool : PoolTidy (v .sizes .domains) (v .domainPool)
+  pub regionPool : PoolTidy (v .sizes .regions) (v .regionPool)
+  pub domainsOnce : OnceEach (v .sizes .domains) (inUse (stateOf v .domains)) (stateOf v .domainPool .free)
+  pub regionsOnce : OnceEach (v .sizes .regions) (inUse (stateOf v .regions)) (stateOf v .regionPool .free)
+  pub regionsUsed : (i : ℕ) → i < v .sizes .regions → taken (v .regionPool) i ≡ true → RegionTidy (regionRow v i)
+
+pub all-before : (v : Tables) → Shaped v → Tidy v → Sound (stateOf v) → Before v
+unfolding stateOf
+all-before v s t h =
+    record { shaped = s; domainPool = t .domainPool; regionPool = t .regionPool; domainsOnce = h .domainPool .once; regionsOnce = h .regionPool .once; regionsUsed = t .regionsUsed }
+
+-- ---- what is tested
+
+pub record CapasClauses (v : Tables) : Type 0 where
+  pub owners : (i : ℕ) (g : state.Region) → In (stateOf v .regions) i g → OwnerSound (stateOf v .regionPool) (stateOf v .domains) i g
+  pub managers : (d : ℕ) (x : state.Domain) → In (stateOf v .domains) d x → ManagerSound (stateOf v .domainPool) (stateOf v .domains) d x
+  pub revokesFit : (d : ℕ) (x : state.Domain) → In (stateOf v .domains) d x → Each (RevokeFit (stateOf v .regionPool) (stateOf v .regions)) (x .locals .held)
+  pub handlesFit : (d : ℕ) (x : state.Domain) → In (stateOf v .domains) d x → Each (HandleFit (stateOf v .regionPool) (stateOf v .regions) (stateOf v .domainPool) (stateOf v .domains)) (x .locals .held)
+  pub coresWords : (d : ℕ) (x : state.Domain) → In (stateOf v .domains) d x → Word (x .cores)
+
+pub record QueueClauses (v : Tables) : Type 0 where
+  pub queue : QueueSound (v .sizes .updates) (stateOf v .domainPool) (stateOf v .domains) (stateOf v .queue)
+  pub queued : (k : ℕ) → k < v .sizes .updates + 1 → behind v k < behind v (v .write) → UpdateTidy (place v k)
+  pub unqueued : (k : ℕ) → k < v .sizes .updates + 1 → behind v (v .write) ≤ behind v k → place v k ≡ noUpdate

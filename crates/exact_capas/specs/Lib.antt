@@ -1,0 +1,15 @@
+pub mod Fits
+pub mod Clauses
+pub mod Reads
+pub mod Updates
+pub mod Queue
+pub mod Grid
+pub mod Items
+pub mod Used
+pub mod Held
+pub mod Passed
+pub mod Managers
+pub mod Lists
+pub mod Kept
+pub mod Full
+pub mod Words

@@ -1,0 +1,1 @@
+// Mathematics only: the tests of sound_capas are exact.

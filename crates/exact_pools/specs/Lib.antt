@@ -1,0 +1,8 @@
+pub mod Clauses
+pub mod Walks
+pub mod Stacks
+pub mod Pools
+pub mod Rows
+pub mod Trackers
+pub mod Domains
+pub mod Law

@@ -1,0 +1,1 @@
+// The test of pools and slot lists is exact: mathematics only.

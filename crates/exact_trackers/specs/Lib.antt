@@ -1,0 +1,12 @@
+pub mod Tests
+pub mod Carved
+pub mod Slots
+pub mod Sums
+pub mod Tallied
+pub mod Agreement
+pub mod Stored
+pub mod Records
+pub mod Points
+pub mod Everywhere
+pub mod Edges
+pub mod Law

@@ -1,0 +1,1 @@
+// That the test of the trackers is exact: mathematics only.

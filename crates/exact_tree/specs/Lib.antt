@@ -1,0 +1,9 @@
+pub mod Walks
+pub mod Lists
+pub mod Rows
+pub mod Roots
+pub mod Read
+pub mod Forth
+pub mod Back
+pub mod Law
+pub mod Words

@@ -1,0 +1,52 @@
+-- The law for words: what lent memory holds are words, so the starts and ends of the regions are.
+use mathlib.Core.Path.{_≡_, refl, subst}
+use mathlib.Core.Bool.{true}
+use mathlib.Core.List.{List, [], _∷_}
+use Prim.Native.Nat.{ℕ, zero, suc, _+_, _<_}
+use native.Mathlib.Omega.{arith}
+use lib.ListN.{length, getD}
+use Rattle.model.specs.Lists.{Each}
+use Rattle.model.specs.State.{Word}
+use Rattle.model.specs.Sound.{Sound}
+use Rattle.laws.specs.Cases.{lt, ge, cmp}
+use Rattle.words.specs.Runs.{part-at, fetched, fetched-in, fetched-out}
+use Rattle.tables.specs.declared.RegionCapa.{RegionCapa}
+use Rattle.tables.specs.Tables.{regionAt}
+use Rattle.tables.specs.View.{view, Sized}
+use Rattle.tables.specs.Accessors.{regionPlace, region-loaded}
+use Rattle.refine.specs.Decode.Read.{stateOf}
+use Rattle.refine.specs.Settled.Tidy.{Tidy}
+use Rattle.refine.specs.Settled.Words.{view-shaped}
+use Rattle.sound_tree.specs.Tree.{treeHolds}
+use Rattle.exact_tree.specs.Rows.{PoolClauses, RegionWords}
+use Rattle.exact_tree.specs.Law.{TreeClauses, tree-holds, holds-tree}
+
+zero-word : Word 0
+zero-word = omega arith
+
+word-at : (t : List ℕ) → Each Word t → (j : ℕ) → Word (getD t j 0)
+word-at [] h j = zero-word
+word-at (x ∷ t) h zero = h .0
+word-at (x ∷ t) h (suc j) = word-at t (h .1) j
+
+fetched-word : (t : List ℕ) → Each Word t → (a n k : ℕ) → k < n → Word (getD (fetched t a n) k 0)
+fetched-word t h a n k b = elim (cmp (length t) (a + n)) [
+  | lt o ↦ rw (fetched-out t a n o) zero-word
+  | ge o ↦ rw (fetched-in t a n o, part-at t a n k b) (word-at t h (a + k))
+]
+
+pub region-words : (t : List ℕ) → Sized t → Each Word t → RegionWords (view t)
+unfolding regionAt
+region-words t s h i =
+    let e = region-loaded t s i (regionPlace t i) (fetched t (regionPlace t i) 8) refl refl in (
+      subst (λ (r : RegionCapa). Word (r .start)) e (fetched-word t h (regionPlace t i) 8 3 (omega arith)),
+      subst (λ (r : RegionCapa). Word (r .end)) e (fetched-word t h (regionPlace t i) 8 4 (omega arith)),
+    )
+
+-- ---- the two directions
+
+pub words-tree : (t : List ℕ) → Sized t → Each Word t → PoolClauses (view t) → treeHolds (view t) ≡ true → TreeClauses (view t)
+words-tree t s h p e = tree-holds (view t) (view-shaped t s) p e (region-words t s h)
+
+pub tree-words : (t : List ℕ) → Sized t → Tidy (view t) → Sound (stateOf (view t)) → treeHolds (view t) ≡ true
+tree-words t s d h = holds-tree (view t) (view-shaped t s) d h

@@ -1,0 +1,284 @@
+// Runs calls from standard input on tables of its own, and prints of each call its answer and a hash of the tables' words, a line
+// for each (oracle/README.md, "Replay"). A call is eight 64-bit words, little-endian: its kind, and its arguments.
+ghost use Rattle.tables.specs.View.{Sized};
+use answers::Answer;
+use answers::Refusal;
+use region::AccessRights;
+use rights::Rights;
+use tables::Handle;
+use tables::Sizes;
+
+pub mod input;
+pub mod output;
+
+// The words of the largest tables.
+const WORDS: usize = 34545;
+
+pub const MAKE: u64 = 16;
+
+pub const END: u64 = 17;
+
+// A call: its kind and its arguments.
+pub struct Call {
+    pub kind: u64,
+    pub a: u64,
+    pub b: u64,
+    pub c: u64,
+    pub d: u64,
+    pub e: u64,
+    pub f: u64,
+}
+
+fn handle(slot: u64, generation: u64) -> Handle {
+    Handle { slot, generation }
+}
+
+fn access(start: u64, end: u64, rights: u64) -> AccessRights {
+    let ops = Rights((rights % 256) as u8);
+    AccessRights { start, end, ops }
+}
+
+// The calls that change the tables.
+fn change(t: &mut [u64], c: Call) -> Answer
+    requires { ⌜ Sized (now t) ⌝ }
+{
+    let h = handle(c.a, c.b);
+    let kind = c.kind;
+    match kind {
+        0 => calls::open_domain(t, c.a),
+        1 => calls::open_under(t, h, c.c),
+        2 => calls::create_root_region(t, h, access(c.c, c.d, c.e)),
+        3 => calls::alias_region(t, h, c.c as usize, access(c.d, c.e, c.f)),
+        4 => calls::carve_region(t, h, c.c as usize, access(c.d, c.e, c.f)),
+        5 => calls::send(t, h, c.c as usize, c.d as usize),
+        6 => calls::revoke(t, h, c.c as usize),
+        7 => calls::create_revoke_capa(t, h, c.c as usize),
+        8 => calls::open_channel(t, h, handle(c.c, c.d)),
+        _ => calls::set_cores(t, h, c.c),
+    }
+}
+
+// Document 01's number of each refusal.
+fn number_of(r: Refusal) -> u64 {
+    match r {
+        Refusal::Memory => 1,
+        Refusal::Sizes => 2,
+        Refusal::NoDomain => 3,
+        Refusal::NoSlot => 4,
+        Refusal::WrongKind => 5,
+        Refusal::Stale => 6,
+        Refusal::BadRange => 7,
+        Refusal::Beyond => 8,
+        Refusal::Root => 9,
+        Refusal::NotCarried => 10,
+        Refusal::NoRegion => 11,
+        Refusal::NoLocal => 12,
+        Refusal::NoTracker => 13,
+        Refusal::RingFull => 14,
+        Refusal::NoDomainRoom => 15,
+        Refusal::Spent => 16,
+        Refusal::BadRecord => 17,
+    }
+}
+
+// The generation of domain d; 0 in memory of a wrong length.
+fn generation_of(t: &[u64], d: usize) -> u64 {
+    if tables::is_sized(t) {
+        pools::domain_generation(t, d)
+    } else {
+        0
+    }
+}
+
+// A call that changes the tables, which are put back where it is refused.
+fn run_change(t: &mut [u64], w: &mut [u64], c: Call)
+    requires { ⌜ Sized (now t) ⌝ }
+{
+    words::copy(t, w);
+    match change(t, c) {
+        Answer::Done(v) => {
+            output::number(0);
+            output::number(v);
+            if c.kind <= 1 {
+                output::number(generation_of(t, v as usize));
+            }
+        }
+        Answer::Refused(r) => {
+            words::copy(w, t);
+            output::number(number_of(r));
+        }
+    }
+}
+
+fn run_pop(t: &mut [u64])
+    requires { ⌜ Sized (now t) ⌝ }
+{
+    let item = update::pop_update(t);
+    let u = item.update;
+    output::number(0);
+    output::number(u.kind);
+    output::number(u.a);
+    output::number(u.b);
+    output::number(u.c);
+}
+
+// The readings of a domain.
+fn run_reading(t: &[u64], c: Call)
+    requires { ⌜ Sized (now t) ⌝ }
+{
+    if !pools::domain_is_live(t, handle(c.a, c.b)) {
+        output::number(3);
+        return;
+    }
+    let d = c.a as usize;
+    output::number(0);
+    let kind = c.kind;
+    match kind {
+        11 => {
+            let h = tables::load_head(t, d);
+            output::number(h.cores);
+        }
+        12 => run_permissions(t, d),
+        _ => output::number(readings::get_refcount(t, d, c.c, c.d)),
+    }
+}
+
+fn run_permissions(t: &[u64], d: usize)
+    requires { ⌜ Sized (now t) ⌝ }
+{
+    let p = readings::plan_of(t, d, 1024);
+    output::number(p.answer);
+    let mut at = p.at;
+    let mut left = p.turns;
+    while 0 < left {
+        let f = readings::found_at(t, at);
+        output::permission(f.p);
+        at = f.next;
+        left -= 1;
+    }
+}
+
+fn run_holders(t: &[u64], a: u64)
+    requires { ⌜ Sized (now t) ⌝ }
+{
+    let mut run = [0u64; 32];
+    let n = readings::holders(t, a, &mut run);
+    output::number(0);
+    output::number(n);
+    output::slots(&run, n);
+}
+
+// No call of document 01: word i becomes v where it is less, for generations that no list of calls comes to.
+fn raise(t: &mut [u64], i: usize, v: u64) {
+    if words::word(t, i) < v {
+        words::put(t, i, v);
+    }
+}
+
+fn run(t: &mut [u64], w: &mut [u64], c: Call)
+    requires { ⌜ Sized (now t) ⌝ }
+{
+    if c.kind <= 9 {
+        run_change(t, w, c);
+    } else if c.kind == 10 {
+        run_pop(t);
+    } else if c.kind == 14 {
+        run_holders(t, c.a);
+    } else if c.kind == 15 {
+        raise(t, c.a as usize, c.b);
+        output::number(0);
+    } else {
+        run_reading(t, c);
+    }
+}
+
+// The words that tables of these sizes have; 0 for none.
+fn length_for(z: Sizes) -> usize {
+    if tables::limits_hold(z) {
+        tables::total_of(z)
+    } else {
+        0
+    }
+}
+
+fn make(t: &mut [u64], z: Sizes) {
+    if tables::limits_hold(z) {
+        if tables::total_of(z) == t.len() {
+            making::make_empty(t, z);
+        }
+    }
+}
+
+fn sizes_of(c: Call) -> Sizes {
+    Sizes {
+        domains: c.a as usize,
+        slots: c.b as usize,
+        regions: c.c as usize,
+        records: c.d as usize,
+        updates: c.e as usize,
+    }
+}
+
+fn run_sized(t: &mut [u64], w: &mut [u64], c: Call) {
+    if tables::is_sized(t) {
+        run(t, w, c);
+    }
+}
+
+fn answer(t: &mut [u64], w: &mut [u64], c: Call) {
+    if c.kind == MAKE {
+        make(t, sizes_of(c));
+        output::number(0);
+    } else {
+        run_sized(t, w, c);
+    }
+}
+
+// A line of the output.
+fn line(t: &mut [u64], w: &mut [u64], c: Call) {
+    answer(t, w, c);
+    output::number(output::hash(t));
+    output::line_end();
+}
+
+// The words that the tables have after a call, n before it.
+fn length_after(n: usize, c: Call) -> usize {
+    if c.kind == MAKE {
+        length_for(sizes_of(c))
+    } else {
+        n
+    }
+}
+
+// One call on tables of n words; answers how many words they have after it.
+fn turn(t: &mut [u64], w: &mut [u64], n: usize, c: Call) -> usize {
+    let m = length_after(n, c);
+    if t.len() < m {
+        return n;
+    }
+    if w.len() < m {
+        return n;
+    }
+    line(&mut t[..m], &mut w[..m], c);
+    m
+}
+
+// Every call of the input, on tables of no words at first.
+fn run_all(t: &mut [u64], w: &mut [u64]) {
+    let mut n = 0;
+    let mut turns = u64::MAX;
+    while 0 < turns {
+        let c = input::next();
+        if c.kind == END {
+            return;
+        }
+        n = turn(t, w, n, c);
+        turns -= 1;
+    }
+}
+
+fn main() {
+    let mut t = [0u64; WORDS];
+    let mut w = [0u64; WORDS];
+    run_all(&mut t, &mut w);
+}

@@ -1,0 +1,43 @@
+// The test of pools and slot lists in lent tables: every slot is in use or free once, each tracker record is on one list,
+// and what is free is all zero. The work area holds a mark for each slot that was met, and is zero again afterwards.
+ghost use mathlib.Core.Path.{_≡_};
+ghost use lib.ListN.{length, replicate};
+ghost use Rattle.tables.specs.View.{view, Sized};
+ghost use Rattle.sound_pools.specs.Hold.{poolHolds, poolsHold};
+ghost use Rattle.sound_pools.specs.Marks.{Clean};
+
+pub mod links;
+pub mod rows;
+pub mod walks;
+
+pub use links::Stack;
+
+// Whether a pool's free stack and the rows of its table hold.
+fn pool_holds(t: &[u64], s: Stack, w: &mut [u64]) -> bool
+    requires { ⌜ Sized (now t) ⌝ }
+    requires { ⌜ Clean (now t) (now w) ⌝ }
+    ensures { λ r. ⌜ r ≡ poolHolds (view (now (t .entry))) s ⌝ }
+    ensures { λ _. ⌜ now (w .exit) ≡ now (w .entry) ⌝ }
+{
+    let stack = walks::stack_holds(t, s, w);
+    let rows = rows::rows_hold(t, s, w);
+    words::both(stack, rows)
+}
+
+// The whole test. `w` is a work area as long as the tables, and all zero.
+pub fn pools_hold(t: &[u64], w: &mut [u64]) -> bool
+    requires { ⌜ Sized (now t) ⌝ }
+    requires { ⌜ length (now w) ≡ length (now t) ⌝ }
+    requires { ⌜ now w ≡ replicate (length (now w)) 0 ⌝ }
+    ensures { λ r. ⌜ r ≡ poolsHold (view (now (t .entry))) ⌝ }
+    ensures { λ _. ⌜ now (w .exit) ≡ now (w .entry) ⌝ }
+{
+    let domains = pool_holds(t, Stack::Domains, w);
+    let regions = pool_holds(t, Stack::Regions, w);
+    let records = pool_holds(t, Stack::Records, w);
+    let trackers = walks::trackers_hold(t, w);
+    words::both(
+        words::both(domains, regions),
+        words::both(records, trackers),
+    )
+}

@@ -1,0 +1,169 @@
+// Rows: what is free is all zero, and a domain in use has a list that holds.
+ghost use mathlib.Core.Path.{_≡_};
+ghost use Rattle.tables.specs.View.{view, Sized};
+ghost use Rattle.sound_pools.specs.Hold.{headClear, slotClear, slotTidy, slotFits, regionClear, recordClear, slotsHold, domainHolds, rowHolds, rowsHold};
+ghost use Rattle.sound_pools.specs.Marks.{Clean};
+use crate::links;
+use crate::links::Stack;
+use crate::walks;
+use tables::DomainHead;
+use tables::Region;
+use tables::RegionCapa;
+use tables::Slot;
+
+fn head_clear(h: DomainHead) -> bool
+    ensures { λ r. ⌜ r ≡ headClear h ⌝ }
+{
+    let first = words::both(h.manager == 0, h.cores == 0);
+    words::both(
+        first,
+        words::both(h.tracker == 0, words::both(h.head == 0, h.count == 0)),
+    )
+}
+
+fn slot_clear(x: Slot) -> bool
+    ensures { λ r. ⌜ r ≡ slotClear x ⌝ }
+{
+    words::both(
+        x.kind == 0,
+        words::both(x.handle.slot == 0, x.handle.generation == 0),
+    )
+}
+
+fn slot_tidy(x: Slot) -> bool
+    ensures { λ r. ⌜ r ≡ slotTidy x ⌝ }
+{
+    if x.kind <= Slot::FREE {
+        if x.kind == Slot::NONE {
+            words::both(x.handle.generation == 0, x.handle.slot == 0)
+        } else {
+            x.handle.generation == 0
+        }
+    } else {
+        x.kind <= Slot::CHANNEL
+    }
+}
+
+fn slot_fits(free: bool, x: Slot) -> bool
+    ensures { λ r. ⌜ r ≡ slotFits free x ⌝ }
+{
+    if free { slot_clear(x) } else { slot_tidy(x) }
+}
+
+fn region_clear(r: RegionCapa) -> bool
+    ensures { λ b. ⌜ b ≡ regionClear r ⌝ }
+{
+    let a = words::both(
+        words::both(r.kind == 0, r.owner == 0),
+        words::both(r.parent == 0, r.start == 0),
+    );
+    let b = words::both(
+        words::both(r.end == 0, r.rights == 0),
+        words::both(r.child == 0, r.next == 0),
+    );
+    words::both(a, b)
+}
+
+fn record_clear(r: Region) -> bool
+    ensures { λ b. ⌜ b ≡ recordClear r ⌝ }
+{
+    let a = words::both(
+        words::both(r.start == 0, r.end == 0),
+        words::both(r.ref_count == 0, r.read_count == 0),
+    );
+    let c = words::both(
+        r.super_count == 0,
+        words::both(r.uncache_count == 0, r.next == 0),
+    );
+    let b = words::both(words::both(r.write_count == 0, r.exec_count == 0), c);
+    words::both(a, b)
+}
+
+// Whether the slots of domain d are all zero, or as the kinds say.
+fn slots_hold(t: &[u64], d: usize, free: bool) -> bool
+    requires { ⌜ Sized (now t) ⌝ }
+    ensures { λ r. ⌜ r ≡ slotsHold (view (now (t .entry))) d free ⌝ }
+{
+    let n = words::size(t, 1);
+    let mut j = 0;
+    while j < n {
+        let fits = slot_fits(free, tables::load_slot(t, d, j));
+        if !fits {
+            return false;
+        }
+        j += 1;
+    }
+    true
+}
+
+fn domain_holds(t: &[u64], d: usize, w: &mut [u64]) -> bool
+    requires { ⌜ Sized (now t) ⌝ }
+    requires { ⌜ Clean (now t) (now w) ⌝ }
+    ensures { λ r. ⌜ r ≡ domainHolds (view (now (t .entry))) d ⌝ }
+    ensures { λ _. ⌜ now (w .exit) ≡ now (w .entry) ⌝ }
+{
+    let free = links::may_meet(t, Stack::Domains, d);
+    let slots = slots_hold(t, d, free);
+    if free {
+        let head = head_clear(tables::load_head(t, d));
+        words::both(head, slots)
+    } else {
+        let list = walks::stack_holds(t, Stack::Slots(d), w);
+        words::both(slots, list)
+    }
+}
+
+fn region_holds(t: &[u64], i: usize) -> bool
+    requires { ⌜ Sized (now t) ⌝ }
+    ensures { λ r. ⌜ r ≡ rowHolds (view (now (t .entry))) Stack.Regions i ⌝ }
+{
+    if links::may_meet(t, Stack::Regions, i) {
+        region_clear(tables::load_region(t, i))
+    } else {
+        true
+    }
+}
+
+fn record_holds(t: &[u64], i: usize) -> bool
+    requires { ⌜ Sized (now t) ⌝ }
+    ensures { λ r. ⌜ r ≡ rowHolds (view (now (t .entry))) Stack.Records i ⌝ }
+{
+    if links::may_meet(t, Stack::Records, i) {
+        record_clear(tables::load_record(t, i))
+    } else {
+        true
+    }
+}
+
+fn row_holds(t: &[u64], s: Stack, i: usize, w: &mut [u64]) -> bool
+    requires { ⌜ Sized (now t) ⌝ }
+    requires { ⌜ Clean (now t) (now w) ⌝ }
+    ensures { λ r. ⌜ r ≡ rowHolds (view (now (t .entry))) s i ⌝ }
+    ensures { λ _. ⌜ now (w .exit) ≡ now (w .entry) ⌝ }
+{
+    match s {
+        Stack::Domains => domain_holds(t, i, w),
+        Stack::Regions => region_holds(t, i),
+        Stack::Records => record_holds(t, i),
+        Stack::Slots(_) => true,
+        Stack::Trackers => true,
+    }
+}
+
+pub fn rows_hold(t: &[u64], s: Stack, w: &mut [u64]) -> bool
+    requires { ⌜ Sized (now t) ⌝ }
+    requires { ⌜ Clean (now t) (now w) ⌝ }
+    ensures { λ r. ⌜ r ≡ rowsHold (view (now (t .entry))) s ⌝ }
+    ensures { λ _. ⌜ now (w .exit) ≡ now (w .entry) ⌝ }
+{
+    let n = links::slots_of(t, s);
+    let mut i = 0;
+    while i < n {
+        let holds = row_holds(t, s, i, w);
+        if !holds {
+            return false;
+        }
+        i += 1;
+    }
+    true
+}

@@ -1,0 +1,4 @@
+pub mod Chains
+pub mod Tally
+pub mod Trackers
+pub mod Laws

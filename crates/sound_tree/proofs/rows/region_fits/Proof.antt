@@ -1,0 +1,48 @@
+-- A free slot, or the tests of the row.
+use Rattle.sound_tree.specs.Tree.{regionFits}
+use borrow.Author.Needs.{needs}
+use Rattle.sound_tree.proofs.rows.region_fits.Statement.{statement}
+use Rattle.sound_tree.proofs.rows.region_fits.Tie as tie
+
+region-is-free-requires : tie.Need-region-is-free-requires
+region-is-free-requires c κs = search needs
+
+returns : tie.Need-returns
+unfolding regionFits
+returns c = rw (← (c .before .region-is-free .ensures), (c .if1 .taken))
+
+load-region-requires : tie.Need-load-region-requires
+load-region-requires c κs = search needs
+
+unlinked-requires : tie.Need-unlinked-requires
+unlinked-requires c κs = search needs
+
+load-region-requires-2 : tie.Need-load-region-requires-2
+load-region-requires-2 c κs = search needs
+
+row-fits-requires : tie.Need-row-fits-requires
+row-fits-requires c κs = search needs
+
+place-fits-requires : tie.Need-place-fits-requires
+place-fits-requires c κs = search needs
+
+both-requires : tie.Need-both-requires
+both-requires c κs = search needs
+
+returns-2 : tie.Need-returns-2
+unfolding regionFits
+returns-2 c = rw (← (c .before .before .before .before .before .before .before .region-is-free .ensures), (c .before .before .before .before .before .before .if1 .left)) (cc)
+
+pub region-fits-spec : {M : Type 1} → statement M
+region-fits-spec =
+    tie.close
+    (tie.spec
+    region-is-free-requires
+    returns
+    load-region-requires
+    unlinked-requires
+    load-region-requires-2
+    row-fits-requires
+    place-fits-requires
+    both-requires
+    returns-2)
