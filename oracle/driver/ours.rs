@@ -1,4 +1,4 @@
-//! Program `replay` beside the judge: the same lists of calls, answers and every word of the tables after each call.
+//! Program `replay` beside the judge: the same lists of calls, answers, and a hash of every word of the tables after each call.
 
 use std::io::{BufRead, BufReader, Write};
 use std::process::{Command, Stdio};
@@ -163,7 +163,7 @@ pub fn compare(program: &str, seed: u64, calls: u64, length: usize) -> Result<bo
             return print_list(program, &short);
         }
     }
-    println!("{total} random calls answered by the proved engine as by the Rust, every word of the tables the same");
+    println!("{total} random calls answered by the proved engine as by the Rust, with the same hash of the tables' words after each");
     Ok(true)
 }
 
@@ -199,6 +199,6 @@ pub fn sample(program: &str, file: &str) -> Result<bool, String> {
         }
     }
     let calls: usize = lists.iter().map(Vec::len).sum();
-    println!("{calls} calls of {file} answered by the proved engine as stored");
+    println!("{calls} calls of {file} answered by the proved engine as by the Rust, with the same hash of the tables' words after each");
     Ok(calls > 0)
 }
