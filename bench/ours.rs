@@ -9,6 +9,10 @@ mod exported {
         pub fn bench_pop(t: *mut u64, n: usize) -> u64;
         pub fn bench_allocate(t: *mut u64, n: usize) -> u64;
         pub fn bench_free(t: *mut u64, n: usize, i: usize) -> u64;
+        pub fn bench_gain(t: *mut u64, n: usize, d: usize, start: u64, end: u64, rights: u8) -> u64;
+        pub fn bench_loss(t: *mut u64, n: usize, d: usize, start: u64, end: u64, rights: u8) -> u64;
+        pub fn bench_refcount(t: *const u64, n: usize, d: usize, start: u64, end: u64) -> u64;
+        pub fn bench_permissions(t: *const u64, n: usize, d: usize, run: *mut u64, m: usize) -> u64;
         pub fn bench_make(t: *mut u64, n: usize, domains: usize, slots: usize, regions: usize, records: usize, updates: usize) -> u64;
         pub fn bench_copy(from: *const u64, m: usize, to: *mut u64, n: usize);
         pub fn bench_clear(t: *mut u64, n: usize);
@@ -54,6 +58,24 @@ pub fn allocate(t: &mut [u64]) -> usize {
 
 pub fn free(t: &mut [u64], i: usize) {
     assert!(call!(bench_free, t, i) == 1);
+}
+
+/// A range to read and write.
+pub fn gain(t: &mut [u64], d: usize, start: u64, end: u64) {
+    call!(bench_gain, t, d, start, end, 3);
+}
+
+pub fn lose(t: &mut [u64], d: usize, start: u64, end: u64) {
+    call!(bench_loss, t, d, start, end, 3);
+}
+
+pub fn refcount(t: &mut [u64], d: usize, start: u64, end: u64) -> u64 {
+    call!(bench_refcount, t, d, start, end)
+}
+
+/// Start, end and rights of each into the run; how many there are.
+pub fn permissions(t: &mut [u64], d: usize, run: &mut [u64]) -> u64 {
+    call!(bench_permissions, t, d, run.as_mut_ptr(), run.len())
 }
 
 pub fn make(t: &mut [u64]) {

@@ -30,6 +30,11 @@ fn calibrated(f: &mut impl FnMut()) -> usize {
     times
 }
 
+/// Nanoseconds for one of a batch.
+fn one(f: &mut impl FnMut(), times: usize) -> f64 {
+    batch(f, times).as_nanos() as f64 / times as f64
+}
+
 fn times_of(mut each: Vec<f64>) -> Times {
     each.sort_by(f64::total_cmp);
     Times { smallest: each[0], median: each[each.len() / 2], largest: each[each.len() - 1] }
@@ -39,8 +44,23 @@ pub fn pair(mut ours: impl FnMut(), mut rust: impl FnMut()) -> (Times, Times) {
     let (n, m) = (calibrated(&mut ours), calibrated(&mut rust));
     let (mut a, mut b) = (Vec::new(), Vec::new());
     for _ in 0..BATCHES {
-        a.push(batch(&mut ours, n).as_nanos() as f64 / n as f64);
-        b.push(batch(&mut rust, m).as_nanos() as f64 / m as f64);
+        a.push(one(&mut ours, n));
+        b.push(one(&mut rust, m));
     }
     (times_of(a), times_of(b))
+}
+
+/// A step, and the one that undoes it (at `true`), each by itself: a batch is many of the first, and then as many of the second.
+pub fn halves(mut ours: impl FnMut(bool), mut rust: impl FnMut(bool)) -> [(Times, Times); 2] {
+    let n = calibrated(&mut || { ours(false); ours(true) });
+    let m = calibrated(&mut || { rust(false); rust(true) });
+    let mut each = [(); 4].map(|_| Vec::new());
+    for _ in 0..BATCHES {
+        each[0].push(one(&mut || ours(false), n));
+        each[1].push(one(&mut || ours(true), n));
+        each[2].push(one(&mut || rust(false), m));
+        each[3].push(one(&mut || rust(true), m));
+    }
+    let [a, b, c, d] = each.map(times_of);
+    [(a, c), (b, d)]
 }

@@ -2,7 +2,8 @@
 
 use std::io::{self, Read};
 
-use shared::calls::{parse, Access, Answer, Call, Handle, PoolName, Reply, Sizes, Update};
+use shared::calls::{Access, Answer, Call, Handle, PoolName, Reply, Sizes, Update};
+use shared::lists::parse;
 use shared::tables::Tables;
 
 use crate::judge::Judge;

@@ -1,4 +1,4 @@
-//! Calls and answers of document 01, and the text form of a list of calls (oracle/README.md).
+//! Calls and answers of document 01, and how they are printed (oracle/README.md). `lists` reads them.
 
 use std::fmt;
 
@@ -163,97 +163,5 @@ pub fn show(answer: &Answer) -> String {
     match answer {
         Ok(reply) => reply.to_string(),
         Err(n) => format!("no {n}"),
-    }
-}
-
-// ---- reading
-
-struct Words<'a> {
-    rest: std::str::SplitWhitespace<'a>,
-}
-
-impl<'a> Words<'a> {
-    fn word(&mut self, what: &str) -> Result<&'a str, String> {
-        self.rest.next().ok_or_else(|| format!("{what} is missing"))
-    }
-
-    fn number(&mut self, what: &str) -> Result<u64, String> {
-        let word = self.word(what)?;
-        word.parse().map_err(|_| format!("{what}: a number below 2^64 was expected, not `{word}`"))
-    }
-
-    fn handle(&mut self, what: &str) -> Result<Handle, String> {
-        let word = self.word(what)?;
-        parse_handle(word).ok_or_else(|| format!("{what}: a handle as 0.0 (slot, generation) was expected, not `{word}`"))
-    }
-
-    fn access(&mut self) -> Result<Access, String> {
-        let start = self.number("start")?;
-        let end = self.number("end")?;
-        let rights = self.number("rights")?;
-        let rights = u8::try_from(rights).map_err(|_| format!("rights: a number below 256 was expected, not `{rights}`"))?;
-        Ok(Access { start, end, rights })
-    }
-
-    fn local_access(&mut self) -> Result<(Handle, u64, Access), String> {
-        Ok((self.handle("domain")?, self.number("local")?, self.access()?))
-    }
-}
-
-fn parse_handle(word: &str) -> Option<Handle> {
-    let (slot, gen) = word.split_once('.')?;
-    Some(Handle { slot: slot.parse().ok()?, gen: gen.parse().ok()? })
-}
-
-/// One line of a list of calls; `Ok(None)` for an empty line, a comment (`#`) and the line of sizes.
-pub fn parse(line: &str) -> Result<Option<Call>, String> {
-    let line = line.split('#').next().unwrap_or("");
-    // What stands behind `->` is an answer of an earlier run.
-    let line = line.split("->").next().unwrap_or("");
-    let mut w = Words { rest: line.split_whitespace() };
-    let Some(name) = w.rest.next() else { return Ok(None) };
-    let call = match name {
-        "sizes" => return Ok(None),
-        "open" => {
-            let word = w.word("manager")?;
-            let manager = match word {
-                "-" => None,
-                _ => Some(parse_handle(word).ok_or_else(|| format!("manager: - or a handle as 0.0 was expected, not `{word}`"))?),
-            };
-            Call::Open { manager, cores: w.number("cores")? }
-        }
-        "channel" => Call::Channel { domain: w.handle("domain")?, to: w.handle("to")? },
-        "cores" => Call::SetCores { domain: w.handle("domain")?, cores: w.number("cores")? },
-        "root" => Call::Root { domain: w.handle("domain")?, access: w.access()? },
-        "alias" => {
-            let (domain, local, access) = w.local_access()?;
-            Call::Alias { domain, local, access }
-        }
-        "carve" => {
-            let (domain, local, access) = w.local_access()?;
-            Call::Carve { domain, local, access }
-        }
-        "send" => Call::Send { domain: w.handle("domain")?, local: w.number("local")?, target: w.number("target")? },
-        "revoke" => Call::Revoke { domain: w.handle("domain")?, local: w.number("local")? },
-        "region-revoke" => Call::RegionRevoke { domain: w.handle("domain")?, local: w.number("local")? },
-        "pop" => Call::Pop,
-        "core-map" => Call::CoreMap { domain: w.handle("domain")? },
-        "permissions" => Call::Permissions { domain: w.handle("domain")? },
-        "refcount" => Call::Refcount { domain: w.handle("domain")?, start: w.number("start")?, end: w.number("end")? },
-        "holders" => Call::Holders { address: w.number("address")? },
-        "generation" => {
-            let pool = match w.word("pool")? {
-                "domain" => PoolName::Domain,
-                "region" => PoolName::Region,
-                "record" => PoolName::Record,
-                other => return Err(format!("pool: domain, region or record was expected, not `{other}`")),
-            };
-            Call::Generation { pool, slot: w.number("slot")?, gen: w.number("generation")? }
-        }
-        other => return Err(format!("`{other}` is no call")),
-    };
-    match w.rest.next() {
-        None => Ok(Some(call)),
-        Some(extra) => Err(format!("nothing was expected after the call, not `{extra}`")),
     }
 }

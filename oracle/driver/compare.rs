@@ -52,7 +52,8 @@ fn run(
     (list, None)
 }
 
-fn changes(call: &Call) -> bool {
+/// May this call change the tables?
+pub fn changes(call: &Call) -> bool {
     !matches!(call, Call::CoreMap { .. } | Call::Permissions { .. } | Call::Refcount { .. } | Call::Holders { .. })
 }
 
@@ -143,7 +144,7 @@ fn differs(list: &[Call], fault: Option<Fault>) -> Option<Difference> {
 
 /// Leaves out ever smaller runs of calls, and then single ones again and again, while a difference remains. `differs` gives the
 /// number of the first call that shows it.
-pub fn shorten(mut list: Vec<Call>, differs: impl Fn(&[Call]) -> Option<usize>) -> Vec<Call> {
+pub fn shorten<T: Clone>(mut list: Vec<T>, differs: impl Fn(&[T]) -> Option<usize>) -> Vec<T> {
     let mut width = list.len() / 2;
     while width > 0 {
         let before = list.len();

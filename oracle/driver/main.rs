@@ -2,16 +2,22 @@
 
 mod antt;
 mod compare;
+mod drawn;
 mod judge;
+mod leftovers;
+mod met;
 mod ours;
 mod outside;
 mod random;
 mod sample;
+mod script;
+mod scripts;
 
 use std::io::{self, BufRead};
 use std::process::ExitCode;
 
-use shared::calls::{parse, show, Call};
+use shared::calls::{show, Call};
+use shared::lists::parse;
 use shared::tables::Tables;
 
 use judge::Judge;
@@ -24,55 +30,60 @@ driver sample SEED LISTS LENGTH        lists with answers and a hash of the tabl
 driver replay FILE                     a sample, answered again
 driver ours PROGRAM SEED CALLS LENGTH  random lists, the Rust beside the proved engine in program `replay`
 driver ours PROGRAM FILE               a sample
+driver script < SCRIPT                 what the script program is to print
+driver scripts PROGRAM SEED COUNT      random scripts, the Rust beside the script program
 driver antt PREFIX < lists             theorems about the model, one for each list
-driver outside                         what the Rust does outside the domain of equality";
+driver outside                         what the Rust does outside the domain of equality
+driver leftovers SEED CALLS LENGTH     what a failing call leaves behind in the Rust, each way with a short list
+driver leftovers FILE                  these lists, run again";
 
 fn main() -> ExitCode {
     judge::keep_panics();
     let args: Vec<String> = std::env::args().skip(1).collect();
     let words: Vec<&str> = args.iter().map(String::as_str).collect();
-    let number = |w: &str| w.parse::<u64>().ok();
-    let done = match words[..] {
-        ["run"] => run(|_| ()),
-        ["run", "tables"] => run(|t| t.lines().iter().for_each(|l| println!("{l}"))),
-        ["run", "words"] => run(|t| println!("{:?}", t.words())),
-        ["compare", seed, calls, length] => match (number(seed), number(calls), number(length)) {
-            (Some(s), Some(c), Some(l)) => Ok(compare::compare(s, c, l as usize)),
-            _ => Err(USAGE.to_string()),
-        },
-        ["wrong-ports", seed, calls, length, ref rest @ ..] => match (number(seed), number(calls), number(length)) {
-            (Some(s), Some(c), Some(l)) => {
-                let missed = compare::wrong_ports(s, c, l as usize, rest == ["lists"]);
-                missed.iter().for_each(|name| println!("NOT told apart: {name}"));
-                Ok(missed.is_empty())
-            }
-            _ => Err(USAGE.to_string()),
-        },
-        ["mirror", seed, lists] => match (number(seed), number(lists)) {
-            (Some(s), Some(n)) => Ok(sample::mirror(s, n)),
-            _ => Err(USAGE.to_string()),
-        },
-        ["sample", seed, lists, length] => match (number(seed), number(lists), number(length)) {
-            (Some(s), Some(n), Some(l)) => Ok(sample::print(s, n, l as usize)),
-            _ => Err(USAGE.to_string()),
-        },
-        ["ours", program, seed, calls, length] => match (number(seed), number(calls), number(length)) {
-            (Some(s), Some(c), Some(l)) => ours::compare(program, s, c, l as usize),
-            _ => Err(USAGE.to_string()),
-        },
-        ["ours", program, file] => ours::sample(program, file),
-        ["antt", prefix] => antt::print(prefix),
-        ["outside"] => Ok(outside::check()),
-        ["replay", file] => sample::replay(file),
-        _ => Err(USAGE.to_string()),
-    };
-    match done {
+    match command(&words) {
         Ok(true) => ExitCode::SUCCESS,
         Ok(false) => ExitCode::FAILURE,
         Err(message) => {
             eprintln!("{message}");
             ExitCode::from(2)
         }
+    }
+}
+
+fn number(word: &str) -> Result<u64, String> {
+    word.parse().map_err(|_| format!("\"{word}\" is no number; the commands are\n{USAGE}"))
+}
+
+/// The length of the lists, at least 1.
+fn length(word: &str) -> Result<usize, String> {
+    number(word).map(|n| n.max(1) as usize)
+}
+
+/// Runs a command; false where it found a difference.
+fn command(words: &[&str]) -> Result<bool, String> {
+    match *words {
+        ["run"] => run(|_| ()),
+        ["run", "tables"] => run(|t| t.lines().iter().for_each(|l| println!("{l}"))),
+        ["run", "words"] => run(|t| println!("{:?}", t.words())),
+        ["compare", seed, calls, l] => Ok(compare::compare(number(seed)?, number(calls)?, length(l)?)),
+        ["wrong-ports", seed, calls, l, ref rest @ ..] => {
+            let missed = compare::wrong_ports(number(seed)?, number(calls)?, length(l)?, rest == ["lists"]);
+            missed.iter().for_each(|name| println!("NOT told apart: {name}"));
+            Ok(missed.is_empty())
+        }
+        ["mirror", seed, lists] => Ok(sample::mirror(number(seed)?, number(lists)?)),
+        ["sample", seed, lists, l] => Ok(sample::print(number(seed)?, number(lists)?, length(l)?)),
+        ["replay", file] => sample::replay(file),
+        ["ours", program, seed, calls, l] => ours::compare(program, number(seed)?, number(calls)?, length(l)?),
+        ["ours", program, file] => ours::sample(program, file),
+        ["script"] => script::print(),
+        ["scripts", program, seed, count] => scripts::compare(program, number(seed)?, number(count)?),
+        ["antt", prefix] => antt::print(prefix),
+        ["outside"] => Ok(outside::check()),
+        ["leftovers", seed, calls, l] => Ok(leftovers::print(number(seed)?, number(calls)?, length(l)?)),
+        ["leftovers", file] => leftovers::check(file),
+        _ => Err(USAGE.to_string()),
     }
 }
 

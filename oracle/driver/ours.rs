@@ -1,14 +1,22 @@
 //! Program `replay` beside the judge: the same lists of calls, answers, and a hash of every word of the tables after each call.
 
-use std::io::{BufRead, BufReader, Write};
+use std::fmt::Write as _;
+use std::io::{Read, Write};
 use std::process::{Command, Stdio};
 use std::thread;
 
-use shared::calls::{parse, show, Answer, Call, PoolName, Reply, Sizes, Update};
+use shared::calls::{show, Answer, Call, PoolName, Reply, Sizes, Update};
+use shared::lists::parse;
 
-use crate::compare::{list_seed, shorten};
+use shared::tables::Tables;
+
+use crate::compare::{changes, list_seed, shorten};
 use crate::judge::Judge;
+use crate::met::Met;
 use crate::random::{self, Random, Style};
+
+/// So many calls are written to one process, or a list more.
+const BATCH: usize = 20_000;
 
 /// A call as eight words (oracle/README.md, "Replay").
 fn words(call: &Call, sizes: &Sizes) -> [u64; 8] {
@@ -72,108 +80,149 @@ fn numbers(call: &Call, answer: &Answer) -> Vec<u64> {
     [0].into_iter().chain(values).collect()
 }
 
-/// The line that `replay` prints for numbers and a hash.
-fn line(numbers: &[u64], hash: u64) -> String {
-    let mut out: String = numbers.iter().map(|n| format!("{n} ")).collect();
-    out.push_str(&format!("{hash} "));
-    out
+/// The judge with its tables and their hash, which a refused call and a reading leave as they are.
+struct Side {
+    judge: Judge,
+    tables: Tables,
+    hash: u64,
 }
 
-/// A list of calls as `replay` reads it, from empty tables on, with the lines that it should print.
+impl Side {
+    fn new() -> Side {
+        let judge = Judge::new();
+        let tables = judge.tables();
+        Side { hash: tables.hash(), judge, tables }
+    }
+
+    fn perform(&mut self, call: &Call) -> Answer {
+        let answer = self.judge.perform(call);
+        if answer.is_ok() && changes(call) {
+            self.tables = self.judge.tables();
+            self.hash = self.tables.hash();
+        }
+        answer
+    }
+}
+
+/// Calls as `replay` reads them, with the lines that it should print.
 struct Expected {
+    sizes: Sizes,
     input: Vec<u8>,
-    lines: Vec<String>,
+    lines: String,
 }
 
 impl Expected {
-    fn new(judge: &Judge, sizes: &Sizes) -> Expected {
-        let mut new = Expected { input: Vec::new(), lines: Vec::new() };
-        let z = [sizes.domains, sizes.slots, sizes.regions, sizes.records, sizes.updates].map(|n| n as u64);
-        new.add([16, z[0], z[1], z[2], z[3], z[4], 0, 0], line(&[0], judge.tables().hash()));
-        new
+    fn new() -> Expected {
+        Expected { sizes: engine::utils::mirror::sizes(), input: Vec::new(), lines: String::new() }
     }
 
-    fn add(&mut self, words: [u64; 8], line: String) {
+    fn add(&mut self, words: [u64; 8], numbers: &[u64], hash: u64) {
         self.input.extend(words.iter().flat_map(|w| w.to_le_bytes()));
-        self.lines.push(line);
+        for n in numbers.iter().chain([&hash]) {
+            write!(self.lines, "{n} ").expect("a string takes all");
+        }
+        self.lines.push('\n');
+    }
+
+    /// Empty tables, with which every list begins.
+    fn make(&mut self) -> Side {
+        let side = Side::new();
+        let z = self.sizes;
+        let z = [z.domains, z.slots, z.regions, z.records, z.updates].map(|n| n as u64);
+        self.add([16, z[0], z[1], z[2], z[3], z[4], 0, 0], &[0], side.hash);
+        side
     }
 
     /// Performs the call on the judge, too.
-    fn perform(&mut self, judge: &mut Judge, sizes: &Sizes, call: &Call) {
-        let answer = judge.perform(call);
-        self.add(words(call, sizes), line(&numbers(call, &answer), judge.tables().hash()));
+    fn perform(&mut self, side: &mut Side, call: &Call) -> Answer {
+        let answer = side.perform(call);
+        let sizes = self.sizes;
+        self.add(words(call, &sizes), &numbers(call, &answer), side.hash);
+        answer
     }
 
-    /// The first line that the program prints otherwise, from the making (0) on.
-    fn difference(self, program: &str) -> Result<Option<(usize, String)>, String> {
-        let mut child = Command::new(program)
-            .stdin(Stdio::piped())
-            .stdout(Stdio::piped())
-            .spawn()
-            .map_err(|e| format!("{program}: {e}"))?;
+    /// The first line that the program prints otherwise, from 0 on.
+    fn difference(&self, program: &str) -> Result<Option<(usize, String)>, String> {
+        let command = Command::new(program).stdin(Stdio::piped()).stdout(Stdio::piped()).spawn();
+        let mut child = command.map_err(|e| format!("{program}: {e}"))?;
         let mut stdin = child.stdin.take().ok_or("no standard input")?;
-        let input = self.input;
+        let input = self.input.clone();
         let writer = thread::spawn(move || stdin.write_all(&input));
-        let mut found = BufReader::new(child.stdout.take().ok_or("no standard output")?).lines();
-        let mut difference = None;
-        for (k, expected) in self.lines.iter().enumerate() {
-            let line = found.next().transpose().map_err(|e| e.to_string())?.unwrap_or_default();
-            if line != *expected {
-                difference = Some((k, format!("expected `{expected}`, found `{line}`")));
-                break;
+        let mut printed = Vec::with_capacity(self.lines.len() + 1);
+        let read = child.stdout.take().ok_or("no standard output")?.read_to_end(&mut printed);
+        let _ = (child.wait(), writer.join());
+        read.map_err(|e| format!("{program}: {e}"))?;
+        if printed == self.lines.as_bytes() {
+            return Ok(None);
+        }
+        let printed = String::from_utf8_lossy(&printed).into_owned();
+        let mut found = printed.lines();
+        for (k, expected) in self.lines.lines().enumerate() {
+            let line = found.next().unwrap_or("");
+            if line != expected {
+                return Ok(Some((k, format!("expected `{expected}`, found `{line}`"))));
             }
         }
-        let _ = child.kill();
-        let _ = child.wait();
-        let _ = writer.join();
-        Ok(difference)
+        Ok(Some((self.lines.lines().count(), "more lines than calls".to_string())))
     }
 }
 
-/// A given list, from empty tables on.
+/// A given list, from empty tables on; line 0 is the making.
 fn differs(program: &str, list: &[Call]) -> Result<Option<(usize, String)>, String> {
-    let sizes = engine::utils::mirror::sizes();
-    let mut judge = Judge::new();
-    let mut expected = Expected::new(&judge, &sizes);
-    list.iter().for_each(|call| expected.perform(&mut judge, &sizes, call));
+    let mut expected = Expected::new();
+    let mut side = expected.make();
+    list.iter().for_each(|call| drop(expected.perform(&mut side, call)));
     expected.difference(program)
+}
+
+/// A random list, added to what is expected.
+fn random_list(expected: &mut Expected, seed: u64, length: usize, met: &mut Met) -> Vec<Call> {
+    let mut random = Random(seed);
+    let style = Style::new(&mut random);
+    let mut presets = random::presets(&mut random, &expected.sizes).into_iter();
+    let mut side = expected.make();
+    let mut list = Vec::new();
+    for _ in 0..length {
+        let call = presets.next().unwrap_or_else(|| random::call(&mut random, &style, &side.tables));
+        met.add(&expected.perform(&mut side, &call));
+        list.push(call);
+    }
+    list
 }
 
 /// Random lists until `calls` calls were run; the first difference, cut down, is printed and ends it.
 pub fn compare(program: &str, seed: u64, calls: u64, length: usize) -> Result<bool, String> {
-    let sizes = engine::utils::mirror::sizes();
-    let (mut number, mut total) = (0, 0);
+    let (mut number, mut total, mut met) = (0, 0, Met::new());
     while total < calls {
-        number += 1;
-        let mut random = Random(list_seed(seed, number));
-        let style = Style::new(&mut random);
-        let mut presets = random::presets(&mut random, &sizes).into_iter();
-        let mut judge = Judge::new();
-        let mut expected = Expected::new(&judge, &sizes);
-        let mut list = Vec::new();
-        for _ in 0..length {
-            let call = presets.next().unwrap_or_else(|| random::call(&mut random, &style, &judge.tables()));
-            expected.perform(&mut judge, &sizes, &call);
-            list.push(call);
+        let mut expected = Expected::new();
+        let mut lists = Vec::new();
+        while lists.len() * length < BATCH && total < calls {
+            number += 1;
+            lists.push(random_list(&mut expected, list_seed(seed, number), length, &mut met));
+            total += length as u64;
         }
-        total += list.len() as u64;
-        if expected.difference(program)?.is_some() {
-            println!("list {number} of seed {seed} differs; cut down:");
-            let short = shorten(list, |l| differs(program, l).ok().flatten().map(|d| d.0.saturating_sub(1)));
-            return print_list(program, &short);
+        if let Some((line, what)) = expected.difference(program)? {
+            let at = (line / (length + 1)).min(lists.len() - 1);
+            println!("list {} of seed {seed} differs: {what}", number - (lists.len() - 1 - at) as u64);
+            return print_list(program, lists.swap_remove(at));
         }
     }
     println!("{total} random calls answered by the proved engine as by the Rust, with the same hash of the tables' words after each");
+    println!("{met}");
     Ok(true)
 }
 
-fn print_list(program: &str, list: &[Call]) -> Result<bool, String> {
-    println!("sizes {}", engine::utils::mirror::sizes());
-    let mut judge = Judge::new();
-    for call in list {
-        println!("{call} -> {}", show(&judge.perform(call)));
+/// Cuts a list down that differs, and prints it.
+fn print_list(program: &str, list: Vec<Call>) -> Result<bool, String> {
+    if differs(program, &list)?.is_none() {
+        println!("not by itself, but after the lists before it in the same process");
+        return Ok(false);
     }
-    if let Some((at, what)) = differs(program, list)? {
+    let short = shorten(list, |l| differs(program, l).ok().flatten().map(|d| d.0.saturating_sub(1)));
+    println!("cut down:\nsizes {}", engine::utils::mirror::sizes());
+    let mut judge = Judge::new();
+    short.iter().for_each(|call| println!("{call} -> {}", show(&judge.perform(call))));
+    if let Some((at, what)) = differs(program, &short)? {
         println!("at call {at}: {what}");
     }
     Ok(false)
@@ -185,20 +234,20 @@ pub fn sample(program: &str, file: &str) -> Result<bool, String> {
     let own = format!("sizes {}", engine::utils::mirror::sizes());
     let mut lists: Vec<Vec<Call>> = Vec::new();
     let mut wanted = false;
-    for stored in text.lines() {
+    for (k, stored) in text.lines().enumerate() {
         if stored.starts_with("sizes ") {
             wanted = stored == own;
             lists.push(Vec::new());
-        } else if let (true, Some(call)) = (wanted, parse(stored)?) {
+        } else if let (true, Some(call)) = (wanted, parse(stored).map_err(|e| format!("{file}: line {}: {e}", k + 1))?) {
             lists.last_mut().expect("a list has begun").push(call);
         }
     }
-    for list in &lists {
-        if differs(program, list)?.is_some() {
+    let calls: usize = lists.iter().map(Vec::len).sum();
+    for list in lists {
+        if differs(program, &list)?.is_some() {
             return print_list(program, list);
         }
     }
-    let calls: usize = lists.iter().map(Vec::len).sum();
     println!("{calls} calls of {file} answered by the proved engine as by the Rust, with the same hash of the tables' words after each");
     Ok(calls > 0)
 }

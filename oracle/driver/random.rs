@@ -27,7 +27,7 @@ impl Random {
         self.below(n) == 0
     }
 
-    fn pick<T: Copy>(&mut self, from: &[T]) -> T {
+    pub fn pick<T: Copy>(&mut self, from: &[T]) -> T {
         from[self.below(from.len() as u64) as usize]
     }
 }
@@ -71,6 +71,12 @@ impl Style {
             absurd: random.pick(&[12, 40, 400]),
             domains: random.pick(&[1, 2, 3, 8, usize::MAX]),
         }
+    }
+
+    /// Roots and aliases in ever more domains, hardly any revoked: regions or records run out.
+    pub fn filling(random: &mut Random) -> Style {
+        let span = random.pick(&[4, 4, 1000, 100_000]);
+        Style { base: 0, span, weights: [2, 0, 0, 16, 8, 1, 0, 0, 0, 0, 0], plain_rights: span == 4, absurd: 400, domains: usize::MAX }
     }
 
     fn address(&self, random: &mut Random) -> u64 {

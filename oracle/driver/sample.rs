@@ -1,6 +1,7 @@
 //! The fixed sample: lists of calls with the judge's answers and a hash of the tables' words after each call.
 
-use shared::calls::{parse, show, Call};
+use shared::calls::{show, Call};
+use shared::lists::parse;
 
 use crate::judge::Judge;
 use crate::random::{self, Random, Style};
@@ -42,7 +43,7 @@ pub fn replay(file: &str) -> Result<bool, String> {
     for (k, stored) in text.lines().enumerate() {
         if stored.starts_with("sizes ") {
             judge = (stored == own).then(Judge::new);
-        } else if let (Some(judge), Some(call)) = (&mut judge, parse(stored)?) {
+        } else if let (Some(judge), Some(call)) = (&mut judge, parse(stored).map_err(|e| format!("{file}: line {}: {e}", k + 1))?) {
             let answer = show(&judge.perform(&call));
             let found = line(&call, judge, &answer);
             if found != stored {

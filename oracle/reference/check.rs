@@ -1,7 +1,8 @@
 //! Tests the reference: document 01's example and marked cases, and a list for each fault.
 
 use reference::{Engine, Fault};
-use shared::calls::{parse, show, Answer, Call, Handle, Reply, Sizes, Update};
+use shared::calls::{show, Answer, Call, Handle, Reply, Sizes, Update};
+use shared::lists::parse;
 
 /// The script program's sizes.
 const SCRIPT: Sizes = Sizes { domains: 8, slots: 16, regions: 128, records: 128, updates: 32 };

@@ -1,9 +1,9 @@
 //! Single steps of the engine, to be timed (bench/README.md). Not inlined, as the steps they are held against are not.
 
 use crate::capa::Capa;
-use crate::domain::{insert_capa, remove_capa};
+use crate::domain::{activate_region, deactivate_region, insert_capa, remove_capa};
 use crate::segment::{RegionCapa, RegionKind};
-use crate::{AccessRights, CapaEngine, Domain, Handle, LocalCapa, Update};
+use crate::{AccessRights, CapaEngine, Domain, Handle, LocalCapa, MemOps, MemoryPermission, Update};
 
 /// A Channel capability into the domain's list; the slot.
 #[inline(never)]
@@ -52,4 +52,38 @@ pub fn free(engine: &mut CapaEngine, region: Handle<RegionCapa>) {
 #[inline(never)]
 pub fn make(engine: &mut CapaEngine) {
     *engine = CapaEngine::new();
+}
+
+/// A range to read and write.
+pub fn read_write(start: usize, end: usize) -> AccessRights {
+    AccessRights { start, end, ops: MemOps::READ.union(MemOps::WRITE) }
+}
+
+/// `add_region` on the domain's tracker, which is private: the call around it queues nothing where no right comes or goes.
+#[inline(never)]
+pub fn gain(engine: &mut CapaEngine, domain: Handle<Domain>, access: AccessRights) {
+    activate_region(domain, access, &mut engine.domains, &mut engine.updates, &mut engine.tracker).unwrap();
+}
+
+/// `remove_region`, likewise.
+#[inline(never)]
+pub fn lose(engine: &mut CapaEngine, domain: Handle<Domain>, access: AccessRights) {
+    deactivate_region(domain, access, &mut engine.domains, &mut engine.updates, &mut engine.tracker).unwrap();
+}
+
+#[inline(never)]
+pub fn refcount(engine: &CapaEngine, domain: Handle<Domain>, start: usize, end: usize) -> usize {
+    super::calls::refcount(engine, domain, start, end)
+}
+
+/// The domain's permission list into a run; how many are written.
+#[inline(never)]
+pub fn permissions(engine: &CapaEngine, domain: Handle<Domain>, run: &mut [MemoryPermission]) -> usize {
+    let list = engine.domains[domain].regions().permissions(&engine.tracker);
+    let mut n = 0;
+    for (place, p) in run.iter_mut().zip(list) {
+        *place = p;
+        n += 1;
+    }
+    n
 }

@@ -15,6 +15,9 @@ ghost use Rattle.domain.specs.Capas.{withCapa, withoutCapa};
 ghost use Rattle.update.specs.Ring.{cleanupOf, pushOf, popOf, markOf};
 ghost use Rattle.update.specs.Stored.{ringOf, withRingOf};
 ghost use Rattle.bench.specs.Steps.{nothing, flagOf, insertedOf, givenOf, freedOf, capaOf, sizesOf, reply, left, makes, made};
+
+pub mod trackers;
+
 use arena::Freed;
 use arena::Given;
 use domain::Inserted;

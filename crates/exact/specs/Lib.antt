@@ -1,0 +1,2 @@
+pub mod Gens
+pub mod Law

@@ -1,0 +1,1 @@
+// Mathematics only: the test of lent tables is exact.

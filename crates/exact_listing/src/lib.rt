@@ -1,0 +1,1 @@
+// The lines of the tables are the model's: mathematics only.

@@ -1,0 +1,20 @@
+-- Document 01's worked example ("The script program"): the lines after its calls.
+use mathlib.Core.Path.{_≡_, refl}
+use mathlib.Core.List.{[], _∷_}
+use Rattle.model.specs.State.{State}
+use Rattle.model.specs.Making.{emptyTables}
+use Rattle.model.specs.Perform.{run}
+use Rattle.model.specs.Checked.Compute.{computing}
+use Rattle.model.specs.Checked.Script.{scriptSizes, example}
+use Rattle.listing.specs.Lines.{domainLines, p, queueLines}
+
+abbrev after : State
+after = run (emptyTables scriptSizes) example .1
+
+example-domains : domainLines after ≡ (0 ∷ 0 ∷ 4 ∷ 3 ∷ 2 ∷ []) ∷ (0 ∷ 8 ∷ 16 ∷ 3 ∷ 1 ∷ []) ∷ (1 ∷ 4 ∷ 8 ∷ 1 ∷ 1 ∷ []) ∷ []
+unfolding computing domainLines
+example-domains = refl
+
+example-queue : queueLines after ≡ p 0 0 ∷ p 1 0 ∷ []
+unfolding computing queueLines
+example-queue = refl

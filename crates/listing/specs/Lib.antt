@@ -1,0 +1,5 @@
+pub mod Lines
+pub mod Rising
+pub mod Examples
+pub mod Listed
+pub mod Room

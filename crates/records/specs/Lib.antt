@@ -1,0 +1,8 @@
+pub mod Script
+pub mod Parsed
+pub mod Numbers
+pub mod Fronts
+pub mod Scripts
+pub mod Streams
+pub mod Words
+pub mod Examples

@@ -1,0 +1,20 @@
+-- The test of lent tables: that the words are as many as their sizes ask, and the tests of the groups, in the order in which they run.
+use mathlib.Core.Bool.{Bool}
+use mathlib.Core.List.{List}
+use Prim.Native.Nat.{ℕ}
+use Rattle.words.specs.Cases.{both}
+use Rattle.tables.specs.Tables.{Tables}
+use Rattle.tables.specs.View.{view}
+use Rattle.tables.specs.Tests.{sizedB}
+use Rattle.sound_pools.specs.Hold.{poolsHold}
+use Rattle.sound_tree.specs.Tree.{treeHolds}
+use Rattle.sound_capas.specs.Capas.{capasHold}
+use Rattle.sound_capas.specs.Places.{queueHolds}
+use Rattle.sound_trackers.specs.Trackers.{trackersHold}
+
+-- what document 01, **Sound**, says of pools and lists, regions, capabilities, the ring and trackers
+abbrev pub groupsHold : Tables → Bool
+groupsHold v = both (poolsHold v) (both (treeHolds v) (both (capasHold v) (both (queueHolds v) (trackersHold v))))
+
+unfoldable pub isSound : List ℕ → Bool
+isSound t = both (sizedB t) (groupsHold (view t))

@@ -1,0 +1,36 @@
+// The test of lent tables (document 01, **Sound**): whether the words are those of a sound state.
+ghost use mathlib.Core.Path.{_≡_};
+ghost use lib.ListN.{length, replicate};
+ghost use Rattle.sound.specs.Test.{isSound};
+
+// `w` is a work area as long as the tables, all zero. Each group is tested only where those before it hold; the trackers come last, for in
+// tables that are not sound their test may end late.
+pub fn is_sound(t: &[u64], w: &mut [u64]) -> bool
+    requires { ⌜ length (now w) ≡ length (now t) ⌝ }
+    requires { ⌜ now w ≡ replicate (length (now w)) 0 ⌝ }
+    ensures { λ r. ⌜ r ≡ isSound (now (t .entry)) ⌝ }
+    ensures { λ _. ⌜ now (w .exit) ≡ now (w .entry) ⌝ }
+{
+    let sized = tables::is_sized(t);
+    if !sized {
+        return false;
+    }
+    let pools = sound_pools::pools_hold(t, w);
+    if !pools {
+        return false;
+    }
+    let tree = sound_tree::tree_holds(t, w);
+    if !tree {
+        return false;
+    }
+    let capas = sound_capas::capas_hold(t, w);
+    if !capas {
+        return false;
+    }
+    let queue = sound_capas::queue_holds(t, w);
+    if !queue {
+        return false;
+    }
+    let trackers = sound_trackers::trackers_hold(t);
+    trackers
+}

@@ -1,0 +1,121 @@
+//! Reads lists of calls in the text form of oracle/README.md. A wrong word is answered with what was expected in its place.
+
+use std::str::SplitWhitespace;
+
+use crate::calls::{Access, Call, Handle, PoolName};
+
+/// The calls that a script has, too.
+const SCRIPT: [&str; 7] = ["open", "root", "alias", "carve", "send", "revoke", "region-revoke"];
+
+const OTHERS: [&str; 8] = ["channel", "cores", "pop", "core-map", "permissions", "refcount", "holders", "generation"];
+
+const HANDLE: &str = "a handle as 0.0 (slot, generation)";
+
+/// The words of a call behind its name.
+struct Words<'a>(SplitWhitespace<'a>);
+
+impl Words<'_> {
+    /// The next word as `read` takes it; `what` names it, and `form` says what is expected.
+    fn take<T>(&mut self, what: &str, form: &str, read: impl Fn(&str) -> Option<T>) -> Result<T, String> {
+        let Some(word) = self.0.next() else { return Err(format!("{what}: expected {form}, found nothing")) };
+        read(word).ok_or_else(|| format!("{what}: expected {form}, found \"{word}\""))
+    }
+
+    fn number(&mut self, what: &str) -> Result<u64, String> {
+        self.take(what, "a number below 2^64", number)
+    }
+
+    fn handle(&mut self, what: &str) -> Result<Handle, String> {
+        self.take(what, HANDLE, handle)
+    }
+
+    /// `-` for none.
+    fn manager(&mut self) -> Result<Option<Handle>, String> {
+        self.take("manager", &format!("- or {HANDLE}"), |word| if word == "-" { Some(None) } else { handle(word).map(Some) })
+    }
+
+    fn access(&mut self) -> Result<Access, String> {
+        let (start, end) = (self.number("start")?, self.number("end")?);
+        let rights = self.take("rights", "a number up to 255", |word| number(word).and_then(|n| u8::try_from(n).ok()))?;
+        Ok(Access { start, end, rights })
+    }
+
+    fn pool(&mut self) -> Result<PoolName, String> {
+        self.take("pool", "domain, region or record", |word| match word {
+            "domain" => Some(PoolName::Domain),
+            "region" => Some(PoolName::Region),
+            "record" => Some(PoolName::Record),
+            _ => None,
+        })
+    }
+
+    fn end(&mut self) -> Result<(), String> {
+        self.0.next().map_or(Ok(()), |word| Err(format!("expected the end of the call, found \"{word}\"")))
+    }
+}
+
+/// Digits only: `+1` is no number of a list.
+fn number(word: &str) -> Option<u64> {
+    word.bytes().all(|b| b.is_ascii_digit()).then(|| word.parse().ok()).flatten()
+}
+
+fn handle(word: &str) -> Option<Handle> {
+    let (slot, gen) = word.split_once('.')?;
+    Some(Handle { slot: number(slot)?, gen: number(gen)? })
+}
+
+/// The words of a line before a comment (`#`) and before an answer of an earlier run (`->`).
+fn words(line: &str) -> SplitWhitespace<'_> {
+    let end = [line.find('#'), line.find("->")].into_iter().flatten().min();
+    line[..end.unwrap_or(line.len())].split_whitespace()
+}
+
+/// One line of a list of calls; `Ok(None)` for an empty line, a comment and the line of sizes.
+pub fn parse(line: &str) -> Result<Option<Call>, String> {
+    let mut words = words(line);
+    match words.next() {
+        None | Some("sizes") => Ok(None),
+        Some(name) if SCRIPT.contains(&name) || OTHERS.contains(&name) => call(name, Words(words)).map(Some),
+        Some(other) => Err(format!("\"{other}\" is no call; expected {}", one_of(&[&SCRIPT[..], &OTHERS[..]].concat()))),
+    }
+}
+
+/// One line of a list of calls that is to become a script.
+pub fn parse_script(line: &str) -> Result<Option<Call>, String> {
+    let mut words = words(line);
+    match words.next() {
+        None => Ok(None),
+        Some(name) if SCRIPT.contains(&name) => call(name, Words(words)).map(Some),
+        Some(name) if OTHERS.contains(&name) => Err(format!("\"{name}\" is no call of a script; expected {}", one_of(&SCRIPT))),
+        Some(other) => Err(format!("\"{other}\" is no call; expected {}", one_of(&SCRIPT))),
+    }
+}
+
+/// `a, b or c`
+fn one_of(names: &[&str]) -> String {
+    let (last, first) = names.split_last().expect("a name");
+    format!("{} or {last}", first.join(", "))
+}
+
+/// The call of this name, one of the above.
+fn call(name: &str, mut w: Words) -> Result<Call, String> {
+    let call = match name {
+        "open" => Call::Open { manager: w.manager()?, cores: w.number("cores")? },
+        "channel" => Call::Channel { domain: w.handle("domain")?, to: w.handle("to")? },
+        "cores" => Call::SetCores { domain: w.handle("domain")?, cores: w.number("cores")? },
+        "root" => Call::Root { domain: w.handle("domain")?, access: w.access()? },
+        "alias" => Call::Alias { domain: w.handle("domain")?, local: w.number("local")?, access: w.access()? },
+        "carve" => Call::Carve { domain: w.handle("domain")?, local: w.number("local")?, access: w.access()? },
+        "send" => Call::Send { domain: w.handle("domain")?, local: w.number("local")?, target: w.number("target local")? },
+        "revoke" => Call::Revoke { domain: w.handle("domain")?, local: w.number("local")? },
+        "region-revoke" => Call::RegionRevoke { domain: w.handle("domain")?, local: w.number("local")? },
+        "pop" => Call::Pop,
+        "core-map" => Call::CoreMap { domain: w.handle("domain")? },
+        "permissions" => Call::Permissions { domain: w.handle("domain")? },
+        "refcount" => Call::Refcount { domain: w.handle("domain")?, start: w.number("start")?, end: w.number("end")? },
+        "holders" => Call::Holders { address: w.number("address")? },
+        "generation" => Call::Generation { pool: w.pool()?, slot: w.number("slot")?, gen: w.number("generation")? },
+        _ => unreachable!("a name of the lists above"),
+    };
+    w.end().map(|()| call)
+}
