@@ -1,0 +1,112 @@
+// Domains, channels and core maps.
+ghost use mathlib.Core.Path.{_≡_};
+ghost use Rattle.model.specs.Perform.{Call};
+ghost use Rattle.tables.specs.View.{view, Sized};
+ghost use mathlib.Core.Option.{none, some};
+ghost use Rattle.engine.specs.Replies.{handle, replyOf, domainReplyOf, Returns};
+ghost use Rattle.engine.specs.Finish.{openedFor};
+use crate::frame;
+use crate::replies;
+use crate::replies::DomainReply;
+use crate::replies::Reply;
+use answers::Refusal;
+use tables::Handle;
+
+// An accepted opening's slot, with the generation that it has.
+fn opened(t: &[u64], r: Reply) -> DomainReply
+    requires { ⌜ Sized (now t) ⌝ }
+    ensures { λ x. ⌜ x ≡ openedFor (view (now (t .entry))) r ⌝ }
+{
+    if r.refusal == 0 {
+        return DomainReply {
+            refusal: 0,
+            slot: r.value,
+            generation: pools::domain_generation(t, r.value as usize),
+        };
+    }
+    replies::no_domain(r.refusal)
+}
+
+// A domain without a manager.
+#[no_mangle]
+pub extern "C" fn mityvurno_open_domain(t: &mut [u64], w: &mut [u64], cores: u64) -> DomainReply
+    ensures { λ r. ⌜ Returns domainReplyOf (now (t .entry)) (now (w .entry)) (Call.Open none cores) r (now (t .exit)) (now (w .exit)) ⌝ }
+{
+    if frame::begin(t, w) {
+        let a = calls::open_domain(t, cores);
+        let r = frame::finish(t, w, a);
+        return opened(t, r);
+    }
+    replies::no_domain(1)
+}
+
+// A domain whose manager gets a Management capability.
+#[no_mangle]
+pub extern "C" fn mityvurno_open_under(
+    t: &mut [u64],
+    w: &mut [u64],
+    manager: u64,
+    generation: u64,
+    cores: u64,
+) -> DomainReply
+    ensures { λ r. ⌜ Returns domainReplyOf (now (t .entry)) (now (w .entry)) (Call.Open (some (handle manager generation)) cores) r (now (t .exit)) (now (w .exit)) ⌝ }
+{
+    if frame::begin(t, w) {
+        let h = Handle {
+            slot: manager,
+            generation,
+        };
+        let a = calls::open_under(t, h, cores);
+        let r = frame::finish(t, w, a);
+        return opened(t, r);
+    }
+    replies::no_domain(1)
+}
+
+// A Channel capability to a domain in another's list, or in its own; the value is its local slot.
+#[no_mangle]
+pub extern "C" fn mityvurno_open_channel(
+    t: &mut [u64],
+    w: &mut [u64],
+    domain: u64,
+    generation: u64,
+    to: u64,
+    to_generation: u64,
+) -> Reply
+    ensures { λ r. ⌜ Returns replyOf (now (t .entry)) (now (w .entry)) (Call.Channel (handle domain generation) (handle to «to_generation»)) r (now (t .exit)) (now (w .exit)) ⌝ }
+{
+    if frame::begin(t, w) {
+        let h = Handle {
+            slot: domain,
+            generation,
+        };
+        let target = Handle {
+            slot: to,
+            generation: to_generation,
+        };
+        let a = calls::open_channel(t, h, target);
+        return frame::finish(t, w, a);
+    }
+    replies::refused(Refusal::Memory)
+}
+
+#[no_mangle]
+pub extern "C" fn mityvurno_set_core_map(
+    t: &mut [u64],
+    w: &mut [u64],
+    domain: u64,
+    generation: u64,
+    cores: u64,
+) -> Reply
+    ensures { λ r. ⌜ Returns replyOf (now (t .entry)) (now (w .entry)) (Call.SetCores (handle domain generation) cores) r (now (t .exit)) (now (w .exit)) ⌝ }
+{
+    if frame::begin(t, w) {
+        let h = Handle {
+            slot: domain,
+            generation,
+        };
+        let a = calls::set_cores(t, h, cores);
+        return frame::finish(t, w, a);
+    }
+    replies::refused(Refusal::Memory)
+}

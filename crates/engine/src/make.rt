@@ -1,0 +1,41 @@
+// Making empty tables: the sizes are tested first, then the lengths alone.
+ghost use Rattle.model.specs.Perform.{Call};
+ghost use Rattle.engine.specs.Replies.{sizes, replyOf, Returns};
+use crate::replies;
+use crate::replies::Reply;
+use answers::Refusal;
+use tables::Sizes;
+
+#[no_mangle]
+pub extern "C" fn mityvurno_make_tables(
+    t: &mut [u64],
+    w: &mut [u64],
+    domains: u64,
+    slots: u64,
+    regions: u64,
+    records: u64,
+    updates: u64,
+) -> Reply
+    ensures { λ r. ⌜ Returns replyOf (now (t .entry)) (now (w .entry)) (Call.Make (sizes domains slots regions records updates)) r (now (t .exit)) (now (w .exit)) ⌝ }
+{
+    words::clear(w);
+    let z = Sizes {
+        domains: domains as usize,
+        slots: slots as usize,
+        regions: regions as usize,
+        records: records as usize,
+        updates: updates as usize,
+    };
+    if !tables::limits_hold(z) {
+        return replies::refused(Refusal::Sizes);
+    }
+    let n = tables::total_of(z);
+    if words::both(t.len() == n, w.len() == n) {
+        making::make_empty(t, z);
+        return Reply {
+            refusal: 0,
+            value: 0,
+        };
+    }
+    replies::refused(Refusal::Memory)
+}
