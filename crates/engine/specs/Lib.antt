@@ -5,3 +5,4 @@ pub mod Others
 pub mod Made
 pub mod Lookup
 pub mod Readings
+pub mod Permissions

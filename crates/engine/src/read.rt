@@ -2,14 +2,23 @@
 ghost use mathlib.Core.Path.{_≡_};
 ghost use Rattle.model.specs.Memory.{zeroed};
 ghost use Rattle.model.specs.Perform.{Call};
-ghost use Rattle.engine.specs.Replies.{handle, replyOf, Returns, ListsHolders};
+ghost use Rattle.engine.specs.Replies.{handle, replyOf, Returns, ListsPermissions, ListsHolders};
 ghost use Rattle.engine.specs.Lookup.{domainRead};
+ghost use Rattle.engine.specs.Permissions.{Plans};
 use crate::frame;
 use crate::replies;
 use crate::replies::Reply;
 use answers::Answer;
 use answers::Refusal;
+use readings::Permission;
 use tables::Handle;
+
+// How many records fill a run, the link of the first, and the reply.
+struct Listing {
+    turns: usize,
+    at: u64,
+    reply: Reply,
+}
 
 // 1, 3: the slot of a live domain in tables that may be read. The work area is then all zero.
 fn domain_read(t: &[u64], w: &mut [u64], domain: u64, generation: u64) -> Answer
@@ -64,6 +73,57 @@ pub extern "C" fn mityvurno_core_map(
         }
         Answer::Refused(r) => replies::refused(r),
     }
+}
+
+// What filling a run of `room` places with the domain's permission list goes by; a refused call has no turn.
+fn listing_of(t: &[u64], w: &mut [u64], domain: u64, generation: u64, room: usize) -> Listing
+    ensures { λ r. ⌜ Plans (now (t .entry)) (now (w .entry)) (handle domain generation) room r (now (w .exit)) ⌝ }
+{
+    match domain_read(t, w, domain, generation) {
+        Answer::Done(d) => {
+            let p = readings::plan_of(t, d as usize, room);
+            let reply = Reply {
+                refusal: 0,
+                value: p.answer,
+            };
+            Listing {
+                turns: p.turns,
+                at: p.at,
+                reply,
+            }
+        }
+        Answer::Refused(r) => {
+            let reply = replies::refused(r);
+            Listing {
+                turns: 0,
+                at: 0,
+                reply,
+            }
+        }
+    }
+}
+
+// The domain's permission list; the value is the number of its records.
+#[no_mangle]
+pub extern "C" fn mityvurno_permissions(
+    t: &[u64],
+    w: &mut [u64],
+    domain: u64,
+    generation: u64,
+    run: &mut [Permission],
+) -> Reply
+    ensures { λ r. ⌜ ListsPermissions (now (t .entry)) (now (w .entry)) (handle domain generation) (now (run .entry)) r (now (w .exit)) (now (run .exit)) ⌝ }
+{
+    let p = listing_of(t, w, domain, generation, run.len());
+    let mut at = p.at;
+    let mut k = 0;
+    while k < p.turns {
+        let f = readings::found_at(t, at);
+        run[k] = f.p;
+        at = f.next;
+        k = k + 1;
+    }
+    p.reply
 }
 
 // The slots of the domains with reach above 0 at the address; the value is their number.
