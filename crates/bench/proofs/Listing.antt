@@ -14,7 +14,7 @@ use Rattle.region.specs.Links.{slotTo, firstLink}
 use Rattle.readings.specs.declared.Permission.{Permission}
 use Rattle.readings.specs.declared.Plan.{Plan}
 use Rattle.readings.specs.Readings.{recordsFrom, recordsOf, permissionOf, permissionList, foundAt, planOf, fillRun}
-use Rattle.readings.proofs.Listing.{plan-turns as at-most}
+use Rattle.readings.specs.Listing.{plan-turns as at-most}
 use Rattle.readings.proofs.Runs.{fillFrom, fill-none, fill-put}
 use Rattle.bench.specs.Trackers.{wordsOf}
 

@@ -19,8 +19,8 @@ use Rattle.arena.specs.declared.Given.the-variants.{At as AtHandle, Full as Non
 use Rattle.arena.specs.declared.Freed.{Freed}
 use Rattle.arena.specs.declared.Freed.the-variants.{Done, Spent, NotHeld}
 use Rattle.making.specs.Empty.{empty}
-use Rattle.domain.specs.declared.Inserted.{Inserted}
-use Rattle.domain.specs.declared.Inserted.the-variants.{At, Full}
+use Rattle.slots.specs.declared.Inserted.{Inserted}
+use Rattle.slots.specs.declared.Inserted.the-variants.{At, Full}
 
 -- the answer where there is none
 abbrev pub nothing : ℕ

@@ -9,9 +9,9 @@ ghost use Rattle.tables.specs.View.{view};
 ghost use Rattle.arena.specs.Arena.{given, allocated, answerTo};
 ghost use Rattle.pools.specs.declared.Pool.{Pool};
 ghost use Rattle.pools.specs.Wiping.{slotFreed};
-ghost use Rattle.domain.specs.Lists.{giveSlot};
-ghost use Rattle.domain.specs.Record.{listAt};
-ghost use Rattle.domain.specs.Capas.{withCapa, withoutCapa};
+ghost use Rattle.slots.specs.Lists.{giveSlot};
+ghost use Rattle.slots.specs.Record.{listAt};
+ghost use Rattle.slots.specs.Capas.{withCapa, withoutCapa};
 ghost use Rattle.update.specs.Ring.{cleanupOf, pushOf, popOf, markOf};
 ghost use Rattle.update.specs.Stored.{ringOf, withRingOf};
 ghost use Rattle.bench.specs.Steps.{nothing, flagOf, insertedOf, givenOf, freedOf, capaOf, sizesOf, reply, left, makes, made};
@@ -20,7 +20,7 @@ pub mod trackers;
 
 use arena::Freed;
 use arena::Given;
-use domain::Inserted;
+use slots::Inserted;
 use tables::Handle;
 use tables::Sizes;
 use tables::Slot;
@@ -78,7 +78,7 @@ pub extern "C" fn bench_insert(
 {
     if tables::is_sized(t) {
         let handle = Handle { slot, generation };
-        return inserted(domain::insert_capa(t, d, Slot { kind, handle }));
+        return inserted(slots::insert_capa(t, d, Slot { kind, handle }));
     }
     NOTHING
 }
@@ -88,7 +88,7 @@ pub extern "C" fn bench_remove(t: &mut [u64], d: usize, i: usize) -> u64
     ensures { λ r. ⌜ (r ≡ reply (now (t .entry)) 1) × (now (t .exit) ≡ left (now (t .entry)) (withoutCapa (view (now (t .entry))) d i)) ⌝ }
 {
     if tables::is_sized(t) {
-        domain::remove_capa(t, d, i);
+        slots::remove_capa(t, d, i);
         return 1;
     }
     NOTHING

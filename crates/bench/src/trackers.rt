@@ -71,7 +71,7 @@ fn put_permission(run: &mut [u64], i: usize, p: Permission)
     words::put(run, i + 2, p.rights);
 }
 
-// As `readings::permissions` does it. No table has more than 1,024 records.
+// As the exported `mityvurno_permissions` does it. No table has more than 1,024 records.
 fn list(t: &[u64], d: usize, run: &mut [u64]) -> u64
     requires { ⌜ Sized (now t) ⌝ }
     ensures { λ r. ⌜ (r ≡ length (permissionList (view (now (t .entry))) d)) × (now (run .exit) ≡ fillRun (wordsOf (permissionList (view (now (t .entry))) d)) (now (run .entry))) ⌝ }

@@ -12,7 +12,7 @@ use Rattle.answers.specs.declared.Refusal.the-variants.{Memory, NoSlot, Beyond,
 use Rattle.answers.specs.Answers.{Step, done, refused, andThen}
 use Rattle.region.specs.declared.AccessRights.{AccessRights}
 use Rattle.region.specs.Links.{linkTo}
-use Rattle.domain.specs.Capas.{capaAt, withoutCapa, withEmpty}
+use Rattle.slots.specs.Capas.{capaAt, withoutCapa, withEmpty}
 use Rattle.domain.specs.Activate.{reserve, insert, activate, deactivate}
 use Rattle.domain.specs.Opened.{newDomain}
 use Rattle.segment.specs.Children.{insertChild, checkChild}

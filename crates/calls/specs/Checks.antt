@@ -11,7 +11,7 @@ use Rattle.arena.specs.Arena.{liveB, capacityOf}
 use Rattle.answers.specs.declared.Refusal.the-variants.{NoDomain, NoSlot, WrongKind, Stale, BadRange, NoRegion}
 use Rattle.answers.specs.Answers.{Step, done, refused, andThen}
 use Rattle.region.specs.declared.AccessRights.{AccessRights}
-use Rattle.domain.specs.Capas.{capaAt}
+use Rattle.slots.specs.Capas.{capaAt}
 use Rattle.domain.specs.Activate.{reserve}
 
 -- 3; the answer is the domain's slot

@@ -10,7 +10,7 @@ use Rattle.answers.specs.declared.Refusal.the-variants.{Beyond, Root}
 use Rattle.answers.specs.Answers.{Step, done, refused, andThen}
 use Rattle.region.specs.declared.AccessRights.{AccessRights}
 use Rattle.region.specs.Links.{linkTo}
-use Rattle.domain.specs.Capas.{capaAt, withoutCapa}
+use Rattle.slots.specs.Capas.{capaAt, withoutCapa}
 use Rattle.domain.specs.Activate.{reserve, insert, activate}
 use Rattle.domain.specs.Opened.{newDomain}
 use Rattle.segment.specs.Children.{checkChild}

@@ -12,7 +12,7 @@ use Rattle.tables.specs.View.{view, Sized}
 use Rattle.arena.specs.Arena.{liveB}
 use Rattle.answers.specs.declared.Answer.{Answer}
 use Rattle.answers.specs.Answers.{Step}
-use Rattle.domain.specs.Capas.{capaAt}
+use Rattle.slots.specs.Capas.{capaAt}
 use Rattle.domain.specs.Then.{Ran, read}
 use Rattle.calls.specs.Checks.{liveDomain, liveRegion, asRegion, asTarget, regionHeld, targetHeld}
 

@@ -40,10 +40,10 @@ fn pass(t: &mut [u64], d: usize, l: usize, to: usize) -> Answer
     ensures { λ r. ⌜ r ≡ passed d l to (view (now (t .entry))) .answer ⌝ }
     ensures { λ _. ⌜ Left (now (t .exit)) (passed d l to (view (now (t .entry))) .tables) ⌝ }
 {
-    let x = domain::capa_at(t, d, l);
+    let x = slots::capa_at(t, d, l);
     match send_capa(t, x, to) {
         Answer::Done(v) => {
-            domain::remove_capa(t, d, l);
+            slots::remove_capa(t, d, l);
             domain::insert(t, to, x)
         }
         Answer::Refused(r) => Answer::Refused(r),
@@ -127,10 +127,10 @@ pub fn revoke(t: &mut [u64], h: Handle, l: usize) -> Answer
 {
     match checks::live_domain(t, h) {
         Answer::Done(d) => {
-            let x = domain::capa_at(t, d as usize, l);
+            let x = slots::capa_at(t, d as usize, l);
             match revoke_capa(t, x) {
                 Answer::Done(v) => {
-                    domain::empty_capa(t, d as usize, l);
+                    slots::empty_capa(t, d as usize, l);
                     Answer::Done(0)
                 }
                 Answer::Refused(r) => Answer::Refused(r),

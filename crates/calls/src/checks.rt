@@ -64,7 +64,7 @@ pub fn region_held(t: &[u64], d: usize, l: usize) -> Answer
     requires { ⌜ Sized (now t) ⌝ }
     ensures { λ r. ⌜ r ≡ regionHeld d l (view (now (t .entry))) .answer ⌝ }
 {
-    let x = domain::capa_at(t, d, l);
+    let x = slots::capa_at(t, d, l);
     if x.kind == Slot::FREE {
         return Answer::Refused(Refusal::NoSlot);
     }
@@ -76,7 +76,7 @@ pub fn target_held(t: &[u64], d: usize, l: usize) -> Answer
     requires { ⌜ Sized (now t) ⌝ }
     ensures { λ r. ⌜ r ≡ targetHeld d l (view (now (t .entry))) .answer ⌝ }
 {
-    let x = domain::capa_at(t, d, l);
+    let x = slots::capa_at(t, d, l);
     if x.kind == Slot::FREE {
         return Answer::Refused(Refusal::NoSlot);
     }

@@ -15,11 +15,11 @@ use Rattle.answers.specs.declared.Answer.the-variants.{Done, Refused}
 use Rattle.answers.specs.declared.Refusal.{Refusal}
 use Rattle.answers.specs.declared.Refusal.the-variants.{NoLocal, RingFull}
 use Rattle.answers.specs.Answers.{Step, done, andThen}
-use Rattle.domain.specs.declared.Inserted.{Inserted}
-use Rattle.domain.specs.declared.Inserted.the-variants.{At, Full}
-use Rattle.domain.specs.Lists.{giveSlot}
-use Rattle.domain.specs.Record.{listAt}
-use Rattle.domain.specs.Capas.{roomB, withCapacity, withCapa}
+use Rattle.slots.specs.declared.Inserted.{Inserted}
+use Rattle.slots.specs.declared.Inserted.the-variants.{At, Full}
+use Rattle.slots.specs.Lists.{giveSlot}
+use Rattle.slots.specs.Record.{listAt}
+use Rattle.slots.specs.Capas.{roomB, withCapacity, withCapa}
 
 -- done where the test holds
 abbrev pub orRefused : Refusal → Bool → Answer

@@ -11,7 +11,7 @@ use Rattle.words.specs.Cases.{pick}
 use Rattle.tables.specs.declared.Slot.{Slot}
 use Rattle.tables.specs.Tables.{noSlot}
 use Rattle.tables.specs.View.{sizesOf, view, ofParts}
-use Rattle.domain.specs.Lists.{freeSlot}
+use Rattle.slots.specs.Lists.{freeSlot}
 use Rattle.domain.specs.Opened.{freshFrom}
 
 -- place i

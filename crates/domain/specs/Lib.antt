@@ -1,14 +1,3 @@
-pub mod Lists
-pub mod Record
-pub mod Rows
-pub mod Capas
-pub mod Steps
-pub mod Stacks
-pub mod Counting
-pub mod StackLaws
-pub mod SweepLaws
-pub mod Stored
-pub mod Calls
 pub mod Activate
 pub mod Opened
 pub mod Then

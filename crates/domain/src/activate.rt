@@ -3,11 +3,10 @@
 ghost use mathlib.Core.Path.{_≡_};
 ghost use Rattle.tables.specs.View.{view, Sized, Left};
 ghost use Rattle.domain.specs.Activate.{orRefused, reserve, insert, notify, cleanup, notifyIf, activate, deactivate};
-use crate::Inserted;
-use crate::capas;
 use answers::Answer;
 use answers::Refusal;
 use region::AccessRights;
+use slots::Inserted;
 use tables::Slot;
 
 fn or_refused(ok: bool, r: Refusal) -> Answer
@@ -26,7 +25,7 @@ pub fn reserve(t: &mut [u64], d: usize) -> Answer
     ensures { λ r. ⌜ r ≡ reserve d (view (now (t .entry))) .answer ⌝ }
     ensures { λ _. ⌜ Left (now (t .exit)) (reserve d (view (now (t .entry))) .tables) ⌝ }
 {
-    let room = capas::has_capacity_for(t, d);
+    let room = slots::has_capacity_for(t, d);
     or_refused(room, Refusal::NoLocal)
 }
 
@@ -36,7 +35,7 @@ pub fn insert(t: &mut [u64], d: usize, capa: Slot) -> Answer
     ensures { λ r. ⌜ r ≡ insert d capa (view (now (t .entry))) .answer ⌝ }
     ensures { λ _. ⌜ Left (now (t .exit)) (insert d capa (view (now (t .entry))) .tables) ⌝ }
 {
-    match capas::insert_capa(t, d, capa) {
+    match slots::insert_capa(t, d, capa) {
         Inserted::At(i) => Answer::Done(i as u64),
         Inserted::Full => Answer::Refused(Refusal::NoLocal),
     }

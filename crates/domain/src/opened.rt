@@ -3,12 +3,10 @@ ghost use mathlib.Core.Path.{_≡_};
 ghost use Rattle.tables.specs.View.{view, Sized, Left};
 ghost use Rattle.domain.specs.Opened.{freshList, newDomain};
 ghost use Rattle.domain.specs.Fresh.{freshSlot};
-use crate::SlotList;
-use crate::list;
-use crate::record;
 use answers::Answer;
 use answers::Refusal;
 use arena::Given;
+use slots::SlotList;
 use tables::DomainHead;
 use tables::Slot;
 
@@ -19,9 +17,9 @@ fn fresh_slot(n: usize, i: usize) -> Slot
     if i < n {
         let k = i + 1;
         if k < n {
-            return list::free_slot(k as u64);
+            return slots::free_slot(k as u64);
         }
-        return list::free_slot(0);
+        return slots::free_slot(0);
     }
     tables::no_slot()
 }
@@ -62,7 +60,7 @@ pub fn new_domain(t: &mut [u64], manager: u64, cores: u64) -> Answer
                 count: 0,
             };
             tables::store_head(t, i, head);
-            record::store_list(t, i, fresh_list(n));
+            slots::store_list(t, i, fresh_list(n));
             Answer::Done(h.slot)
         }
         Given::Full => Answer::Refused(Refusal::NoDomainRoom),

@@ -21,7 +21,7 @@ use Rattle.readings.specs.declared.Permission.{Permission}
 use Rattle.readings.specs.declared.Plan.{Plan}
 use Rattle.readings.specs.Readings as readings
 use Rattle.readings.specs.Readings.{permissionList, planOf}
-use Rattle.readings.proofs.Listing.{runAt, plan-run, plan-turns}
+use Rattle.readings.specs.Listing.{runAt, plan-run, plan-turns}
 use Rattle.refine.specs.Agrees.{bind-assoc}
 use Rattle.refine.specs.Calls.ReadingCalls.{permissionIn, permissions-are, fill-same, fill-map}
 use Rattle.engine.specs.declared.replies.Reply as replies

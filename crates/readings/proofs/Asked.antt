@@ -1,4 +1,4 @@
--- What `plan_of` and `found_at` ask of a caller that walks by hand, and what they tell it.
+-- What `found_at` asks of a caller that walks by hand, and what it tells it.
 use mathlib.Core.Path.{_≡_, refl}
 use mathlib.Core.List.{[], _∷_, List}
 use Prim.Native.Nat.{ℕ, _<_, _^_}
@@ -16,7 +16,7 @@ use contract.Monad.{Fun, fact}
 use types.Kit.{Given, ‵, raw, _⊛_, _$_, _∵_, !, qed, move, use1, use2, split, join, fjoin, frame, done}
 use denote.Laws.{Is}
 use denote.Plain.{uint-makes}
-use denote.Builtin.{u64, usize}
+use denote.Builtin.{u64}
 use denote.Ref.{RefT}
 use denote.Slice.{sliceVal, ShrSlice, shr-slice-copy}
 use denote.Steps.{owned, nothing}
@@ -26,31 +26,20 @@ use denote.Triple.Clauses.{ensured, lasts}
 use denote.Triple.Walked.{says}
 use Rattle.tables.specs.View.{view, Sized}
 use Rattle.readings.specs.declared.Found.{Found}
-use Rattle.readings.specs.declared.Plan.{Plan}
-use Rattle.readings.specs.Readings.{foundAt, planOf}
-use Rattle.readings.proofs.plan_of as plan-of
+use Rattle.readings.specs.Readings.{foundAt}
 use Rattle.readings.proofs.found_at as found-at
 
 module _ {M : Type 1} (𝓤 : URA M) (H : Heap 𝓤) (A : Atoms 𝓤) (mem : Memory → SProp 𝓤) (run : Routine → Fun 𝓤) where
-  -- the contracts that the proof cites
-  abbrev pub PlanOf : Contract 𝓤
-  PlanOf = tripleOf 𝓤 H A plan-of.signature (plan-of.spec 𝓤 H A mem run)
-
+  -- the contract that the proof cites
   abbrev pub FoundAt : Contract 𝓤
   FoundAt = tripleOf 𝓤 H A found-at.signature (found-at.spec 𝓤 H A mem run)
 
-  -- of each callee's `ensured`, the clause alone
-  pub plan-said : (κ : Lft) (t : RefT (List ℕ)) (dom room : ℕ) (r : Plan) → ent 𝓤 (ensured 𝓤 H A plan-of.ended (plan-of.clauses 𝓤 H A mem run) (κ, tt) (t, (dom, (room, tt))) tt r) (fact 𝓤 (r ≡ planOf (view (t .now)) dom room))
-  plan-said κ t dom room r = exE 𝓤 _ (λ ws. snd∗ 𝓤 (sem 𝓤 H A (lasts plan-of.ended (κ, tt) (t, (dom, (room, tt))) ws)) (fact 𝓤 (r ≡ planOf (view (t .now)) dom room)))
-
+  -- of the callee's `ensured`, the clause alone
   pub found-said : (κ : Lft) (t : RefT (List ℕ)) (at : ℕ) (r : Found) → ent 𝓤 (ensured 𝓤 H A found-at.ended (found-at.clauses 𝓤 H A mem run) (κ, tt) (t, (at, tt)) tt r) (fact 𝓤 (r ≡ foundAt (view (t .now)) at))
   found-said κ t at r = exE 𝓤 _ (λ ws. snd∗ 𝓤 (sem 𝓤 H A (lasts found-at.ended (κ, tt) (t, (at, tt)) ws)) (fact 𝓤 (r ≡ foundAt (view (t .now)) at)))
 
--- what each callee's triple binds outside
+-- what the callee's triple binds outside
 module _ {M : Type 1} (𝓤 : URA M) (H : Heap 𝓤) (A : Atoms 𝓤) (mem : Memory → SProp 𝓤) (run : Routine → Fun 𝓤) (κ : Lft) (q : Share) (t : RefT (List ℕ)) where
-  abbrev pub to-plan : (dom room : ℕ) → PlanOf 𝓤 H A mem run .Ghost
-  to-plan dom room = (((κ, tt), (q, tt), tt, (t, (dom, (room, tt))), (sliceVal (t .ptr) (length (t .now)) ∷ [], (vint w64 dom ∷ [], (vint w64 (room) ∷ [], tt)))), tt)
-
   abbrev pub to-found : ℕ → FoundAt 𝓤 H A mem run .Ghost
   to-found i = (((κ, tt), (q, tt), tt, (t, (i, tt)), (sliceVal (t .ptr) (length (t .now)) ∷ [], (vint w64 i ∷ [], tt))), tt)
 
@@ -61,16 +50,6 @@ module _ {M : Type 1} (𝓤 : URA M) (H : Heap 𝓤) (A : Atoms 𝓤) (W : Given
 
   abbrev Own : Fml
   Own = ShrSlice (named 0) κ u64 .own t (t-mach ∷ [])
-
-  pub goes-plan : (dom room : ℕ) → dom < 2 ^ 64 → room < 2 ^ 64 → ent 𝓤 (sep 𝓤 (A .lft κ q) (sem 𝓤 H A Own)) (sep 𝓤 (PlanOf 𝓤 H A mem run .pre (to-plan 𝓤 H A mem run κ q t dom room)) (sem 𝓤 H A Own))
-  goes-plan dom room dom-fits len-fits =
-      qed W (‵ (flft κ q) ∷ ‵ Own ∷ []) ∵ move ! (1 ∷ []) $ use1 W (‵ Own ⊛ ‵ Own) (shr-slice-copy 𝓤 H A W (named 0) κ u64 .twice t (t-mach ∷ [])) $ split ! $ move ! (2 ∷ 0 ∷ []) $
-      use2 W (raw (PlanOf 𝓤 H A mem run .pre (to-plan 𝓤 H A mem run κ q t dom room))) asked $ frame ! $ done !
-    where
-      asked : ent 𝓤 (sep 𝓤 (A .lft κ q) (sem 𝓤 H A Own)) (PlanOf 𝓤 H A mem run .pre (to-plan 𝓤 H A mem run κ q t dom room))
-      asked =
-          qed W (‵ (flft κ q) ∷ ‵ Own ∷ []) ∵ says ! sized $ nothing ! $ owned ! usize (Is usize) (uint-makes 𝓤 H A W w64) (room) _ (refl, len-fits) $ fjoin ! $ owned ! usize (Is usize) (uint-makes 𝓤 H A W w64) dom _ (refl, dom-fits) $ fjoin ! $
-          move ! (2 ∷ 0 ∷ []) $ fjoin ! $ nothing ! $ move ! (2 ∷ 0 ∷ []) $ join ! $ join ! $ done !
 
   pub goes-found : (i : ℕ) → i < 2 ^ 64 → ent 𝓤 (sep 𝓤 (A .lft κ q) (sem 𝓤 H A Own)) (sep 𝓤 (FoundAt 𝓤 H A mem run .pre (to-found 𝓤 H A mem run κ q t i)) (sem 𝓤 H A Own))
   goes-found i fits =

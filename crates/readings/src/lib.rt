@@ -148,23 +148,6 @@ pub fn found_at(t: &[u64], k: u64) -> Found
     Found { p, next: q.next }
 }
 
-// Domain d's permission list into a lent run; the answer is its whole length.
-pub fn permissions(t: &[u64], d: usize, run: &mut [Permission]) -> u64
-    requires { ⌜ Sized (now t) ⌝ }
-    ensures { λ r. ⌜ (r ≡ length (permissionList (view (now (t .entry))) d)) × (now (run .exit) ≡ fillRun (permissionList (view (now (t .entry))) d) (now (run .entry))) ⌝ }
-{
-    let p = plan_of(t, d, run.len());
-    let mut at = p.at;
-    let mut k = 0;
-    while k < p.turns {
-        let f = found_at(t, at);
-        run[k] = f.p;
-        at = f.next;
-        k = k + 1;
-    }
-    p.answer
-}
-
 // ---- The holders of an address
 
 // Whether domain d is in use and has reach above 0 at a.

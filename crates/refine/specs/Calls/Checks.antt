@@ -25,7 +25,7 @@ use Rattle.arena.specs.Arena.{liveB, capacityOf}
 use Rattle.answers.specs.declared.Refusal.the-variants.{NoSlot}
 use Rattle.answers.specs.Answers.{Step, done, refused}
 use Rattle.region.specs.declared.AccessRights.{AccessRights}
-use Rattle.domain.specs.Capas.{capaAt}
+use Rattle.slots.specs.Capas.{capaAt}
 use Rattle.domain.specs.Activate.{reserve}
 use Rattle.calls.specs.Checks.{liveDomain, liveRegion, asRegion, asTarget, regionHeld, targetHeld, roomForRegion}
 use Rattle.refine.specs.Tables.{handleFor, capaSlot, tablesOf}

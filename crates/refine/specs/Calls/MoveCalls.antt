@@ -36,7 +36,7 @@ use Rattle.tables.specs.Tables.{Tables, regionAt}
 use Rattle.arena.specs.Arena.{liveB}
 use Rattle.answers.specs.declared.Refusal.the-variants.{NoSlot, NotCarried}
 use Rattle.answers.specs.Answers.{Step, done, refused, andThen}
-use Rattle.domain.specs.Capas.{capaAt, withoutCapa, withEmpty}
+use Rattle.slots.specs.Capas.{capaAt, withoutCapa, withEmpty}
 use Rattle.domain.specs.Activate.{insert}
 use Rattle.segment.specs.Regions.{sendRegion, revoke}
 use Rattle.calls.specs.Checks.{liveDomain, liveRegion}

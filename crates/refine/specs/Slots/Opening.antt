@@ -28,8 +28,8 @@ use Rattle.arena.specs.declared.Given.the-variants.{At, Full}
 use Rattle.arena.specs.Arena.{given}
 use Rattle.answers.specs.declared.Answer.the-variants.{Refused}
 use Rattle.answers.specs.declared.Refusal.the-variants.{NoDomainRoom}
-use Rattle.domain.specs.declared.SlotList.{SlotList}
-use Rattle.domain.specs.Record.{putList, withList}
+use Rattle.slots.specs.declared.SlotList.{SlotList}
+use Rattle.slots.specs.Record.{putList, withList}
 use Rattle.domain.specs.Opened.{freshFrom, freshList, newHead, taken, newDomain}
 use Rattle.refine.specs.Rows.{map-up-length, getD-up}
 use Rattle.refine.specs.Links.{after-top, after-under}

@@ -23,10 +23,10 @@ use Rattle.laws.specs.Words.SameDomains.{Listed}
 use Rattle.tables.specs.declared.Slot.{Slot}
 use Rattle.tables.specs.Tables.{Tables, noSlot}
 use Rattle.answers.specs.declared.Refusal.the-variants.{NoLocal}
-use Rattle.domain.specs.declared.SlotList.{SlotList}
-use Rattle.domain.specs.Lists.{sweepSlot, sweepFrom, sweep}
-use Rattle.domain.specs.Record.{padded}
-use Rattle.domain.specs.Capas.{isInvalidB, roomB, swept, withCapacity}
+use Rattle.slots.specs.declared.SlotList.{SlotList}
+use Rattle.slots.specs.Lists.{sweepSlot, sweepFrom, sweep}
+use Rattle.slots.specs.Record.{padded}
+use Rattle.slots.specs.Capas.{isInvalidB, roomB, swept, withCapacity}
 use Rattle.domain.specs.Activate.{orRefused, reserve}
 use Rattle.refine.specs.Tables.{capaSlot, freeSlot, slotFor, slotsFor, tablesOf}
 use Rattle.refine.specs.Agrees.{Agrees, agrees-call}

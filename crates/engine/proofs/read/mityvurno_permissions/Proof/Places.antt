@@ -8,6 +8,7 @@ use prog.Wp.{Heap, Env}
 use types.Kit.{Item, ‵}
 use denote.Memory.{pointee}
 use denote.Slice.{sliceTy}
+use Rattle.readings.specs.declared.Permission.{Permission}
 use Rattle.readings.proofs.Permission as T
 use Rattle.readings.proofs.Found.Laws as F′
 use Rattle.engine.proofs.replies.Reply.Laws as R′
@@ -32,6 +33,10 @@ w-ref = tyRef erased mut word
 
 abbrev pub w-lent : Ty
 w-lent = sliceTy w-ref
+
+-- what a place past the end is taken for, by the rule that takes an element out of a row
+pub none : Permission
+none = record { start = 0; end = 0; rights = 0 }
 
 module _ {M : Type 1} (𝓤 : URA M) (H : Heap 𝓤) (l₀ l₁ l₂ l₃ l₄ l₅ l₆ l₇ l₈ l₉ l₁₀ l₁₁ l₁₂ l₁₃ l₁₄ l₁₅ : ℕ) where
   abbrev pub Locals : Env 𝓤 H

@@ -43,10 +43,9 @@ use Rattle.tables.specs.View.{view, Sized}
 use Rattle.readings.specs.declared.Permission.{Permission}
 use Rattle.readings.specs.declared.Found.{Found}
 use Rattle.readings.specs.Readings.{foundAt}
-use Rattle.readings.proofs.Listing.{linkAt, runAt, run-length}
+use Rattle.readings.specs.Listing.{linkAt, runAt, run-length}
 use Rattle.readings.proofs.Asked.{FoundAt, found-said, to-found, goes-found}
 use Rattle.readings.proofs.Counted.{counted}
-use Rattle.readings.proofs.Places.{none}
 use Rattle.readings.proofs.Permission as T
 use Rattle.readings.proofs.Permission.Laws as T′
 use Rattle.readings.proofs.Found as F
@@ -62,7 +61,7 @@ use Rattle.engine.proofs.read.Listing as P
 use Rattle.engine.proofs.read.Listing.Laws as P′
 use Rattle.engine.proofs.read.mityvurno_permissions as permissions
 use Rattle.engine.proofs.read.mityvurno_permissions.Code.Mir.{turn-1, t-5, t-8}
-use Rattle.engine.proofs.read.mityvurno_permissions.Proof.Places.{word, t-slice, w-slice, run-slice, w-ref, w-lent, Locals, Dies}
+use Rattle.engine.proofs.read.mityvurno_permissions.Proof.Places.{word, t-slice, w-slice, run-slice, w-ref, w-lent, none, Locals, Dies}
 
 abbrev pub stayed : Stays (permissions.ended .signature .params) (permissions.ended .kept)
 stayed = (stay-none-slice (0 ∷ []) tt (plain (λ _. u64)) yes, (gave-slice (1 ∷ []) tt (plain (λ _. u64)), (stay-none (λ _. u64) yes, (stay-none (λ _. u64) yes, (stay-slice (2 ∷ []) tt (plain (λ _. T.the-row)), tt)))))

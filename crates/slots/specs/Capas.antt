@@ -1,0 +1,55 @@
+-- The capabilities of domain d: what the calls on its list answer and leave.
+use mathlib.Core.Bool.{Bool, true, false, not}
+use mathlib.Core.List.{[], _∷_}
+use Prim.Native.Nat.{ℕ}
+use lib.Dec.{ltb}
+use lib.ListN.{getD}
+use Rattle.words.specs.Cases.{pick}
+use Rattle.tables.specs.declared.Slot.{Slot}
+use Rattle.tables.specs.Tables.{Tables}
+use Rattle.arena.specs.Arena.{liveB}
+use Rattle.slots.specs.declared.SlotList.{SlotList}
+use Rattle.slots.specs.declared.Inserted.{Inserted}
+use Rattle.slots.specs.declared.Inserted.the-variants.{At, Full}
+use Rattle.slots.specs.Lists.{freeSlot, putIn, emptySlot, giveSlot, takeSlot, sweep}
+use Rattle.slots.specs.Record.{domainOr, listAt, withList}
+
+-- by the kinds 0 to 5: None; free; Region and RegionRevoke; Management and Channel
+abbrev pub byKind : Bool → Bool → ℕ → Bool
+byKind region domain k = getD (true ∷ false ∷ region ∷ region ∷ domain ∷ domain ∷ []) k false
+
+-- None or a dead handle (the model's isInvalid)
+unfoldable pub isInvalidB : Tables → Slot → Bool
+isInvalidB s x = byKind (not (liveB (s .regionPool) (x .handle))) (not (liveB (s .domainPool) (x .handle))) (x .kind)
+
+-- **Sweep** (the model's freeInvalidCapas)
+abbrev pub swept : Tables → SlotList → SlotList
+swept s l = sweep (isInvalidB s) l
+
+-- the list of domain d has a free slot
+unfoldable pub roomB : Tables → ℕ → Bool
+roomB s d = ltb (listAt s d .count) (listAt s d .size)
+
+-- a full list is swept (the model's hasCapacity)
+unfoldable pub withCapacity : Tables → ℕ → Tables
+withCapacity s d = pick (roomB s d) s (withList s d (swept s (listAt s d)))
+
+abbrev insertedAt : Tables → ℕ → SlotList → Slot → Inserted → Tables
+insertedAt s d l x (At i) = withList s d (putIn l i x)
+insertedAt s d l x Full = s
+
+-- the capability is in the slot that is given (the model's insertCapa)
+unfoldable pub withCapa : Tables → ℕ → Slot → Tables
+withCapa s d x = insertedAt s d (giveSlot (listAt s d) .list) x (giveSlot (listAt s d) .at)
+
+-- slot i is freed (the model's removeCapa)
+unfoldable pub withoutCapa : Tables → ℕ → ℕ → Tables
+withoutCapa s d i = withList s d (takeSlot (listAt s d) i)
+
+-- slot i is None, and in use (the model's emptyCapa)
+unfoldable pub withEmpty : Tables → ℕ → ℕ → Tables
+withEmpty s d i = withList s d (emptySlot (listAt s d) i)
+
+-- what slot i holds (the model's capaAt)
+unfoldable pub capaAt : Tables → ℕ → ℕ → Slot
+capaAt s d i = getD (domainOr s d .slots) i (freeSlot 0)

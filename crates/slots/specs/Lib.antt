@@ -1,0 +1,11 @@
+pub mod Lists
+pub mod Record
+pub mod Rows
+pub mod Capas
+pub mod Steps
+pub mod Stacks
+pub mod Counting
+pub mod StackLaws
+pub mod SweepLaws
+pub mod Stored
+pub mod Calls

@@ -1,0 +1,68 @@
+-- A domain's slot list by value, with its free list (free_list.rs; document 01, "Arenas" and **Sweep**).
+use mathlib.Core.Bool.{Bool}
+use Prim.Native.Nat.{ℕ, zero, suc, _+_, _-_}
+use lib.Dec.{ltb, eqb}
+use lib.ListN.{length, getD, set, take, replicate}
+use Rattle.words.specs.Cases.{pick, both}
+use Rattle.tables.specs.declared.Slot.{Slot}
+use Rattle.tables.specs.Tables.{noSlot}
+use Rattle.slots.specs.declared.SlotList.{SlotList}
+use Rattle.slots.specs.declared.Given.{Given}
+use Rattle.slots.specs.declared.Inserted.the-variants.{At, Full}
+
+-- the list of what is no domain
+abbrev pub noList : SlotList
+noList = record { slots = replicate 128 noSlot; head = 0; count = 0; size = 0 }
+
+abbrev pub freeSlot : ℕ → Slot
+freeSlot next = record { kind = 1; handle = record { slot = next; generation = 0 } }
+
+abbrev pub isFreeB : Slot → Bool
+isFreeB x = eqb (x .kind) 1
+
+-- slot i; past the size a free one
+unfoldable pub slotIn : SlotList → ℕ → Slot
+slotIn l i = getD (take (l .size) (l .slots)) i (freeSlot 0)
+
+abbrev pub putIn : SlotList → ℕ → Slot → SlotList
+putIn l i x = record { slots = set (l .slots) i x; head = l .head; count = l .count; size = l .size }
+
+unfoldable pub emptySlot : SlotList → ℕ → SlotList
+emptySlot l i = pick (isFreeB (slotIn l i)) l (putIn l i noSlot)
+
+-- ---- `FreeList::allocate`; the model's insertLocal
+
+-- a slot is free
+unfoldable pub givesB : SlotList → Bool
+givesB l = both (both (ltb (l .head) (l .size)) (ltb (l .count) (l .size))) (isFreeB (slotIn l (l .head)))
+
+-- the head is in use, and the slot behind it is the head
+abbrev pub allocated : SlotList → SlotList
+allocated l =
+    record { slots = set (l .slots) (l .head) noSlot; head = slotIn l (l .head) .handle .slot; count = l .count + 1; size = l .size }
+
+unfoldable pub giveSlot : SlotList → Given
+giveSlot l = pick (givesB l) (record { at = At (l .head); list = allocated l }) (record { at = Full; list = l })
+
+-- ---- `FreeList::free`; the model's freeLocal
+
+-- slot i is the head, with the old head behind it
+abbrev pub freed : SlotList → ℕ → SlotList
+freed l i = record { slots = set (l .slots) i (freeSlot (l .head)); head = i; count = l .count - 1; size = l .size }
+
+unfoldable pub takeSlot : SlotList → ℕ → SlotList
+takeSlot l i = pick (isFreeB (slotIn l i)) l (freed l i)
+
+-- ---- **Sweep**; the model's freeInvalidCapas
+
+-- slot i is freed where the test holds of it
+unfoldable pub sweepSlot : (Slot → Bool) → SlotList → ℕ → SlotList
+sweepSlot bad l i = pick (both (ltb i (l .size)) (bad (getD (l .slots) i noSlot))) (freed l i) l
+
+-- n slots from i on, rising
+unfoldable pub sweepFrom : (Slot → Bool) → ℕ → ℕ → SlotList → SlotList
+sweepFrom bad zero i l = l
+sweepFrom bad (suc n) i l = sweepFrom bad n (suc i) (sweepSlot bad l i)
+
+unfoldable pub sweep : (Slot → Bool) → SlotList → SlotList
+sweep bad l = sweepFrom bad (length (l .slots)) 0 l

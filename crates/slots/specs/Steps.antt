@@ -1,0 +1,164 @@
+-- The steps of the functions: what the values that they read make of their tests and their answers.
+use mathlib.Core.Path.{_≡_, refl, sym, ap, _∙_}
+use mathlib.Core.Bool.{Bool, true, false}
+use mathlib.Core.List.{List, [], _∷_}
+use Prim.Native.Nat.{ℕ, zero, suc, _+_, _-_, _≤_, _<_}
+use native.Mathlib.Numerals.{add-one}
+use native.Mathlib.Omega.{arith}
+use borrow.Author.Tests.{lt-ltb, le-ltb, ltb-true}
+use lib.Dec.{ltb}
+use lib.ListN.{length, getD, set, take, List·getD-eq-default}
+use lib.Seq.{getD-take, set-out}
+use Rattle.words.specs.Cases.{both, both-true, cmp, lt, ge}
+use Rattle.words.specs.Rows.{length-rows}
+use Rattle.tables.specs.declared.Slot.{Slot}
+use Rattle.tables.specs.Tables.{noSlot, headAt, slotAt, withDomains}
+use Rattle.tables.specs.View.{sizesOf, view, ofParts, Sized, Left}
+use Rattle.slots.specs.declared.SlotList.{SlotList}
+use Rattle.slots.specs.declared.Given.{Given}
+use Rattle.slots.specs.declared.Inserted.the-variants.{At, Full}
+use Rattle.slots.specs.Lists.{noList, freeSlot, isFreeB, slotIn, putIn, givesB, giveSlot, freed, sweepSlot, sweepFrom}
+use Rattle.slots.specs.Record.{domainOr, listOf, putList, listAt, withList}
+use Rattle.slots.specs.Rows.{domain-slots, no-domain}
+use Rattle.slots.specs.Capas.{byKind, roomB, swept, withCapacity, withCapa, capaAt}
+
+-- inside a list the default does not matter
+pub getD-any : {A : Type 0} (l : List A) (i : ℕ) (d e : A) → i < length l → getD l i d ≡ getD l i e
+getD-any [] i d e h = absurd (omega arith)
+getD-any (x ∷ l) zero d e h = refl
+getD-any (x ∷ l) (suc i) d e h = getD-any l i d e (omega arith)
+
+-- ---- a list by value
+
+module _ (l : SlotList) (i : ℕ) where
+  pub slot-here : i < l .size → i < length (l .slots) → getD (l .slots) i noSlot ≡ slotIn l i
+  unfolding slotIn
+  slot-here h hl = getD-any (l .slots) i noSlot (freeSlot 0) hl ∙ sym (getD-take (l .size) (l .slots) i (freeSlot 0) h)
+
+  pub slot-past : length (take (l .size) (l .slots)) ≤ i → freeSlot 0 ≡ slotIn l i
+  unfolding slotIn
+  slot-past h = sym (List·getD-eq-default (take (l .size) (l .slots)) (freeSlot 0) h)
+
+-- what giving reads and tests
+module _ (l : SlotList) (x : Slot) (room free b : Bool) (ex : x ≡ slotIn l (l .head)) (er : room ≡ both (ltb (l .head) (l .size)) (ltb (l .count) (l .size))) (ef : free ≡ isFreeB x) (eb : b ≡ both room free) where
+  gives-is : b ≡ givesB l
+  unfolding givesB
+  gives-is = rw (eb, ef, er, ex)
+
+  pub give-some : (m : SlotList) (z : Slot) → b ≡ true → z ≡ noSlot → m ≡ putIn l (l .head) z
+      → record { at = At (l .head); list = record { slots = m .slots; head = x .handle .slot; count = l .count + 1; size = m .size } } ≡ giveSlot l
+  unfolding giveSlot
+  give-some m z h ez em = rw (← gives-is, h, em, ez, ex)
+
+  pub give-room : b ≡ true → l .count < l .size
+  give-room h =
+      let f = both-true room free (sym eb ∙ h) in
+      let g = both-true (ltb (l .head) (l .size)) (ltb (l .count) (l .size)) (sym er ∙ f .0) in
+      ltb-true (l .count) (l .size) (g .1)
+
+  pub give-none : b ≡ false → record { at = Full; list = l } ≡ giveSlot l
+  unfolding giveSlot
+  give-none h = rw (← gives-is, h)
+
+-- ---- a turn of the sweep
+
+module _ (bad : Slot → Bool) (l : SlotList) (i : ℕ) where
+  pub sweep-turn : (m : SlotList) → i < 128 → m ≡ sweepSlot bad l i → sweepFrom bad (128 - (i + 1)) (i + 1) m ≡ sweepFrom bad (128 - i) i l
+  unfolding sweepFrom
+  sweep-turn m h e = let n : 128 - i ≡ suc (128 - suc i) = omega arith in rw (n, add-one, e)
+
+  pub sweep-end : 128 ≤ i → sweepFrom bad (128 - i) i l ≡ l
+  unfolding sweepFrom
+  sweep-end h = let n : 128 - i ≡ 0 = omega arith in rw n
+
+  module _ (b c : Bool) (x : Slot) (ex : x ≡ getD (l .slots) i noSlot) (ec : c ≡ bad x) (eb : b ≡ both (ltb i (l .size)) c) where
+    pub sweep-freed : b ≡ true → freed l i ≡ sweepSlot bad l i
+    unfolding sweepSlot
+    sweep-freed h = rw (← ex, ← ec, ← eb, h)
+
+    pub sweep-left : b ≡ false → l ≡ sweepSlot bad l i
+    unfolding sweepSlot
+    sweep-left h = rw (← ex, ← ec, ← eb, h)
+
+-- ---- the kinds
+
+module _ (region domain : Bool) (k : ℕ) where
+  pub by-region : 2 ≤ k → k ≤ 3 → region ≡ byKind region domain k
+  by-region lo hi = elim (cmp k 3) [ lt h ↦ let e : k ≡ 2 = omega arith in rw e | ge h ↦ let e : k ≡ 3 = omega arith in rw e ]
+
+  pub by-domain : 4 ≤ k → k ≤ 5 → domain ≡ byKind region domain k
+  by-domain lo hi = elim (cmp k 5) [ lt h ↦ let e : k ≡ 4 = omega arith in rw e | ge h ↦ let e : k ≡ 5 = omega arith in rw e ]
+
+  pub by-other : 5 < k → false ≡ byKind region domain k
+  by-other h = sym (List·getD-eq-default (true ∷ false ∷ region ∷ region ∷ domain ∷ domain ∷ []) false {n = k} (omega arith))
+
+-- ---- a domain of the tables; its sizes are read from the words
+
+module _ (t : List ℕ) (d n : ℕ) (en : n ≡ getD t 0 0) where
+  pub domain-there : d < n → d < sizesOf t .domains
+  unfolding sizesOf
+  domain-there h = omega arith
+
+  pub no-list : n ≤ d → noList ≡ listAt (view t) d
+  unfolding listAt listOf sizesOf
+  no-list h = rw (no-domain t d (omega arith))
+
+  pub not-stored : (l : SlotList) → Sized t → n ≤ d → Left t (withList (view t) d l)
+  unfolding withList withDomains view ofParts sizesOf
+  not-stored l s h =
+      let e : set (view t .domains) d (putList (domainOr (view t) d) l) ≡ view t .domains = set-out (view t .domains) d _ (rw length-rows (omega arith)) in
+      record { seen = sym (ap (withDomains (view t)) e); sized = s }
+
+  module _ (m : ℕ) (em : m ≡ getD t 1 0) where
+    pub room-is : (c : ℕ) → c ≡ headAt (view t) d .count → both (ltb d n) (ltb c m) ≡ roomB (view t) d
+    unfolding roomB listAt listOf headAt sizesOf
+    room-is c ec =
+        elim (cmp d n) [
+          | lt h ↦ rw (lt-ltb d n h, ec, em) (ap (ltb (domainOr (view t) d .head .count)) (sym (domain-slots t d (omega arith))))
+          | ge h ↦ rw (le-ltb d n h, no-domain t d (omega arith))
+        ]
+
+    module _ (i : ℕ) (b : Bool) (eb : b ≡ both (ltb d n) (ltb i m)) where
+      pub capa-there : b ≡ true → slotAt (view t) d i ≡ capaAt (view t) d i
+      unfolding slotAt capaAt sizesOf
+      capa-there h =
+          let f = both-true (ltb d n) (ltb i m) (sym eb ∙ h) in
+          let hd = ltb-true d n (f .0) in
+          let hi = ltb-true i m (f .1) in
+          getD-any (domainOr (view t) d .slots) i noSlot (freeSlot 0) (omega (arith, domain-slots t d (omega arith)))
+
+      pub capa-not : b ≡ false → freeSlot 0 ≡ capaAt (view t) d i
+      unfolding capaAt sizesOf
+      capa-not h =
+          elim (cmp d n) [
+            | ge hd ↦ rw (no-domain t d (omega arith))
+            | lt hd ↦
+                elim (cmp i m) [
+                  | lt hi ↦ let z : _≡_ {A = ℕ} 0 1 = cc (lt-ltb d n hd, lt-ltb i m hi) in absurd (omega arith)
+                  | ge hi ↦ sym (List·getD-eq-default (domainOr (view t) d .slots) (freeSlot 0) {n = i} (omega (arith, domain-slots t d (omega arith))))
+                ]
+          ]
+
+-- ---- a full list is swept
+
+module _ (t : List ℕ) (d : ℕ) (b : Bool) (eb : b ≡ roomB (view t) d) where
+  pub capacity-kept : Sized t → b ≡ true → (true ≡ roomB (withCapacity (view t) d) d) × Left t (withCapacity (view t) d)
+  unfolding withCapacity
+  capacity-kept s h = rw (← eb, h) (sym (sym eb ∙ h), record { seen = refl; sized = s })
+
+  pub capacity-swept : (u : List ℕ) (l : SlotList) (r : Bool) → b ≡ false → l ≡ swept (view t) (listAt (view t) d) → Left u (withList (view t) d l)
+      → r ≡ roomB (view u) d → (r ≡ roomB (withCapacity (view t) d) d) × Left u (withCapacity (view t) d)
+  unfolding withCapacity
+  capacity-swept u l r h el left er = rw (← eb, h, ← el) (er ∙ ap (λ s. roomB s d) (left .seen), left)
+
+-- ---- a capability is put into the slot that is given
+
+module _ (t : List ℕ) (d : ℕ) (x : Slot) (g : Given) (e : g ≡ giveSlot (listAt (view t) d)) where
+  pub capa-inserted : (u : List ℕ) (i : ℕ) (l : SlotList) → g .at ≡ At i → l ≡ putIn (g .list) i x → Left u (withList (view t) d l)
+      → (At i ≡ giveSlot (listAt (view t) d) .at) × Left u (withCapa (view t) d x)
+  unfolding withCapa
+  capa-inserted u i l ei el left = rw (← e, ei, ← el) (refl, left)
+
+  pub capa-full : g .at ≡ Full → Sized t → (g .at ≡ giveSlot (listAt (view t) d) .at) × Left t (withCapa (view t) d x)
+  unfolding withCapa
+  capa-full ef s = rw (← e, ef) (refl, record { seen = refl; sized = s })
