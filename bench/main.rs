@@ -1,6 +1,7 @@
 //! Times steps of the engine on lent tables beside the same steps of the Rust engine (README.md).
 
 mod ours;
+mod table;
 mod timing;
 
 use std::hint::black_box;
@@ -9,6 +10,7 @@ use std::mem::size_of;
 use engine::utils::{calls, mirror, steps};
 use engine::{AccessRights, CapaEngine, Domain, Handle, MemOps, MemoryPermission};
 
+use table::{once, timed, words};
 use timing::Times;
 
 fn domain_of(slot: u64, gen: u64) -> Handle<Domain> {
@@ -79,17 +81,6 @@ fn thousand(e: &mut CapaEngine) {
 
 // ---- the table
 
-fn words(e: &CapaEngine) -> Vec<u64> {
-    mirror::tables(e).words()
-}
-
-/// An operation on both, which leaves the same tables on both.
-fn once(name: &str, t: &mut [u64], e: &mut CapaEngine, mut ours: impl FnMut(&mut [u64]), mut rust: impl FnMut(&mut CapaEngine)) {
-    ours(t);
-    rust(e);
-    assert!(*t == words(e), "{name}: the two engines differ");
-}
-
 fn print(name: &str, (a, b): (Times, Times)) {
     println!(
         "| {name} | {:.0} | {:.0} | {:.1} | {:.0} to {:.0} | {:.0} to {:.0} |",
@@ -98,12 +89,8 @@ fn print(name: &str, (a, b): (Times, Times)) {
 }
 
 /// Times one operation on both from the same state.
-fn row(name: &str, state: fn(&mut CapaEngine), mut ours: impl FnMut(&mut [u64]), mut rust: impl FnMut(&mut CapaEngine)) {
-    let mut e = mirror::new_engine();
-    state(&mut e);
-    let mut t = words(&e);
-    once(name, &mut t, &mut e, &mut ours, &mut rust);
-    print(name, timing::pair(|| ours(black_box(&mut t)), || rust(black_box(&mut e))));
+fn row(name: &str, state: fn(&mut CapaEngine), ours: impl FnMut(&mut [u64]), rust: impl FnMut(&mut CapaEngine)) {
+    print(name, timed(name, state, ours, rust));
 }
 
 /// Times the gain of the range of the record in the middle of n, and its loss.

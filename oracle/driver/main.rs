@@ -5,6 +5,8 @@ mod compare;
 mod drawn;
 mod judge;
 mod leftovers;
+#[cfg(linked)]
+mod linked;
 mod met;
 mod ours;
 mod outside;
@@ -30,6 +32,8 @@ driver sample SEED LISTS LENGTH        lists with answers and a hash of the tabl
 driver replay FILE                     a sample, answered again
 driver ours PROGRAM SEED CALLS LENGTH  random lists, the Rust beside the proved engine in program `replay`
 driver ours PROGRAM FILE               a sample
+driver linked SEED CALLS LENGTH        random lists, the Rust beside the exported functions of libengine.a
+driver damage SEED SHAPES LENGTH WORDS sound tables by lists of up to LENGTH calls, damaged, lent to the exported functions
 driver script < SCRIPT                 what the script program is to print
 driver scripts PROGRAM SEED COUNT      random scripts, the Rust beside the script program
 driver antt PREFIX < lists             theorems about the model, one for each list
@@ -77,6 +81,12 @@ fn command(words: &[&str]) -> Result<bool, String> {
         ["replay", file] => sample::replay(file),
         ["ours", program, seed, calls, l] => ours::compare(program, number(seed)?, number(calls)?, length(l)?),
         ["ours", program, file] => ours::sample(program, file),
+        #[cfg(linked)]
+        ["linked", seed, calls, l] => Ok(linked::compare(number(seed)?, number(calls)?, length(l)?)),
+        #[cfg(linked)]
+        ["damage", seed, shapes, l, words] => Ok(linked::damage(number(seed)?, number(shapes)?, length(l)?, length(words)?)),
+        #[cfg(not(linked))]
+        ["linked" | "damage", ..] => Err("built without target/staticlib/libengine.a: run `rt staticlib engine` and oracle/build".to_string()),
         ["script"] => script::print(),
         ["scripts", program, seed, count] => scripts::compare(program, number(seed)?, number(count)?),
         ["antt", prefix] => antt::print(prefix),

@@ -47,7 +47,7 @@ fn words(call: &Call, sizes: &Sizes) -> [u64; 8] {
 }
 
 /// The word of the tables where a pool's generations begin (docs/TABLES.md).
-fn generations_at(pool: PoolName, sizes: &Sizes) -> u64 {
+pub fn generations_at(pool: PoolName, sizes: &Sizes) -> u64 {
     let (d, r, t) = (sizes.domains, sizes.regions, sizes.records);
     let at = match pool {
         PoolName::Domain => 7 + 2 + d,
@@ -58,7 +58,7 @@ fn generations_at(pool: PoolName, sizes: &Sizes) -> u64 {
 }
 
 /// The numbers that `replay` prints for an answer.
-fn numbers(call: &Call, answer: &Answer) -> Vec<u64> {
+pub fn numbers(call: &Call, answer: &Answer) -> Vec<u64> {
     let reply = match answer {
         Err(refusal) => return vec![*refusal as u64],
         Ok(reply) => reply,

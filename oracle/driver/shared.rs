@@ -1,6 +1,7 @@
-//! What the judge and the reference share: calls, answers, lists, records, tables, the test of soundness. Nothing here decides an answer.
+//! What the judge and the reference share: calls, answers, lists, records, tables and their words, the test of soundness. Nothing here decides an answer.
 
 pub mod calls;
+pub mod decode;
 pub mod lists;
 pub mod records;
 pub mod sound;

@@ -1,12 +1,28 @@
 //! Document 01's paragraph **Sound**, tested on tables clause by clause, in plain loops.
 
 use crate::calls::{Handle, Update};
+use crate::decode::decode;
 use crate::tables::{Capa, Domain, Kind, Pool, Region, Tables};
 
 /// The first clause that the tables break, if any.
 pub fn broken_clause(t: &Tables) -> Option<&'static str> {
     CLAUSES.iter().find(|(_, holds)| !holds(t)).map(|(name, _)| *name)
 }
+
+/// The same of words, whatever they are.
+pub fn fault(words: &[u64]) -> Option<&'static str> {
+    match decode(words) {
+        None => Some(WORDS),
+        Some(tables) => broken_clause(&tables),
+    }
+}
+
+/// What `fault` can name.
+pub fn clauses() -> impl Iterator<Item = &'static str> {
+    CLAUSES.iter().map(|(name, _)| *name).chain([WORDS])
+}
+
+const WORDS: &str = "they are the words of tables";
 
 type Clause = (&'static str, fn(&Tables) -> bool);
 
@@ -222,25 +238,35 @@ fn counts(t: &Tables) -> bool {
     let mut addresses: Vec<u64> = regions.chain(records).collect();
     addresses.sort_unstable();
     addresses.dedup();
-    live(&t.domains).all(|(d, x)| addresses.iter().all(|&a| stored(t, x, a) == wanted(t, d, a)))
+    let lists: Vec<_> = live(&t.domains).map(|(d, x)| (d as usize, tracker(t, x).unwrap_or_default())).collect();
+    addresses.iter().all(|&a| {
+        let wanted = wanted(t, a);
+        lists.iter().all(|(d, list)| stored(t, list, a) == wanted[*d])
+    })
 }
 
-/// Reach and the four right counts of the domain's record at an address, else 0.
-fn stored(t: &Tables, x: &Domain, a: u64) -> [u64; 5] {
-    let list = tracker(t, x).unwrap_or_default();
+/// Reach and the four right counts of the record at an address, of those in the list, else 0.
+fn stored(t: &Tables, list: &[u64], a: u64) -> [u64; 5] {
     let record = list.iter().filter_map(|&s| t.records[s as usize].as_ref()).find(|q| q.start <= a && a < q.end);
     record.map_or([0; 5], |q| [q.counts[0], q.counts[1], q.counts[2], q.counts[3], q.counts[4]])
 }
 
-/// The domain's live regions that cover the address and are not carved there, and those of them with each right.
-fn wanted(t: &Tables, d: u64, a: u64) -> [u64; 5] {
+/// For each domain its live regions that cover the address and are not carved there, and those of them with each right.
+fn wanted(t: &Tables, a: u64) -> Vec<[u64; 5]> {
     let covers = |r: &Region| r.start <= a && a < r.end;
-    let carved = |i: u64| live(&t.regions).any(|(_, c)| c.kind == Kind::Carve(i) && covers(c));
-    let mut out = [0; 5];
+    let mut carved = vec![false; t.regions.len()];
+    for (_, c) in live(&t.regions) {
+        match c.kind {
+            Kind::Carve(p) if covers(c) => carved[p as usize] = true,
+            _ => (),
+        }
+    }
+    let mut out = vec![[0; 5]; t.domains.len()];
     for (i, r) in live(&t.regions) {
-        if r.owner == d && covers(r) && !carved(i) {
-            out[0] += 1;
-            (0..4).for_each(|k| out[k + 1] += u64::from(r.rights >> k & 1));
+        if covers(r) && !carved[i as usize] {
+            let own = &mut out[r.owner as usize];
+            own[0] += 1;
+            (0..4).for_each(|k| own[k + 1] += u64::from(r.rights >> k & 1));
         }
     }
     out

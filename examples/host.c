@@ -1,0 +1,112 @@
+/* A host that lends memory to the engine: document 01's worked example, each answer printed as the script program prints it, and then
+ * the calls that the example does not have. host.out is what it prints; lines `d` and `r` are readings.
+ *
+ *     rt staticlib engine
+ *     gcc -std=c11 -Wall -Wextra -Werror -Iinclude examples/host.c target/staticlib/libengine.a -o host
+ */
+#include <inttypes.h>
+#include <stdio.h>
+
+#include "mityvurno.h"
+
+enum { DOMAINS = 8, SLOTS = 16, REGIONS = 128, RECORDS = 128, UPDATES = 32 };
+#define WORDS MITYVURNO_WORDS(DOMAINS, SLOTS, REGIONS, RECORDS, UPDATES)
+
+static uint64_t tables[WORDS];
+static uint64_t work[WORDS];
+
+/* What every call is lent first. */
+#define LENT tables, WORDS, work, WORDS
+
+static int number;
+
+static void print(uint64_t refusal, uint64_t value)
+{
+    const char *word = refusal == MITYVURNO_ACCEPTED ? "ok" : "no";
+    printf("%d %s %" PRIu64 "\n", ++number, word, refusal == MITYVURNO_ACCEPTED ? value : refusal);
+}
+
+static void call(mityvurno_reply r)
+{
+    print(r.refusal, r.value);
+}
+
+static mityvurno_domain_reply opened(mityvurno_domain_reply r)
+{
+    print(r.refusal, r.slot);
+    return r;
+}
+
+/* A line for each record of the domain's permission list, with its reach. The answer is the whole number of records, so that a run
+ * that is too short can be seen. */
+static void list(mityvurno_domain_reply d)
+{
+    static mityvurno_permission run[RECORDS];
+    mityvurno_reply r = mityvurno_permissions(LENT, d.slot, d.generation, run, RECORDS);
+    for (uint64_t i = 0; i < r.value && i < RECORDS; i++) {
+        mityvurno_reply reach = mityvurno_get_refcount(LENT, d.slot, d.generation, run[i].start, run[i].end);
+        printf("d %" PRIu64 " %" PRIu64 " %" PRIu64 " %" PRIu64 " %" PRIu64 "\n", d.slot, run[i].start, run[i].end, run[i].rights, reach.value);
+    }
+}
+
+/* The domain's core map, and who holds an address. */
+static void read_more(mityvurno_domain_reply d, uint64_t address)
+{
+    uint64_t run[DOMAINS];
+    mityvurno_reply r = mityvurno_holders(LENT, address, run, DOMAINS);
+    printf("r cores %" PRIu64 ", %" PRIu64 " is held by %" PRIu64 ":", mityvurno_core_map(LENT, d.slot, d.generation).value, address, r.value);
+    for (uint64_t i = 0; i < r.value && i < DOMAINS; i++)
+        printf(" %" PRIu64, run[i]);
+    printf("\n");
+}
+
+/* Empties the queue: what the monitor has to do in hardware. */
+static void updates(void)
+{
+    mityvurno_update_reply u;
+    for (u = mityvurno_pop(LENT); u.kind != MITYVURNO_NONE; u = mityvurno_pop(LENT)) {
+        if (u.kind == MITYVURNO_PERMISSION)
+            printf("p %" PRIu64 " %" PRIu64 "\n", u.a, u.c);
+        else
+            printf("c %" PRIu64 " %" PRIu64 "\n", u.a, u.b);
+    }
+}
+
+static void example(mityvurno_domain_reply a, mityvurno_domain_reply b)
+{
+    call(mityvurno_create_root_region(LENT, a.slot, a.generation, 0, 16, MITYVURNO_READ | MITYVURNO_WRITE));
+    call(mityvurno_carve_region(LENT, a.slot, a.generation, 1, 4, 8, MITYVURNO_READ));
+    call(mityvurno_alias_region(LENT, a.slot, a.generation, 1, 0, 4, MITYVURNO_READ | MITYVURNO_WRITE));
+    call(mityvurno_send(LENT, a.slot, a.generation, 2, 0));
+    call(mityvurno_alias_region(LENT, a.slot, a.generation, 1, 6, 9, MITYVURNO_READ));
+    list(a);
+    list(b);
+    updates();
+}
+
+/* B gives the carve back; B gets a channel and a core map; A's alias is revoked by a RegionRevoke. */
+static void more(mityvurno_domain_reply a, mityvurno_domain_reply b)
+{
+    call(mityvurno_revoke(LENT, b.slot, b.generation, 0));
+    list(a);
+    call(mityvurno_open_channel(LENT, b.slot, b.generation, a.slot, a.generation));
+    call(mityvurno_set_core_map(LENT, b.slot, b.generation, 6));
+    read_more(b, 5);
+    call(mityvurno_create_revoke_capa(LENT, a.slot, a.generation, 3));
+    call(mityvurno_revoke(LENT, a.slot, a.generation, 2));
+    list(a);
+    updates();
+}
+
+int main(void)
+{
+    mityvurno_domain_reply a, b;
+
+    if (mityvurno_make_tables(LENT, DOMAINS, SLOTS, REGIONS, RECORDS, UPDATES).refusal != MITYVURNO_ACCEPTED)
+        return 1;
+    a = opened(mityvurno_open_domain(LENT, 0));
+    b = opened(mityvurno_open_under(LENT, a.slot, a.generation, 0));
+    example(a, b);
+    more(a, b);
+    return 0;
+}

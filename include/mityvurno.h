@@ -1,0 +1,180 @@
+/* The exported calls of Mityvurno, a region capability engine (target/staticlib/libengine.a, written by `rt staticlib engine`; x86-64).
+ * Document 01 (docs/01-scope.md) says what each call does, and docs/TABLES.md what each word of the tables holds.
+ *
+ * The host lends two runs of words for the time of a call: the tables, which keep everything between calls, and a work area of the same
+ * length. Each call tests both and trusts neither: any contents and any lengths are answered. Tables that are not sound, or a length that
+ * is wrong, give MITYVURNO_MEMORY. A refused call changes no word of the tables. The work area is all zero after every call, refused or
+ * not, whatever it held before. Nothing is kept elsewhere, so that the calls may run on several tables at once.
+ *
+ * What a C caller must see to, since C cannot say it of a pointer and a length:
+ *   - each pointer is that of so many words as its length says, aligned as its type is;
+ *   - tables, work area and run do not overlap, and nobody else writes them during the call.
+ * Where a length is 0, nothing is read or written through its pointer; NULL was tested there.
+ *
+ * Of its host the archive asks for memcpy and memset, nothing else; it uses SSE registers. Stack, measured at the largest sizes: up to
+ * 22 KiB for a call, and for a revoke some 120 bytes more for each level of the tree: 132 KiB for 1,023 regions, each below the other. */
+#ifndef MITYVURNO_H
+#define MITYVURNO_H
+
+#include <stddef.h>
+#include <stdint.h>
+
+#ifdef __cplusplus
+#define MITYVURNO_APART
+extern "C" {
+#else
+#define MITYVURNO_APART restrict
+#endif
+
+/* ---- sizes: each is at least 1 and at most this */
+
+#define MITYVURNO_MOST_DOMAINS 32
+#define MITYVURNO_MOST_SLOTS 128 /* of each domain's capability list */
+#define MITYVURNO_MOST_REGIONS 1024
+#define MITYVURNO_MOST_RECORDS 1024 /* tracker records */
+#define MITYVURNO_MOST_UPDATES 128
+
+/* The number of words that tables of these sizes have, and their work area: a constant where the sizes are. */
+#define MITYVURNO_WORDS(domains, slots, regions, records, updates)                                              \
+    ((size_t)7 + (2 + 2 * (size_t)(domains)) + (2 + 2 * (size_t)(regions)) + (2 + 2 * (size_t)(records)) +      \
+     (size_t)(domains) * (5 + 3 * (size_t)(slots)) + 8 * (size_t)(regions) + 9 * (size_t)(records) +            \
+     4 * ((size_t)(updates) + 1))
+
+/* ---- rights: a word of 8 bits */
+
+enum mityvurno_rights {
+    MITYVURNO_READ = 1,
+    MITYVURNO_WRITE = 2,
+    MITYVURNO_EXEC = 4,
+    MITYVURNO_SUPER = 8,
+    MITYVURNO_HASH = 16,
+    MITYVURNO_CLEANUP = 32,
+    MITYVURNO_VITAL = 64,
+    MITYVURNO_UNCACHEABLE = 128
+};
+
+/* ---- answers */
+
+/* Document 01's refusals, "Memory and who can be refused". */
+enum mityvurno_refusal {
+    MITYVURNO_ACCEPTED = 0,
+    /* the host that lends */
+    MITYVURNO_MEMORY = 1, /* either length wrong, or tables not sound */
+    MITYVURNO_SIZES = 2,  /* a size outside its limits; making only */
+    /* a domain's program */
+    MITYVURNO_NO_DOMAIN = 3,    /* slot number too large, generation not the slot's, or slot free */
+    MITYVURNO_NO_SLOT = 4,      /* local number too large, or free */
+    MITYVURNO_WRONG_KIND = 5,   /* the slot holds another kind of capability */
+    MITYVURNO_STALE = 6,        /* the region is dead */
+    MITYVURNO_BAD_RANGE = 7,    /* start not below end */
+    MITYVURNO_BEYOND = 8,       /* the rule of alias or carve is broken */
+    MITYVURNO_ROOT = 9,         /* revoking a root, or making its RegionRevoke */
+    MITYVURNO_NOT_CARRIED = 10, /* sending or revoking a Management capability */
+    /* all together */
+    MITYVURNO_NO_REGION = 11,      /* no region free */
+    MITYVURNO_NO_LOCAL = 12,       /* the capability list is full after the sweep */
+    MITYVURNO_NO_TRACKER = 13,     /* no tracker record free */
+    MITYVURNO_RING_FULL = 14,      /* no place for an update */
+    MITYVURNO_NO_DOMAIN_ROOM = 15, /* no domain free */
+    MITYVURNO_SPENT = 16,          /* a generation of 2^64 - 1 would be raised */
+    /* a script's author; no exported call gives it */
+    MITYVURNO_BAD_RECORD = 17
+};
+
+/* `refusal` is one of the numbers above. A refusal gives its number and nothing else: the other fields are 0 then. */
+typedef struct {
+    uint64_t refusal;
+    uint64_t value; /* 0 where the call has none */
+} mityvurno_reply;
+
+/* The handle of a new domain. */
+typedef struct {
+    uint64_t refusal;
+    uint64_t slot;
+    uint64_t generation;
+} mityvurno_domain_reply;
+
+enum mityvurno_update {
+    MITYVURNO_NONE = 0,       /* nothing is queued */
+    MITYVURNO_PERMISSION = 1, /* a domain's permissions changed: a, b its handle's slot and generation, c its core map */
+    MITYVURNO_CLEAN_UP = 2    /* a range to clean up: a start, b end */
+};
+
+typedef struct {
+    uint64_t refusal;
+    uint64_t kind; /* of enum mityvurno_update */
+    uint64_t a, b, c;
+} mityvurno_update_reply;
+
+typedef struct {
+    uint64_t start, end; /* start up to but not including end */
+    uint64_t rights;
+} mityvurno_permission;
+
+/* ---- calls
+ *
+ * `t` has `t_words` words, the tables; `w` has `w_words` words, the work area. A domain is named by its handle, slot and generation, as
+ * opening it answered; `local` is a slot of that domain's capability list. */
+
+#define MITYVURNO_LENT uint64_t *MITYVURNO_APART t, size_t t_words, uint64_t *MITYVURNO_APART w, size_t w_words
+/* A reading does not change the tables. */
+#define MITYVURNO_READ_ONLY const uint64_t *MITYVURNO_APART t, size_t t_words, uint64_t *MITYVURNO_APART w, size_t w_words
+
+/* Empty tables. The lengths must be those of MITYVURNO_WORDS; what the tables held before does not matter. */
+mityvurno_reply mityvurno_make_tables(MITYVURNO_LENT, uint64_t domains, uint64_t slots, uint64_t regions, uint64_t records,
+                                      uint64_t updates);
+
+/* A domain without a manager; `cores` is its core map. */
+mityvurno_domain_reply mityvurno_open_domain(MITYVURNO_LENT, uint64_t cores);
+
+/* A domain with a manager, which gets a Management capability to it. */
+mityvurno_domain_reply mityvurno_open_under(MITYVURNO_LENT, uint64_t manager, uint64_t generation, uint64_t cores);
+
+/* A Channel capability to domain `to` in the list of `domain`; value: its local slot. */
+mityvurno_reply mityvurno_open_channel(MITYVURNO_LENT, uint64_t domain, uint64_t generation, uint64_t to, uint64_t to_generation);
+
+mityvurno_reply mityvurno_set_core_map(MITYVURNO_LENT, uint64_t domain, uint64_t generation, uint64_t cores);
+
+/* A new region, `start` up to but not including `end`; value: its local slot. */
+mityvurno_reply mityvurno_create_root_region(MITYVURNO_LENT, uint64_t domain, uint64_t generation, uint64_t start, uint64_t end,
+                                             uint8_t rights);
+
+/* A part of the region in `local`, shared with it or cut out of it; value: its local slot. */
+mityvurno_reply mityvurno_alias_region(MITYVURNO_LENT, uint64_t domain, uint64_t generation, uint64_t local, uint64_t start, uint64_t end,
+                                       uint8_t rights);
+mityvurno_reply mityvurno_carve_region(MITYVURNO_LENT, uint64_t domain, uint64_t generation, uint64_t local, uint64_t start, uint64_t end,
+                                       uint8_t rights);
+
+/* Moves what `local` holds to the domain that the Channel or Management capability in `target` names; value: the slot there. */
+mityvurno_reply mityvurno_send(MITYVURNO_LENT, uint64_t domain, uint64_t generation, uint64_t local, uint64_t target);
+
+/* Revokes what `local` holds or names, a region with all below it. */
+mityvurno_reply mityvurno_revoke(MITYVURNO_LENT, uint64_t domain, uint64_t generation, uint64_t local);
+
+/* A RegionRevoke for the region in `local`; value: its local slot. */
+mityvurno_reply mityvurno_create_revoke_capa(MITYVURNO_LENT, uint64_t domain, uint64_t generation, uint64_t local);
+
+/* The oldest update leaves the queue. */
+mityvurno_update_reply mityvurno_pop(MITYVURNO_LENT);
+
+/* ---- readings */
+
+/* Value: the largest reach in the range, of any two numbers (document 01, `get_refcount`). */
+mityvurno_reply mityvurno_get_refcount(MITYVURNO_READ_ONLY, uint64_t domain, uint64_t generation, uint64_t start, uint64_t end);
+
+/* Value: the domain's core map. */
+mityvurno_reply mityvurno_core_map(MITYVURNO_READ_ONLY, uint64_t domain, uint64_t generation);
+
+/* The slots of the domains that reach an address, in any order, each once. Value: how many there are; those past the run are not
+ * written, and unused places stay as they are, as does the whole run on refusal. */
+mityvurno_reply mityvurno_holders(MITYVURNO_READ_ONLY, uint64_t address, uint64_t *MITYVURNO_APART run, size_t places);
+
+/* The domain's permissions, rising; value and run likewise. */
+mityvurno_reply mityvurno_permissions(MITYVURNO_READ_ONLY, uint64_t domain, uint64_t generation,
+                                      mityvurno_permission *MITYVURNO_APART run, size_t places);
+
+#ifdef __cplusplus
+}
+#endif
+
+#endif

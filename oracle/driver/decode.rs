@@ -1,0 +1,116 @@
+//! Tables from words, whatever they are: the way back from `Tables::words` (docs/TABLES.md).
+
+use crate::calls::{Handle, Sizes, Update};
+use crate::tables::{Capa, Domain, Kind, Pool, Record, Region, Tables};
+
+/// The limits of the five sizes.
+pub const LIMITS: [u64; 5] = [32, 128, 1024, 1024, 128];
+
+/// How many words tables of these sizes have.
+pub fn total(z: &Sizes) -> usize {
+    let pools = (2 + 2 * z.domains) + (2 + 2 * z.regions) + (2 + 2 * z.records);
+    7 + pools + z.domains * (5 + 3 * z.slots) + 8 * z.regions + 9 * z.records + 4 * (z.updates + 1)
+}
+
+/// The tables whose words these are; none where a size is outside its limits, the length is another, or a word means nothing there.
+pub fn decode(words: &[u64]) -> Option<Tables> {
+    let sizes = sizes(words)?;
+    let mut w = Words(words.get(5..)?);
+    let (read, write) = (w.one(), w.one());
+    let (domain_pool, region_pool, record_pool) = (w.pool(sizes.domains), w.pool(sizes.regions), w.pool(sizes.records));
+    let domains = entries(&domain_pool, w.take(sizes.domains * (5 + 3 * sizes.slots)), 5 + 3 * sizes.slots, domain)?;
+    let regions = entries(&region_pool, w.take(sizes.regions * 8), 8, region)?;
+    let records = entries(&record_pool, w.take(sizes.records * 9), 9, record)?;
+    let places = w.0.chunks(4).map(place).collect::<Option<Vec<_>>>()?;
+    let tables = Tables { sizes, domain_pool, region_pool, record_pool, domains, regions, records, read, write, places };
+    // What is not settled above must be 0: the words of a free entry, of an empty place, and the like.
+    (tables.words() == words).then_some(tables)
+}
+
+fn sizes(words: &[u64]) -> Option<Sizes> {
+    let stored = words.get(..5)?;
+    if !stored.iter().zip(LIMITS).all(|(&n, limit)| 1 <= n && n <= limit) {
+        return None;
+    }
+    let n = |k: usize| stored[k] as usize;
+    let sizes = Sizes { domains: n(0), slots: n(1), regions: n(2), records: n(3), updates: n(4) };
+    (total(&sizes) == words.len()).then_some(sizes)
+}
+
+/// The words that are not read yet; there are enough of them.
+struct Words<'a>(&'a [u64]);
+
+impl<'a> Words<'a> {
+    fn take(&mut self, n: usize) -> &'a [u64] {
+        let (first, rest) = self.0.split_at(n);
+        self.0 = rest;
+        first
+    }
+
+    fn one(&mut self) -> u64 {
+        self.take(1)[0]
+    }
+
+    fn pool(&mut self, n: usize) -> Pool {
+        let (head, count) = (self.one(), self.one());
+        let links = self.take(n).iter().map(|&l| link(l)).collect();
+        Pool { head, count, links, gens: self.take(n).to_vec() }
+    }
+}
+
+fn link(word: u64) -> Option<u64> {
+    word.checked_sub(1)
+}
+
+/// The entries of a pool: none in a free slot.
+fn entries<T>(pool: &Pool, words: &[u64], width: usize, read: impl Fn(&[u64]) -> Option<T>) -> Option<Vec<Option<T>>> {
+    let slots = pool.links.iter().zip(words.chunks(width));
+    slots.map(|(l, w)| if l.is_some() { Some(None) } else { read(w).map(Some) }).collect()
+}
+
+fn domain(w: &[u64]) -> Option<Domain> {
+    let slots = w[5..].chunks(3).map(slot).collect::<Option<Vec<_>>>()?;
+    let (held, links) = slots.into_iter().unzip();
+    let list = Pool { head: w[3], count: w[4], links, gens: Vec::new() };
+    Some(Domain { manager: link(w[0]), cores: w[1], tracker: link(w[2]), list, held })
+}
+
+/// What the slot holds, and its free link.
+fn slot(w: &[u64]) -> Option<(Option<Capa>, Option<u64>)> {
+    let handle = Handle { slot: w[1], gen: w[2] };
+    match w[0] {
+        0 => Some((Some(Capa::None), None)),
+        1 => Some((None, Some(w[1]))),
+        2 => Some((Some(Capa::Region(handle)), None)),
+        3 => Some((Some(Capa::RegionRevoke(handle)), None)),
+        4 => Some((Some(Capa::Management(handle)), None)),
+        5 => Some((Some(Capa::Channel(handle)), None)),
+        _ => None,
+    }
+}
+
+fn region(w: &[u64]) -> Option<Region> {
+    let kind = match (w[0], link(w[2])) {
+        // A root is in no list, so that its next sibling is settled.
+        (1, None) if w[7] == 0 => Kind::Root,
+        (2, Some(p)) => Kind::Alias(p),
+        (3, Some(p)) => Kind::Carve(p),
+        _ => return None,
+    };
+    let (owner, rights) = (link(w[1])?, u8::try_from(w[5]).ok()?);
+    Some(Region { owner, kind, start: w[3], end: w[4], rights, first_child: link(w[6]), next_sibling: link(w[7]) })
+}
+
+fn record(w: &[u64]) -> Option<Record> {
+    Some(Record { start: w[0], end: w[1], counts: [w[2], w[3], w[4], w[5], w[6], w[7]], next: link(w[8]) })
+}
+
+/// What a place of the ring holds; the outer none: nothing that a place can hold.
+fn place(w: &[u64]) -> Option<Option<Update>> {
+    match w[0] {
+        0 => Some(None),
+        1 => Some(Some(Update::Permission { domain: Handle { slot: w[1], gen: w[2] }, cores: w[3] })),
+        2 => Some(Some(Update::Cleanup { start: w[1], end: w[2] })),
+        _ => None,
+    }
+}

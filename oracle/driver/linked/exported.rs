@@ -1,0 +1,117 @@
+//! The exported functions of crate `engine`, as include/mityvurno.h declares them: a slice is passed as its start and its length.
+
+use std::ptr;
+
+use shared::calls::Call;
+
+#[repr(C)]
+pub struct Reply {
+    refusal: u64,
+    value: u64,
+}
+
+#[repr(C)]
+pub struct DomainReply {
+    refusal: u64,
+    slot: u64,
+    generation: u64,
+}
+
+#[repr(C)]
+pub struct UpdateReply {
+    refusal: u64,
+    kind: u64,
+    a: u64,
+    b: u64,
+    c: u64,
+}
+
+/// The refusal's number or 0, and up to four values, 0 where there is none.
+pub type Numbers = [u64; 5];
+
+impl From<Reply> for Numbers {
+    fn from(r: Reply) -> Numbers {
+        [r.refusal, r.value, 0, 0, 0]
+    }
+}
+
+impl From<DomainReply> for Numbers {
+    fn from(r: DomainReply) -> Numbers {
+        [r.refusal, r.slot, r.generation, 0, 0]
+    }
+}
+
+impl From<UpdateReply> for Numbers {
+    fn from(r: UpdateReply) -> Numbers {
+        [r.refusal, r.kind, r.a, r.b, r.c]
+    }
+}
+
+/// Declares exported functions that take tables and a work area, and then these numbers.
+macro_rules! exported {
+    ($($name:ident($($x:ident: $t:ty),*) -> $r:ty;)*) => {
+        mod c {
+            use super::{DomainReply, Reply, UpdateReply};
+            extern "C" {
+                $(pub fn $name(t: *mut u64, n: usize, w: *mut u64, m: usize $(, $x: $t)*) -> $r;)*
+            }
+        }
+    };
+}
+
+exported! {
+    mityvurno_make_tables(domains: u64, slots: u64, regions: u64, records: u64, updates: u64) -> Reply;
+    mityvurno_open_domain(cores: u64) -> DomainReply;
+    mityvurno_open_under(manager: u64, generation: u64, cores: u64) -> DomainReply;
+    mityvurno_open_channel(domain: u64, generation: u64, to: u64, to_generation: u64) -> Reply;
+    mityvurno_set_core_map(domain: u64, generation: u64, cores: u64) -> Reply;
+    mityvurno_create_root_region(domain: u64, generation: u64, start: u64, end: u64, rights: u8) -> Reply;
+    mityvurno_alias_region(domain: u64, generation: u64, local: u64, start: u64, end: u64, rights: u8) -> Reply;
+    mityvurno_carve_region(domain: u64, generation: u64, local: u64, start: u64, end: u64, rights: u8) -> Reply;
+    mityvurno_send(domain: u64, generation: u64, local: u64, target: u64) -> Reply;
+    mityvurno_revoke(domain: u64, generation: u64, local: u64) -> Reply;
+    mityvurno_create_revoke_capa(domain: u64, generation: u64, local: u64) -> Reply;
+    mityvurno_pop() -> UpdateReply;
+    mityvurno_get_refcount(domain: u64, generation: u64, start: u64, end: u64) -> Reply;
+    mityvurno_core_map(domain: u64, generation: u64) -> Reply;
+    mityvurno_holders(address: u64, run: *mut u64, places: usize) -> Reply;
+    mityvurno_permissions(domain: u64, generation: u64, run: *mut u64, places: usize) -> Reply;
+}
+
+/// Where a slice starts. An empty one is passed as null, as C may do.
+fn start(s: &mut [u64]) -> *mut u64 {
+    if s.is_empty() { ptr::null_mut() } else { s.as_mut_ptr() }
+}
+
+macro_rules! call {
+    ($name:ident, $t:expr, $w:expr $(, $x:expr)*) => {
+        unsafe { c::$name(start($t), $t.len(), start($w), $w.len() $(, $x)*) }.into()
+    };
+}
+
+pub fn make(t: &mut [u64], w: &mut [u64], sizes: [u64; 5]) -> Numbers {
+    let [domains, slots, regions, records, updates] = sizes;
+    call!(mityvurno_make_tables, t, w, domains, slots, regions, records, updates)
+}
+
+/// The exported function for a call. A reading's list goes into `run`: three words for each permission, one for each holder.
+pub fn perform(t: &mut [u64], w: &mut [u64], call: &Call, run: &mut [u64]) -> Numbers {
+    match *call {
+        Call::Open { manager: None, cores } => call!(mityvurno_open_domain, t, w, cores),
+        Call::Open { manager: Some(m), cores } => call!(mityvurno_open_under, t, w, m.slot, m.gen, cores),
+        Call::Channel { domain: d, to } => call!(mityvurno_open_channel, t, w, d.slot, d.gen, to.slot, to.gen),
+        Call::SetCores { domain: d, cores } => call!(mityvurno_set_core_map, t, w, d.slot, d.gen, cores),
+        Call::Root { domain: d, access: a } => call!(mityvurno_create_root_region, t, w, d.slot, d.gen, a.start, a.end, a.rights),
+        Call::Alias { domain: d, local, access: a } => call!(mityvurno_alias_region, t, w, d.slot, d.gen, local, a.start, a.end, a.rights),
+        Call::Carve { domain: d, local, access: a } => call!(mityvurno_carve_region, t, w, d.slot, d.gen, local, a.start, a.end, a.rights),
+        Call::Send { domain: d, local, target } => call!(mityvurno_send, t, w, d.slot, d.gen, local, target),
+        Call::Revoke { domain: d, local } => call!(mityvurno_revoke, t, w, d.slot, d.gen, local),
+        Call::RegionRevoke { domain: d, local } => call!(mityvurno_create_revoke_capa, t, w, d.slot, d.gen, local),
+        Call::Pop => call!(mityvurno_pop, t, w),
+        Call::Refcount { domain: d, start: from, end } => call!(mityvurno_get_refcount, t, w, d.slot, d.gen, from, end),
+        Call::CoreMap { domain: d } => call!(mityvurno_core_map, t, w, d.slot, d.gen),
+        Call::Holders { address } => call!(mityvurno_holders, t, w, address, start(run), run.len()),
+        Call::Permissions { domain: d } => call!(mityvurno_permissions, t, w, d.slot, d.gen, start(run), run.len() / 3),
+        Call::Generation { .. } => unreachable!("no call of document 01"),
+    }
+}

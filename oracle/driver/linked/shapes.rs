@@ -1,0 +1,104 @@
+//! Sound tables of many shapes, made by random lists of calls, and ways to damage them.
+
+use shared::calls::{Access, Call, Handle};
+use shared::decode::decode;
+use shared::tables::Tables;
+
+use crate::judge::Judge;
+use crate::random::{self, Random, Style};
+
+/// Words that are set to other values.
+pub type Edits = Vec<(usize, u64)>;
+
+/// Sound tables and the list that made them.
+pub struct Shape {
+    pub list: Vec<Call>,
+    pub words: Vec<u64>,
+}
+
+impl Shape {
+    pub fn random(random: &mut Random, length: usize) -> Shape {
+        let style = if random.one_in(3) { Style::filling(random) } else { Style::new(random) };
+        let mut judge = Judge::new();
+        let mut tables = judge.tables();
+        let mut presets = random::presets(random, &tables.sizes).into_iter();
+        let mut list = Vec::new();
+        for _ in 0..random.below(length as u64 + 1) {
+            let call = presets.next().unwrap_or_else(|| random::call(random, &style, &tables));
+            if judge.perform(&call).is_ok() {
+                tables = judge.tables();
+                list.push(call);
+            }
+        }
+        Shape { list, words: tables.words() }
+    }
+
+    pub fn of(list: &[Call]) -> Shape {
+        let mut judge = Judge::new();
+        list.iter().for_each(|call| drop(judge.perform(call)));
+        Shape { list: list.to_vec(), words: judge.tables().words() }
+    }
+
+    pub fn tables(&self) -> Tables {
+        decode(&self.words).expect("words of the judge's tables")
+    }
+
+    pub fn edited(&self, edits: &Edits) -> Vec<u64> {
+        let mut words = self.words.clone();
+        edits.iter().for_each(|&(k, value)| words[k] = value);
+        words
+    }
+}
+
+/// Other values for word k.
+pub fn values(random: &mut Random, words: &[u64], k: usize) -> Vec<u64> {
+    let near = |j: usize| words[j % words.len()];
+    let (own, n) = (words[k], words.len());
+    let mut out = vec![0, 1, u64::MAX, near(k + 1), near(k + n - 1), own.wrapping_add(1), own.wrapping_sub(1)];
+    out.extend([random.next(), random.below(8), near(random.next() as usize % n), random.pick(&[2, 32, 128, 255, 256, 1 << 32])]);
+    out.sort_unstable();
+    out.dedup();
+    out.retain(|&value| value != own);
+    out
+}
+
+/// Two to four words set to values that stand elsewhere, or two stretches exchanged: some of these leave the tables sound.
+pub fn several(random: &mut Random, words: &[u64]) -> Edits {
+    let n = words.len() as u64;
+    let mut any = |bound: u64| random.below(bound) as usize;
+    let width = [1, 3, 3, 3, 4, 8, 9, 0, 0][any(9)];
+    if width == 0 {
+        return (0..2 + any(3)).map(|_| (any(n), words[any(n)])).collect();
+    }
+    // Distances that are multiples of an entry's width put an entry in the place of another.
+    let a = any(n);
+    let b = (a + width * (1 + any(6))) % words.len();
+    let pairs = (0..width).map(|k| ((a + k) % words.len(), (b + k) % words.len()));
+    pairs.flat_map(|(i, j)| [(i, words[j]), (j, words[i])]).collect()
+}
+
+/// The exported calls in turn, on a domain that is live, if any is.
+pub fn turn(random: &mut Random, number: u64, tables: &Tables) -> Call {
+    let live: Vec<usize> = (0..tables.domains.len()).filter(|&d| tables.domains[d].is_some()).collect();
+    let slot = if live.is_empty() { 0 } else { random.pick(&live) };
+    let domain = Handle { slot: slot as u64, gen: tables.domain_pool.gens[slot] };
+    let (local, target) = (random.below(tables.sizes.slots as u64), random.below(tables.sizes.slots as u64));
+    let access = Access { start: random.below(8), end: random.below(20), rights: random.pick(&[1, 3, 33]) };
+    match number % 15 {
+        0 => Call::Pop,
+        1 => Call::Open { manager: None, cores: 1 },
+        2 => Call::Open { manager: Some(domain), cores: 2 },
+        3 => Call::Channel { domain, to: domain },
+        4 => Call::SetCores { domain, cores: 3 },
+        5 => Call::Root { domain, access },
+        6 => Call::Alias { domain, local, access },
+        7 => Call::Carve { domain, local, access },
+        8 => Call::Send { domain, local, target },
+        9 => Call::Revoke { domain, local },
+        10 => Call::RegionRevoke { domain, local },
+        11 => Call::CoreMap { domain },
+        12 => Call::Permissions { domain },
+        13 => Call::Refcount { domain, start: access.start, end: access.end },
+        _ => Call::Holders { address: access.start },
+    }
+}
