@@ -1,0 +1,10 @@
+pub mod Given
+pub mod Kinds
+pub mod Openings
+pub mod Takes
+pub mod Outcomes
+pub mod Chains
+pub mod Dealt
+pub mod Halfway
+pub mod Steps
+pub mod Made

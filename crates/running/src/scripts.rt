@@ -1,0 +1,97 @@
+// Records taken from the bytes at hand, one by one.
+ghost use mathlib.Core.Path.{_≡_};
+ghost use Prim.Native.Nat.{_+_, _<_, _^_};
+ghost use Rattle.records.specs.Parsed.{parsed};
+ghost use Rattle.running.specs.Takes.{Takes};
+ghost use Rattle.running.specs.Halfway.{RunsAll};
+ghost use Rattle.running.specs.Dealt.{Dealt};
+use crate::perform;
+use engine::Reply;
+use engine::make;
+use records::Parsed;
+
+// A record that was run: what its call replied, and the bytes that it took.
+pub struct Ran {
+    pub reply: Reply,
+    pub size: usize,
+}
+
+// What became of the bytes at hand.
+pub enum Taken {
+    // Part of a record that can still be a call: more bytes are needed.
+    Short,
+    // No record, whatever follows: 17.
+    Bad,
+    Done(Ran),
+}
+
+// One record at the front of the bytes at hand: parsed, and run.
+pub fn take(b: &[u8], t: &mut [u64], w: &mut [u64]) -> Taken
+    ensures { λ x. ⌜ Takes (parsed (now (b .entry))) (now (t .entry)) (now (w .entry)) x (now (t .exit)) (now (w .exit)) ⌝ }
+{
+    match records::parse(b) {
+        Parsed::Short => Taken::Short,
+        Parsed::Bad => Taken::Bad,
+        Parsed::Call(r) => Taken::Done(Ran {
+            reply: perform::run(t, w, r),
+            size: records::size_of(r.kind),
+        }),
+    }
+}
+
+// A place between two records: the bytes before it, and the calls run by then.
+struct Place {
+    at: usize,
+    calls: u64,
+}
+
+// Behind a record that was run: its bytes are passed, and it counts as a call, accepted or refused.
+fn behind(p: Place, x: Ran) -> Place
+    requires { ⌜ (p .at + x .size < 2 ^ 64) × (p .calls + 1 < 2 ^ 64) ⌝ }
+    ensures { λ r. ⌜ r ≡ record { at = p .at + x .size; calls = p .calls + 1 } ⌝ }
+{
+    Place {
+        at: p.at + x.size,
+        calls: p.calls + 1,
+    }
+}
+
+fn bad_record(calls: u64) -> Reply
+    ensures { λ r. ⌜ r ≡ record { refusal = 17; value = calls } ⌝ }
+{
+    Reply {
+        refusal: 17,
+        value: calls,
+    }
+}
+
+// The records of the bytes, to their end or to the first bad one; the value is the number of calls run.
+fn run_records(b: &[u8], t: &mut [u64], w: &mut [u64]) -> Reply
+    ensures { λ x. ⌜ RunsAll (now (b .entry)) (now (t .entry)) (now (w .entry)) x (now (t .exit)) (now (w .exit)) ⌝ }
+{
+    let mut p = Place { at: 0, calls: 0 };
+    while p.at < b.len() {
+        let at = p.at;
+        match take(&b[at..], t, w) {
+            Taken::Short => return bad_record(p.calls),
+            Taken::Bad => return bad_record(p.calls),
+            Taken::Done(x) => p = behind(p, x),
+        }
+    }
+    Reply {
+        refusal: 0,
+        value: p.calls,
+    }
+}
+
+// A whole script: makes its tables in the lent memory and runs the records of the lent bytes on them. The reply is the making's where that is
+// refused; else 0, or 17 where a bad record ended the script, with the number of calls run.
+pub fn run_script(b: &[u8], t: &mut [u64], w: &mut [u64]) -> Reply
+    ensures { λ x. ⌜ Dealt (now (b .entry)) (now (t .entry)) (now (w .entry)) x (now (t .exit)) (now (w .exit)) ⌝ }
+{
+    let made = make::mityvurno_make_tables(t, w, 8, 16, 128, 128, 32);
+    if made.refusal == 0 {
+        return run_records(b, t, w);
+    }
+    made
+}
