@@ -8,12 +8,12 @@ use borrow.Author.Tests.{ltb-false}
 use lib.Dec.{eqb, ltb}
 use lib.ListN.{length, take, drop}
 use Rattle.laws.specs.Cases.{lt, ge, cmp, eqb-f, holds, fails, test}
-use Rattle.records.specs.declared.Record.{Record}
-use Rattle.records.specs.declared.Parsed.{Parsed}
-use Rattle.records.specs.declared.Parsed.the-variants.{Short, Bad, Call as Whole}
-use Rattle.records.specs.Script.{number, kindOf}
-use Rattle.records.specs.Parsed.{sizeOf, recordIn, rightsIn, judged, whole, ofKind, parsed}
-use Rattle.records.specs.Words.{call-size}
+use Rattle.script_records.specs.declared.Record.{Record}
+use Rattle.script_records.specs.declared.Parsed.{Parsed}
+use Rattle.script_records.specs.declared.Parsed.the-variants.{Short, Bad, Call as Whole}
+use Rattle.script_records.specs.Script.{number, kindOf}
+use Rattle.script_records.specs.Parsed.{sizeOf, recordIn, rightsIn, judged, whole, ofKind, parsed}
+use Rattle.script_records.specs.Words.{call-size}
 
 pub record Given (r : Record) : Type 0 where
   pub least : 1 ≤ r .kind

@@ -9,7 +9,7 @@ use Rattle.model.specs.Perform.{Call, Answer}
 use Rattle.model.specs.CallWords.{CallWords}
 use Rattle.model.specs.Memory.{zeroed}
 use Rattle.book.specs.Lent.{Chain}
-use Rattle.records.specs.Script.{scriptCalls}
+use Rattle.script_records.specs.Script.{scriptCalls}
 use Rattle.engine.specs.declared.replies.Reply.{Reply}
 use Rattle.running.specs.Dealt.{scriptReply}
 

@@ -3,9 +3,9 @@ use mathlib.Core.Path.{_≡_, sym, ap, subst}
 use Prim.Native.Nat.{ℕ, _<_}
 use mathlib.Core.List.{List}
 use Rattle.model.specs.Perform.{Call}
-use Rattle.records.specs.declared.Record.{Record}
-use Rattle.records.specs.Script.{kindOf}
-use Rattle.records.specs.Parsed.{rightsFor, rightsIn, callFor, callIn}
+use Rattle.script_records.specs.declared.Record.{Record}
+use Rattle.script_records.specs.Script.{kindOf}
+use Rattle.script_records.specs.Parsed.{rightsFor, rightsIn, callFor, callIn}
 use Rattle.engine.specs.declared.replies.Reply.{Reply}
 use Rattle.engine.specs.Replies.{replyOf, Returns}
 use Rattle.running.specs.Given.{Given}

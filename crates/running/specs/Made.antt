@@ -14,7 +14,7 @@ use Rattle.model.specs.Perform as model
 use Rattle.model.specs.Memory.{Fit, After, badSizes, badLengths, made, notSound, performed, zeroed}
 use Rattle.model.specs.Checked.Script.{scriptSizes}
 use Rattle.book.specs.Lent.{demand3-lent}
-use Rattle.records.specs.Script.{scriptCalls}
+use Rattle.script_records.specs.Script.{scriptCalls}
 use Rattle.engine.specs.declared.replies.Reply.{Reply}
 use Rattle.engine.specs.Replies.{replyOf, Returns}
 use Rattle.engine.specs.Finish.{zeroed-clear}

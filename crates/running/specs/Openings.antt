@@ -7,7 +7,7 @@ use Rattle.model.specs.Perform.{Call}
 use Rattle.engine.specs.declared.replies.Reply.{Reply}
 use Rattle.engine.specs.declared.replies.DomainReply.{DomainReply}
 use Rattle.laws.specs.Cases.{eqb-t, eqb-f}
-use Rattle.records.specs.Script.{handle, managerOf}
+use Rattle.script_records.specs.Script.{handle, managerOf}
 use Rattle.engine.specs.Replies.{replyOf, domainReplyOf, Returns}
 
 abbrev pub slotReply : DomainReply → Reply

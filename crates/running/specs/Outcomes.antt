@@ -6,11 +6,11 @@ use native.Mathlib.Omega.{arith}
 use lib.ListN.{length}
 use Rattle.model.specs.Perform.{Answer}
 use Rattle.model.specs.Memory.{After}
-use Rattle.records.specs.declared.Record.{Record}
-use Rattle.records.specs.declared.Parsed.{Parsed}
-use Rattle.records.specs.declared.Parsed.the-variants as found
-use Rattle.records.specs.Parsed.{sizeOf, callIn, parsed}
-use Rattle.records.specs.Words.{call-size}
+use Rattle.script_records.specs.declared.Record.{Record}
+use Rattle.script_records.specs.declared.Parsed.{Parsed}
+use Rattle.script_records.specs.declared.Parsed.the-variants as found
+use Rattle.script_records.specs.Parsed.{sizeOf, callIn, parsed}
+use Rattle.script_records.specs.Words.{call-size}
 use Rattle.running.specs.declared.scripts.Ran.{Ran}
 use Rattle.running.specs.declared.scripts.Taken.{Taken}
 use Rattle.running.specs.declared.scripts.Taken.the-variants.{Short, Bad, Done}

@@ -11,14 +11,14 @@ use Rattle.model.specs.Perform.{Call, Answer}
 use Rattle.model.specs.CallWords.{CallWords}
 use Rattle.model.specs.Memory.{After, badSizes, badLengths, made, notSound, performed, held, zeroed}
 use Rattle.book.specs.Lent.{Chain}
-use Rattle.records.specs.declared.Record.{Record}
-use Rattle.records.specs.declared.Parsed.the-variants as found
-use Rattle.records.specs.Script.{ahead, scriptCalls}
-use Rattle.records.specs.Parsed.{sizeOf, callIn, parsed}
-use Rattle.records.specs.Numbers.{Bytes}
-use Rattle.records.specs.Words.{call-size, call-words}
-use Rattle.records.specs.Scripts.{script-ended}
-use Rattle.records.specs.Streams.{stream-call, stream-bad, stream-cut}
+use Rattle.script_records.specs.declared.Record.{Record}
+use Rattle.script_records.specs.declared.Parsed.the-variants as found
+use Rattle.script_records.specs.Script.{ahead, scriptCalls}
+use Rattle.script_records.specs.Parsed.{sizeOf, callIn, parsed}
+use Rattle.script_records.specs.Numbers.{Bytes}
+use Rattle.script_records.specs.Words.{call-size, call-words}
+use Rattle.script_records.specs.Scripts.{script-ended}
+use Rattle.script_records.specs.Streams.{stream-call, stream-bad, stream-cut}
 use Rattle.engine.specs.declared.replies.Reply.{Reply}
 use Rattle.running.specs.declared.scripts.Place.{Place}
 use Rattle.running.specs.declared.scripts.Ran.{Ran}

@@ -2,10 +2,10 @@
 use mathlib.Core.Path.{_≡_, refl, sym, ap, subst, _∙_}
 use Prim.Native.Nat.{ℕ}
 use mathlib.Core.List.{List}
-use Rattle.records.specs.declared.Record.{Record}
-use Rattle.records.specs.declared.Parsed.{Parsed}
-use Rattle.records.specs.declared.Parsed.the-variants as parsed
-use Rattle.records.specs.Parsed.{sizeOf, callIn}
+use Rattle.script_records.specs.declared.Record.{Record}
+use Rattle.script_records.specs.declared.Parsed.{Parsed}
+use Rattle.script_records.specs.declared.Parsed.the-variants as parsed
+use Rattle.script_records.specs.Parsed.{sizeOf, callIn}
 use Rattle.engine.specs.declared.replies.Reply.{Reply}
 use Rattle.engine.specs.Replies.{replyOf, Returns}
 use Rattle.running.specs.declared.scripts.Taken.{Taken}

@@ -3,8 +3,8 @@ ghost use mathlib.Core.Path.{_≡_};
 ghost use Prim.Native.Nat.{_≤_};
 ghost use Rattle.model.specs.Perform.{Call};
 ghost use Rattle.engine.specs.Replies.{replyOf, Returns};
-ghost use Rattle.records.specs.Script.{managerOf};
-ghost use Rattle.records.specs.Parsed.{callIn};
+ghost use Rattle.script_records.specs.Script.{managerOf};
+ghost use Rattle.script_records.specs.Parsed.{callIn};
 ghost use Rattle.running.specs.Given.{Given};
 ghost use Rattle.running.specs.Openings.{slotReply};
 use engine::DomainReply;
@@ -12,7 +12,7 @@ use engine::Reply;
 use engine::capas;
 use engine::domains;
 use engine::regions;
-use records::Record;
+use script_records::Record;
 
 // "slot 2^64 − 1 is no manager".
 const NO_MANAGER: u64 = 18446744073709551615;

@@ -1,14 +1,14 @@
 // Records taken from the bytes at hand, one by one.
 ghost use mathlib.Core.Path.{_≡_};
 ghost use Prim.Native.Nat.{_+_, _<_, _^_};
-ghost use Rattle.records.specs.Parsed.{parsed};
+ghost use Rattle.script_records.specs.Parsed.{parsed};
 ghost use Rattle.running.specs.Takes.{Takes};
 ghost use Rattle.running.specs.Halfway.{RunsAll};
 ghost use Rattle.running.specs.Dealt.{Dealt};
 use crate::perform;
 use engine::Reply;
 use engine::make;
-use records::Parsed;
+use script_records::Parsed;
 
 // A record that was run: what its call replied, and the bytes that it took.
 pub struct Ran {
@@ -29,12 +29,12 @@ pub enum Taken {
 pub fn take(b: &[u8], t: &mut [u64], w: &mut [u64]) -> Taken
     ensures { λ x. ⌜ Takes (parsed (now (b .entry))) (now (t .entry)) (now (w .entry)) x (now (t .exit)) (now (w .exit)) ⌝ }
 {
-    match records::parse(b) {
+    match script_records::parse(b) {
         Parsed::Short => Taken::Short,
         Parsed::Bad => Taken::Bad,
         Parsed::Call(r) => Taken::Done(Ran {
             reply: perform::run(t, w, r),
-            size: records::size_of(r.kind),
+            size: script_records::size_of(r.kind),
         }),
     }
 }

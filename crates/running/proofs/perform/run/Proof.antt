@@ -1,5 +1,5 @@
 -- By the kind; the kinds that are left lie in the range that the next function takes.
-use Rattle.records.specs.Script.{kindOf}
+use Rattle.script_records.specs.Script.{kindOf}
 use Rattle.running.specs.Kinds.{returns-at}
 use borrow.Author.Needs.{needs}
 use Rattle.running.proofs.perform.run.Statement.{statement}

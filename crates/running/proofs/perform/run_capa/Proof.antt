@@ -1,6 +1,6 @@
 -- By the kind, as for regions.
 use native.Mathlib.Omega.{arith}
-use Rattle.records.specs.Script.{kindOf}
+use Rattle.script_records.specs.Script.{kindOf}
 use Rattle.running.specs.Kinds.{returns-at}
 use borrow.Author.Needs.{needs}
 use Rattle.running.proofs.perform.run_capa.Statement.{statement}

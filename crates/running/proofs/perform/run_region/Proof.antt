@@ -1,6 +1,6 @@
 -- By the kind: what the exported call returns is stated of the call that the kind names, which is the record's.
 use native.Mathlib.Omega.{arith}
-use Rattle.records.specs.Script.{kindOf}
+use Rattle.script_records.specs.Script.{kindOf}
 use Rattle.running.specs.Kinds.{returns-at, rights-at}
 use borrow.Author.Needs.{needs}
 use Rattle.running.proofs.perform.run_region.Statement.{statement}

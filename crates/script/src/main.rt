@@ -1,0 +1,158 @@
+// The script program (document 01, "The script program"): runs the records of standard input on tables of its own and prints a line for
+// each, then what the domains reach, and then the queue. No contract can say what is read or printed: the calls' contracts are those of crate
+// running, the lists' of crates listing and engine. Here it is proved that every byte of a line has its place, and that reading on loses none.
+ghost use Prim.Native.Nat.{_+_, _≤_};
+ghost use lib.ListN.{length};
+ghost use Rattle.tables.specs.View.{Sized};
+use engine::Reply;
+use engine::make;
+use engine::queue;
+use input::Hand;
+use running::Taken;
+
+pub mod input;
+pub mod output;
+
+// The words of tables of 8 domains, 16 slots, 128 regions, 128 records and 32 updates.
+const WORDS: usize = 3273;
+
+// Bytes of input, and of output, that are held at a time.
+const BYTES: usize = 16384;
+
+// What a record left: the bytes of output, and how many it took of the input, 0 where reading ends.
+struct Step {
+    n: usize,
+    size: usize,
+}
+
+// The line of a bad or cut record, "and ends reading".
+fn bad(text: &mut [u8], n: usize, k: u64) -> Step
+    requires { ⌜ n + 128 ≤ length (now text) ⌝ }
+    ensures { λ x. ⌜ (x .n ≤ n + 128) × (x .size ≤ 0) ⌝ }
+{
+    let y = Reply {
+        refusal: 17,
+        value: 0,
+    };
+    Step {
+        n: output::call_line(text, n, k, y),
+        size: 0,
+    }
+}
+
+// The k-th record, at the front of the bytes at hand.
+fn turn(b: &[u8], text: &mut [u8], n: usize, k: u64, t: &mut [u64], w: &mut [u64]) -> Step
+    requires { ⌜ n + 128 ≤ length (now text) ⌝ }
+    ensures { λ x. ⌜ (x .n ≤ n + 128) × (x .size ≤ length (now (b .entry))) ⌝ }
+{
+    match running::take(b, t, w) {
+        Taken::Short => bad(text, n, k),
+        Taken::Bad => bad(text, n, k),
+        Taken::Done(x) => {
+            let y = x.reply;
+            Step {
+                n: output::call_line(text, n, k, y),
+                size: x.size,
+            }
+        }
+    }
+}
+
+// All records of the input; answers the bytes of output that are left to write.
+fn run_records(b: &mut [u8], text: &mut [u8], t: &mut [u64], w: &mut [u64]) -> usize
+    requires { ⌜ 128 ≤ length (now text) ⌝ }
+    ensures { λ r. ⌜ r ≤ length (now (text .entry)) ⌝ }
+{
+    let mut h = Hand {
+        at: 0,
+        end: 0,
+        more: true,
+    };
+    let mut n = 0;
+    let mut k = 1;
+    while k < u64::MAX {
+        h = input::ready(b, h);
+        let at = h.at;
+        let end = h.end;
+        if at == end {
+            return n;
+        }
+        n = output::room(text, n);
+        let x = turn(&b[at..end], text, n, k, t, w);
+        n = x.n;
+        if x.size == 0 {
+            return n;
+        }
+        h.at = at + x.size;
+        k += 1;
+    }
+    n
+}
+
+// "one line for each permission record" of domain slot d.
+fn list_domain(text: &mut [u8], n: usize, t: &[u64], d: usize) -> usize
+    requires { ⌜ n ≤ length (now text) ⌝ }
+    requires { ⌜ 128 ≤ length (now text) ⌝ }
+    requires { ⌜ Sized (now t) ⌝ }
+    ensures { λ r. ⌜ r ≤ length (now (text .entry)) ⌝ }
+{
+    let mut run = [0u64; 640];
+    let lines = listing::fill_lines(t, d, &mut run);
+    let mut m = n;
+    let mut i = 0;
+    while i < lines {
+        m = output::room(text, m);
+        m = output::domain_line(text, m, &run, 5 * i);
+        i += 1;
+    }
+    m
+}
+
+// "domain slots rising".
+fn list_domains(text: &mut [u8], n: usize, t: &[u64]) -> usize
+    requires { ⌜ n ≤ length (now text) ⌝ }
+    requires { ⌜ 128 ≤ length (now text) ⌝ }
+    ensures { λ r. ⌜ r ≤ length (now (text .entry)) ⌝ }
+{
+    let mut m = n;
+    if tables::is_sized(t) {
+        let mut d = 0;
+        while d < 8 {
+            m = list_domain(text, m, t, d);
+            d += 1;
+        }
+    }
+    m
+}
+
+// "Then the queue, oldest first".
+fn list_queue(text: &mut [u8], n: usize, t: &mut [u64], w: &mut [u64]) -> usize
+    requires { ⌜ n ≤ length (now text) ⌝ }
+    requires { ⌜ 128 ≤ length (now text) ⌝ }
+    ensures { λ r. ⌜ r ≤ length (now (text .entry)) ⌝ }
+{
+    let mut m = n;
+    let mut left: usize = 32;
+    while 0 < left {
+        let u = queue::mityvurno_pop(t, w);
+        if u.kind == 0 {
+            return m;
+        }
+        m = output::room(text, m);
+        m = output::queue_line(text, m, u);
+        left -= 1;
+    }
+    m
+}
+
+fn main() {
+    let mut t = [0u64; WORDS];
+    let mut w = [0u64; WORDS];
+    let mut b = [0u8; BYTES];
+    let mut text = [0u8; BYTES];
+    make::mityvurno_make_tables(&mut t, &mut w, 8, 16, 128, 128, 32);
+    let n = run_records(&mut b, &mut text, &mut t, &mut w);
+    let m = list_domains(&mut text, n, &t);
+    let r = list_queue(&mut text, m, &mut t, &mut w);
+    output::write(&text, r);
+}
