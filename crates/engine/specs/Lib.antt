@@ -1,6 +1,3 @@
-pub mod Replies
-pub mod Finish
-pub mod Law
 pub mod Others
 pub mod Made
 pub mod Lookup

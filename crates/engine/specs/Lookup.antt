@@ -30,9 +30,9 @@ use Rattle.refine.specs.Tables.{tablesOf}
 use Rattle.refine.specs.Words.{words-held}
 use Rattle.refine.specs.Agrees.{Agrees, same-number}
 use Rattle.refine.specs.Calls.Checks.{live-domain-refines}
-use Rattle.engine.specs.Replies.{handle}
-use Rattle.engine.specs.Finish.{admitted}
-use Rattle.engine.specs.Law.{lent, not-admitted, admitted-sized}
+use Rattle.frame.specs.Replies.{handle}
+use Rattle.frame.specs.Finish.{admitted}
+use Rattle.frame.specs.Law.{lent, not-admitted, admitted-sized}
 
 abbrev named : ℕ → ℕ → tables.Handle
 named domain generation = record { slot = domain; generation = generation }

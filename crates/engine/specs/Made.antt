@@ -29,9 +29,9 @@ use Rattle.refine.specs.Sizes.{good-sizes}
 use Rattle.refine.specs.Tables.{sizesFor, tablesOf}
 use Rattle.refine.specs.Words.{view-words, words-sized}
 use Rattle.refine.specs.Making.{empty-words}
-use Rattle.engine.specs.declared.replies.Reply as replies
-use Rattle.engine.specs.Replies.{replyOf, Returns}
-use Rattle.engine.specs.Finish.{replyFor, zeroed-long}
+use Rattle.frame.specs.declared.replies.Reply as replies
+use Rattle.frame.specs.Replies.{replyOf, Returns}
+use Rattle.frame.specs.Finish.{replyFor, zeroed-long}
 
 sizes-seen : (t : List ℕ) → view t .sizes ≡ sizesOf t
 unfolding view ofParts

@@ -30,12 +30,12 @@ use Rattle.refine.specs.Tables.{poolOf, tablesOf}
 use Rattle.refine.specs.Words.{words-held, held-words}
 use Rattle.refine.specs.Queue.RingSteps.{itemFor}
 use Rattle.refine.specs.Calls.Performs.{pop-performs, opened-handle}
-use Rattle.engine.specs.declared.replies.Reply as replies
-use Rattle.engine.specs.declared.replies.DomainReply.{DomainReply}
-use Rattle.engine.specs.declared.replies.UpdateReply.{UpdateReply}
-use Rattle.engine.specs.Replies.{replyOf, domainReplyOf, updateReplyOf, Returns}
-use Rattle.engine.specs.Finish.{admitted, openedFor}
-use Rattle.engine.specs.Law.{Ran, lent, step-returns}
+use Rattle.frame.specs.declared.replies.Reply as replies
+use Rattle.frame.specs.declared.replies.DomainReply.{DomainReply}
+use Rattle.frame.specs.declared.replies.UpdateReply.{UpdateReply}
+use Rattle.frame.specs.Replies.{replyOf, domainReplyOf, updateReplyOf, Returns}
+use Rattle.frame.specs.Finish.{admitted, openedFor}
+use Rattle.frame.specs.Law.{Ran, lent, step-returns}
 
 -- neither making nor the holders of an address
 abbrev Plain : Call → Type 0

@@ -24,10 +24,10 @@ use Rattle.readings.specs.Readings.{permissionList, planOf}
 use Rattle.readings.specs.Listing.{runAt, plan-run, plan-turns}
 use Rattle.refine.specs.Agrees.{bind-assoc}
 use Rattle.refine.specs.Calls.ReadingCalls.{permissionIn, permissions-are, fill-same, fill-map}
-use Rattle.engine.specs.declared.replies.Reply as replies
+use Rattle.frame.specs.declared.replies.Reply as replies
 use Rattle.engine.specs.declared.read.Listing.{Listing}
-use Rattle.engine.specs.Replies.{handle, accessOf, ListsPermissions}
-use Rattle.engine.specs.Finish.{replyFor}
+use Rattle.frame.specs.Replies.{handle, accessOf, ListsPermissions}
+use Rattle.frame.specs.Finish.{replyFor}
 use Rattle.engine.specs.Others.{no-make, no-holders}
 use Rattle.engine.specs.Lookup.{domainRead, Reads, Live, Refuses, live-after, read-sized}
 use Rattle.engine.specs.Readings.{is-live, is-refused}

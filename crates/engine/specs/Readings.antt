@@ -27,10 +27,10 @@ use Rattle.refine.specs.Tables.{tablesOf}
 use Rattle.refine.specs.Words.{words-held}
 use Rattle.refine.specs.Agrees.{bind-assoc}
 use Rattle.refine.specs.Calls.ReadingCalls.{refcount-is, cores-are, holders-are, fill-same}
-use Rattle.engine.specs.declared.replies.Reply as replies
-use Rattle.engine.specs.Replies.{handle, replyOf, Returns, ListsHolders}
-use Rattle.engine.specs.Finish.{admitted, replyFor}
-use Rattle.engine.specs.Law.{lent, not-admitted}
+use Rattle.frame.specs.declared.replies.Reply as replies
+use Rattle.frame.specs.Replies.{handle, replyOf, Returns, ListsHolders}
+use Rattle.frame.specs.Finish.{admitted, replyFor}
+use Rattle.frame.specs.Law.{lent, not-admitted}
 use Rattle.engine.specs.Others.{no-make, no-holders}
 use Rattle.engine.specs.Lookup.{domainRead, Reads, Live, Refuses, Says, read-says, live-after}
 

@@ -1,10 +1,9 @@
 // Capabilities sent and revoked.
 ghost use Rattle.model.specs.Perform.{Call};
-ghost use Rattle.engine.specs.Replies.{handle, replyOf, Returns};
-use crate::frame;
-use crate::replies;
-use crate::replies::Reply;
+ghost use Rattle.frame.specs.Replies.{handle, replyOf, Returns};
 use answers::Refusal;
+use frame::Reply;
+use frame::replies;
 use tables::Handle;
 
 // The value is the slot in the list of the domain that the target names.

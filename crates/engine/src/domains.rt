@@ -3,13 +3,12 @@ ghost use mathlib.Core.Path.{_≡_};
 ghost use Rattle.model.specs.Perform.{Call};
 ghost use Rattle.tables.specs.View.{view, Sized};
 ghost use mathlib.Core.Option.{none, some};
-ghost use Rattle.engine.specs.Replies.{handle, replyOf, domainReplyOf, Returns};
-ghost use Rattle.engine.specs.Finish.{openedFor};
-use crate::frame;
-use crate::replies;
-use crate::replies::DomainReply;
-use crate::replies::Reply;
+ghost use Rattle.frame.specs.Replies.{handle, replyOf, domainReplyOf, Returns};
+ghost use Rattle.frame.specs.Finish.{openedFor};
 use answers::Refusal;
+use frame::DomainReply;
+use frame::Reply;
+use frame::replies;
 use tables::Handle;
 
 // An accepted opening's slot, with the generation that it has.

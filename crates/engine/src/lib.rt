@@ -2,13 +2,7 @@
 // Each is handed tables and a work area and trusts neither: no contract here has a precondition.
 pub mod capas;
 pub mod domains;
-pub mod frame;
 pub mod make;
 pub mod queue;
 pub mod read;
 pub mod regions;
-pub mod replies;
-
-pub use replies::DomainReply;
-pub use replies::Reply;
-pub use replies::UpdateReply;

@@ -1,9 +1,9 @@
 // Making empty tables: the sizes are tested first, then the lengths alone.
 ghost use Rattle.model.specs.Perform.{Call};
-ghost use Rattle.engine.specs.Replies.{sizes, replyOf, Returns};
-use crate::replies;
-use crate::replies::Reply;
+ghost use Rattle.frame.specs.Replies.{sizes, replyOf, Returns};
 use answers::Refusal;
+use frame::Reply;
+use frame::replies;
 use tables::Sizes;
 
 #[no_mangle]

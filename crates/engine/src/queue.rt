@@ -1,8 +1,7 @@
 // The queue of updates.
 ghost use Rattle.model.specs.Perform.{Call};
-ghost use Rattle.engine.specs.Replies.{updateReplyOf, Returns};
-use crate::frame;
-use crate::replies::UpdateReply;
+ghost use Rattle.frame.specs.Replies.{updateReplyOf, Returns};
+use frame::UpdateReply;
 use tables::Update;
 
 // The oldest update leaves the queue; none where it is empty.

@@ -2,14 +2,13 @@
 ghost use mathlib.Core.Path.{_≡_};
 ghost use Rattle.model.specs.Memory.{zeroed};
 ghost use Rattle.model.specs.Perform.{Call};
-ghost use Rattle.engine.specs.Replies.{handle, replyOf, Returns, ListsPermissions, ListsHolders};
+ghost use Rattle.frame.specs.Replies.{handle, replyOf, Returns, ListsPermissions, ListsHolders};
 ghost use Rattle.engine.specs.Lookup.{domainRead};
 ghost use Rattle.engine.specs.Permissions.{Plans};
-use crate::frame;
-use crate::replies;
-use crate::replies::Reply;
 use answers::Answer;
 use answers::Refusal;
+use frame::Reply;
+use frame::replies;
 use readings::Permission;
 use tables::Handle;
 

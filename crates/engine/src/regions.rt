@@ -1,10 +1,9 @@
 // Regions made: roots, aliases, carves.
 ghost use Rattle.model.specs.Perform.{Call};
-ghost use Rattle.engine.specs.Replies.{handle, access, replyOf, Returns};
-use crate::frame;
-use crate::replies;
-use crate::replies::Reply;
+ghost use Rattle.frame.specs.Replies.{handle, access, replyOf, Returns};
 use answers::Refusal;
+use frame::Reply;
+use frame::replies;
 use region::AccessRights;
 use rights::Rights;
 use tables::Handle;

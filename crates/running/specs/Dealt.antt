@@ -14,7 +14,7 @@ use Rattle.book.specs.Book.{blank}
 use Rattle.book.specs.Demand3.{noteAll}
 use Rattle.book.specs.Lent.{Chain, ClaimsOf}
 use Rattle.script_records.specs.Script.{scriptCalls}
-use Rattle.engine.specs.declared.replies.Reply.{Reply}
+use Rattle.frame.specs.declared.replies.Reply.{Reply}
 
 -- The reply to a script: 17 where a bad record "ends reading", else 0, and the number of calls that were run.
 abbrev pub scriptReply : List Call × Bool → Reply

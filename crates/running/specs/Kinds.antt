@@ -6,8 +6,8 @@ use Rattle.model.specs.Perform.{Call}
 use Rattle.script_records.specs.declared.Record.{Record}
 use Rattle.script_records.specs.Script.{kindOf}
 use Rattle.script_records.specs.Parsed.{rightsFor, rightsIn, callFor, callIn}
-use Rattle.engine.specs.declared.replies.Reply.{Reply}
-use Rattle.engine.specs.Replies.{replyOf, Returns}
+use Rattle.frame.specs.declared.replies.Reply.{Reply}
+use Rattle.frame.specs.Replies.{replyOf, Returns}
 use Rattle.running.specs.Given.{Given}
 
 module _ (k : ℕ) (r : Record) (e : r .kind ≡ k) where

@@ -15,9 +15,9 @@ use Rattle.model.specs.Memory.{Fit, After, badSizes, badLengths, made, notSound
 use Rattle.model.specs.Checked.Script.{scriptSizes}
 use Rattle.book.specs.Lent.{demand3-lent}
 use Rattle.script_records.specs.Script.{scriptCalls}
-use Rattle.engine.specs.declared.replies.Reply.{Reply}
-use Rattle.engine.specs.Replies.{replyOf, Returns}
-use Rattle.engine.specs.Finish.{zeroed-clear}
+use Rattle.frame.specs.declared.replies.Reply.{Reply}
+use Rattle.frame.specs.Replies.{replyOf, Returns}
+use Rattle.frame.specs.Finish.{zeroed-clear}
 use Rattle.running.specs.Dealt.{Dealt}
 use Rattle.running.specs.Halfway.{RunsAll}
 

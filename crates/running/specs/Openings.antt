@@ -4,11 +4,11 @@ use Prim.Native.Nat.{ℕ, _-_, _^_}
 use mathlib.Core.Option.{none, some}
 use mathlib.Core.List.{List}
 use Rattle.model.specs.Perform.{Call}
-use Rattle.engine.specs.declared.replies.Reply.{Reply}
-use Rattle.engine.specs.declared.replies.DomainReply.{DomainReply}
+use Rattle.frame.specs.declared.replies.Reply.{Reply}
+use Rattle.frame.specs.declared.replies.DomainReply.{DomainReply}
 use Rattle.laws.specs.Cases.{eqb-t, eqb-f}
 use Rattle.script_records.specs.Script.{handle, managerOf}
-use Rattle.engine.specs.Replies.{replyOf, domainReplyOf, Returns}
+use Rattle.frame.specs.Replies.{replyOf, domainReplyOf, Returns}
 
 abbrev pub slotReply : DomainReply → Reply
 slotReply x = record { refusal = x .refusal; value = x .slot }

@@ -2,16 +2,16 @@
 ghost use mathlib.Core.Path.{_≡_};
 ghost use Prim.Native.Nat.{_≤_};
 ghost use Rattle.model.specs.Perform.{Call};
-ghost use Rattle.engine.specs.Replies.{replyOf, Returns};
+ghost use Rattle.frame.specs.Replies.{replyOf, Returns};
 ghost use Rattle.script_records.specs.Script.{managerOf};
 ghost use Rattle.script_records.specs.Parsed.{callIn};
 ghost use Rattle.running.specs.Given.{Given};
 ghost use Rattle.running.specs.Openings.{slotReply};
-use engine::DomainReply;
-use engine::Reply;
 use engine::capas;
 use engine::domains;
 use engine::regions;
+use frame::DomainReply;
+use frame::Reply;
 use script_records::Record;
 
 // "slot 2^64 − 1 is no manager".

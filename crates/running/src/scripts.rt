@@ -6,8 +6,8 @@ ghost use Rattle.running.specs.Takes.{Takes};
 ghost use Rattle.running.specs.Halfway.{RunsAll};
 ghost use Rattle.running.specs.Dealt.{Dealt};
 use crate::perform;
-use engine::Reply;
 use engine::make;
+use frame::Reply;
 use script_records::Parsed;
 
 // A record that was run: what its call replied, and the bytes that it took.

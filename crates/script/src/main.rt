@@ -4,9 +4,9 @@
 ghost use Prim.Native.Nat.{_+_, _≤_};
 ghost use lib.ListN.{length};
 ghost use Rattle.tables.specs.View.{Sized};
-use engine::Reply;
 use engine::make;
 use engine::queue;
+use frame::Reply;
 use input::Hand;
 use running::Taken;
 

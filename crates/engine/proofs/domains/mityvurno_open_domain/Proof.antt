@@ -2,9 +2,9 @@
 use denote.Ref.{now}
 use mathlib.Core.Option.{none}
 use Rattle.model.specs.Perform.{Call}
-use Rattle.engine.specs.Replies.{domainReplyOf}
-use Rattle.engine.specs.Finish.{each-word}
-use Rattle.engine.specs.Law.{ran, memory-returns, admitted-sized, not-make}
+use Rattle.frame.specs.Replies.{domainReplyOf}
+use Rattle.frame.specs.Finish.{each-word}
+use Rattle.frame.specs.Law.{ran, memory-returns, admitted-sized, not-make}
 use Rattle.engine.specs.Others.{ran-sized, open-returns}
 use borrow.Author.Needs.{needs}
 use Rattle.engine.proofs.domains.mityvurno_open_domain.Statement.{statement}

@@ -1,6 +1,6 @@
 -- By whether the opening was accepted.
 use borrow.Author.Tests.{eq-eqb, ne-eqb}
-use Rattle.engine.specs.Finish.{openedFor}
+use Rattle.frame.specs.Finish.{openedFor}
 use borrow.Author.Needs.{needs}
 use Rattle.engine.proofs.domains.opened.Statement.{statement}
 use Rattle.engine.proofs.domains.opened.Tie as tie

@@ -4,7 +4,7 @@ use denote.Ref.{now}
 use borrow.Author.Tests.{not-false, eqb-true}
 use Rattle.words.specs.Cases.{both-true}
 use Rattle.tables.specs.Limits.{limits-true}
-use Rattle.engine.specs.Replies.{sizes}
+use Rattle.frame.specs.Replies.{sizes}
 use Rattle.engine.specs.Made.{sizes-refused, lengths-refused, tables-made}
 use borrow.Author.Needs.{needs}
 use Rattle.engine.proofs.make.mityvurno_make_tables.Statement.{statement}

@@ -2,9 +2,9 @@
 use mathlib.Core.Path.{refl, sym, _∙_}
 use denote.Ref.{now}
 use Rattle.model.specs.Perform.{Call}
-use Rattle.engine.specs.Replies.{updateReplyOf}
-use Rattle.engine.specs.Finish.{each-word, kept-clear}
-use Rattle.engine.specs.Law.{memory-returns, admitted-sized}
+use Rattle.frame.specs.Replies.{updateReplyOf}
+use Rattle.frame.specs.Finish.{each-word, kept-clear}
+use Rattle.frame.specs.Law.{memory-returns, admitted-sized}
 use Rattle.engine.specs.Others.{pop-returns, no-make}
 use borrow.Author.Needs.{needs}
 use Rattle.engine.proofs.queue.mityvurno_pop.Statement.{statement}

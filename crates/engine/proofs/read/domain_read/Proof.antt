@@ -1,7 +1,7 @@
 -- The test of the memory; then that of the handle.
 use mathlib.Core.Path.{_∙_}
 use denote.Ref.{now}
-use Rattle.engine.specs.Law.{admitted-sized}
+use Rattle.frame.specs.Law.{admitted-sized}
 use Rattle.engine.specs.Lookup.{read-admitted, read-not-admitted}
 use borrow.Author.Needs.{needs}
 use Rattle.engine.proofs.read.domain_read.Statement.{statement}

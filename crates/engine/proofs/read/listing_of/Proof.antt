@@ -1,6 +1,6 @@
 -- Both tests; then the plan for a live domain, or none.
 use denote.Ref.{now}
-use Rattle.engine.specs.Finish.{each-word}
+use Rattle.frame.specs.Finish.{each-word}
 use Rattle.engine.specs.Lookup.{read-sized}
 use Rattle.engine.specs.Permissions.{plans-live, plans-refused}
 use borrow.Author.Needs.{needs}
@@ -9,7 +9,7 @@ use Rattle.engine.proofs.read.listing_of.Tie as tie
 use Rattle.engine.proofs.read.listing_of.Reads as reads
 use Rattle.engine.proofs.read.listing_of.Lts as lts
 use Rattle.engine.proofs.read.domain_read.Reads as domain-read-reads
-use Rattle.engine.proofs.replies.refused.Reads as refused-reads
+use Rattle.frame.proofs.replies.refused.Reads as refused-reads
 use Rattle.readings.proofs.plan_of.Reads as plan-of-reads
 
 -- src/read.rt:82:11

@@ -2,7 +2,7 @@
 use mathlib.Core.Path.{ap}
 use denote.Ref.{now}
 use Rattle.tables.specs.declared.DomainHead.{DomainHead}
-use Rattle.engine.specs.Finish.{each-word}
+use Rattle.frame.specs.Finish.{each-word}
 use Rattle.engine.specs.Lookup.{read-sized}
 use Rattle.engine.specs.Readings.{cores-returns, cores-refused}
 use borrow.Author.Needs.{needs}

@@ -1,6 +1,6 @@
 -- Both tests; then what is read of a live domain, or the refusal.
 use denote.Ref.{now}
-use Rattle.engine.specs.Finish.{each-word}
+use Rattle.frame.specs.Finish.{each-word}
 use Rattle.engine.specs.Lookup.{read-sized}
 use Rattle.engine.specs.Readings.{refcount-returns, refcount-refused}
 use borrow.Author.Needs.{needs}

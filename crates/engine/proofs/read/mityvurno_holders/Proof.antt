@@ -1,7 +1,7 @@
 -- The test of the memory; then the holders of the tables are those of the model.
 use denote.Ref.{now}
-use Rattle.engine.specs.Finish.{each-word}
-use Rattle.engine.specs.Law.{admitted-sized}
+use Rattle.frame.specs.Finish.{each-word}
+use Rattle.frame.specs.Law.{admitted-sized}
 use Rattle.engine.specs.Readings.{holders-returns, holders-refused}
 use borrow.Author.Needs.{needs}
 use Rattle.engine.proofs.read.mityvurno_holders.Statement.{statement}

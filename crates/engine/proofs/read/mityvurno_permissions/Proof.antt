@@ -49,9 +49,9 @@ use Rattle.readings.proofs.found_at.Symbol as found-at-def
 use Rattle.readings.proofs.found_at.Symbol.{name as #found-at}
 use Rattle.readings.proofs.found_at.Met as found-at-thm
 use Rattle.engine.specs.declared.read.Listing.{Listing}
-use Rattle.engine.specs.Replies.{handle}
+use Rattle.frame.specs.Replies.{handle}
 use Rattle.engine.specs.Permissions.{Plans}
-use Rattle.engine.proofs.replies.Reply.Laws as R′
+use Rattle.frame.proofs.replies.Reply.Laws as R′
 use Rattle.engine.proofs.read.Listing as P
 use Rattle.engine.proofs.read.Listing.Laws as P′
 use Rattle.engine.proofs.read.listing_of as listing-of

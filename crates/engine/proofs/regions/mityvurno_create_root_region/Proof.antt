@@ -1,9 +1,9 @@
 -- The test; the call on admitted tables; what is kept of it.
 use denote.Ref.{now}
 use Rattle.model.specs.Perform.{Call}
-use Rattle.engine.specs.Replies.{replyOf}
-use Rattle.engine.specs.Finish.{each-word}
-use Rattle.engine.specs.Law.{call-returns, memory-returns, admitted-sized, not-make}
+use Rattle.frame.specs.Replies.{replyOf}
+use Rattle.frame.specs.Finish.{each-word}
+use Rattle.frame.specs.Law.{call-returns, memory-returns, admitted-sized, not-make}
 use borrow.Author.Needs.{needs}
 use Rattle.engine.proofs.regions.mityvurno_create_root_region.Statement.{statement}
 use Rattle.engine.proofs.regions.mityvurno_create_root_region.Tie as tie

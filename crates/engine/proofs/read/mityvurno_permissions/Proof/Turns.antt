@@ -53,10 +53,10 @@ use Rattle.readings.proofs.Found.Laws as F′
 use Rattle.readings.proofs.found_at as found-at
 use Rattle.readings.proofs.found_at.Symbol.{name as #found-at}
 use Rattle.engine.specs.declared.read.Listing.{Listing}
-use Rattle.engine.specs.Replies.{handle}
+use Rattle.frame.specs.Replies.{handle}
 use Rattle.engine.specs.Permissions.{Plans}
-use Rattle.engine.proofs.replies.Reply as R
-use Rattle.engine.proofs.replies.Reply.Laws as R′
+use Rattle.frame.proofs.replies.Reply as R
+use Rattle.frame.proofs.replies.Reply.Laws as R′
 use Rattle.engine.proofs.read.Listing as P
 use Rattle.engine.proofs.read.Listing.Laws as P′
 use Rattle.engine.proofs.read.mityvurno_permissions as permissions

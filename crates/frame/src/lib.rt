@@ -1,10 +1,14 @@
 // What every call does before and after its own work: test the lent memory, keep a copy of the tables, put it back, clear the work area.
 ghost use mathlib.Core.Path.{_≡_};
 ghost use Rattle.model.specs.Memory.{zeroed};
-ghost use Rattle.engine.specs.Finish.{admitted, kept, finished, replyFor};
-use crate::replies;
-use crate::replies::Reply;
+ghost use Rattle.frame.specs.Finish.{admitted, kept, finished, replyFor};
 use answers::Answer;
+
+pub mod replies;
+
+pub use replies::DomainReply;
+pub use replies::Reply;
+pub use replies::UpdateReply;
 
 // Whether the call may run: both lengths are right and the tables are sound. The work area is then all zero.
 pub fn admits(t: &[u64], w: &mut [u64]) -> bool

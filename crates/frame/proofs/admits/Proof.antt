@@ -2,10 +2,10 @@
 use mathlib.Core.Path.{sym, ap, _∙_}
 use denote.Ref.{now}
 use lib.ListN.{length}
-use Rattle.engine.specs.Finish.{admits-same, admits-other, zeroed-long, zeroed-clear}
+use Rattle.frame.specs.Finish.{admits-same, admits-other, zeroed-long, zeroed-clear}
 use borrow.Author.Needs.{needs}
-use Rattle.engine.proofs.frame.admits.Statement.{statement}
-use Rattle.engine.proofs.frame.admits.Tie as tie
+use Rattle.frame.proofs.admits.Statement.{statement}
+use Rattle.frame.proofs.admits.Tie as tie
 
 clear-requires : tie.Need-clear-requires
 clear-requires c κs = search needs

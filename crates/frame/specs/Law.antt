@@ -33,9 +33,9 @@ use Rattle.refine.specs.Agrees.{Agrees, refusalFor, same-number}
 use Rattle.refine.specs.Calls.Performs.{Stepped, stepFor, slotFrom, call-refines}
 use Rattle.sound.specs.Test.{isSound}
 use Rattle.exact.specs.Law.{sound-words, words-sound}
-use Rattle.engine.specs.declared.replies.Reply as replies
-use Rattle.engine.specs.Replies.{replyOf, Returns}
-use Rattle.engine.specs.Finish.{admitted, kept, kept-copy, kept-clear, finished, replyFor, copy-back}
+use Rattle.frame.specs.declared.replies.Reply as replies
+use Rattle.frame.specs.Replies.{replyOf, Returns}
+use Rattle.frame.specs.Finish.{admitted, kept, kept-copy, kept-clear, finished, replyFor, copy-back}
 
 -- ---- what is admitted
 

@@ -1,8 +1,8 @@
 -- By the answer.
 use mathlib.Core.Path.{refl}
 use borrow.Author.Needs.{needs}
-use Rattle.engine.proofs.frame.finish.Statement.{statement}
-use Rattle.engine.proofs.frame.finish.Tie as tie
+use Rattle.frame.proofs.finish.Statement.{statement}
+use Rattle.frame.proofs.finish.Tie as tie
 
 enum-known-a : tie.Need-enum-known-a
 enum-known-a c = search needs

@@ -18,8 +18,8 @@ use Rattle.answers.specs.declared.Answer.{Answer}
 use Rattle.answers.specs.declared.Answer.the-variants.{Done, Refused}
 use Rattle.answers.specs.Answers.{numberOf}
 use Rattle.sound.specs.Test.{isSound}
-use Rattle.engine.specs.declared.replies.Reply.{Reply}
-use Rattle.engine.specs.declared.replies.DomainReply.{DomainReply}
+use Rattle.frame.specs.declared.replies.Reply.{Reply}
+use Rattle.frame.specs.declared.replies.DomainReply.{DomainReply}
 use Rattle.tables.specs.Tables.{Tables}
 
 unfoldable pub admitted : List ℕ → List ℕ → Bool

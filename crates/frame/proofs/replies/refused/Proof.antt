@@ -1,7 +1,7 @@
 -- The number of the refusal.
 use borrow.Author.Needs.{needs}
-use Rattle.engine.proofs.replies.refused.Statement.{statement}
-use Rattle.engine.proofs.replies.refused.Tie as tie
+use Rattle.frame.proofs.replies.refused.Statement.{statement}
+use Rattle.frame.proofs.replies.refused.Tie as tie
 
 number-of-requires : tie.Need-number-of-requires
 number-of-requires c κs = search needs

@@ -9,9 +9,9 @@ use Rattle.model.specs.State.{Sizes, Handle, Access}
 use Rattle.model.specs.Perform.{Call, Answer, code, values}
 use Rattle.model.specs.Memory.{After, AfterPermissions, AfterHolders}
 use Rattle.readings.specs.declared.Permission.{Permission}
-use Rattle.engine.specs.declared.replies.Reply.{Reply}
-use Rattle.engine.specs.declared.replies.DomainReply.{DomainReply}
-use Rattle.engine.specs.declared.replies.UpdateReply.{UpdateReply}
+use Rattle.frame.specs.declared.replies.Reply.{Reply}
+use Rattle.frame.specs.declared.replies.DomainReply.{DomainReply}
+use Rattle.frame.specs.declared.replies.UpdateReply.{UpdateReply}
 
 -- ---- what is named in a call
 

@@ -1,7 +1,7 @@
 -- Each refusal has its number.
 use borrow.Author.Needs.{needs}
-use Rattle.engine.proofs.replies.number_of.Statement.{statement}
-use Rattle.engine.proofs.replies.number_of.Tie as tie
+use Rattle.frame.proofs.replies.number_of.Statement.{statement}
+use Rattle.frame.proofs.replies.number_of.Tie as tie
 
 enum-told : tie.Need-enum-told
 enum-told c = search needs

@@ -1,9 +1,9 @@
 -- The copy is taken where the test admits the memory.
 use mathlib.Core.Path.{sym, _∙_}
-use Rattle.engine.specs.Finish.{begun, kept-clear}
+use Rattle.frame.specs.Finish.{begun, kept-clear}
 use borrow.Author.Needs.{needs}
-use Rattle.engine.proofs.frame.begin.Statement.{statement}
-use Rattle.engine.proofs.frame.begin.Tie as tie
+use Rattle.frame.proofs.begin.Statement.{statement}
+use Rattle.frame.proofs.begin.Tie as tie
 
 admits-requires : tie.Need-admits-requires
 admits-requires c κs = search needs

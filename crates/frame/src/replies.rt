@@ -3,7 +3,7 @@
 ghost use mathlib.Core.Path.{_≡_};
 ghost use Rattle.answers.specs.Answers.{numberOf};
 ghost use Rattle.answers.specs.declared.Answer.the-variants.{Refused};
-ghost use Rattle.engine.specs.Finish.{replyFor};
+ghost use Rattle.frame.specs.Finish.{replyFor};
 use answers::Refusal;
 
 // The value is a local slot, or a number that was read.
