@@ -26,8 +26,8 @@ use Rattle.answers.specs.declared.Answer.the-variants.{Done, Refused}
 use Rattle.answers.specs.declared.Refusal.the-variants.{Memory}
 use Rattle.answers.specs.Answers.{Step, numberOf}
 use Rattle.calls.specs.Checks.{liveDomain}
-use Rattle.refine.specs.Tables.{tablesOf}
-use Rattle.refine.specs.Words.{words-held}
+use Rattle.decoded.specs.Tables.{tablesOf}
+use Rattle.decoded.specs.Words.{words-held}
 use Rattle.refine.specs.Agrees.{Agrees, same-number}
 use Rattle.refine.specs.Calls.Checks.{live-domain-refines}
 use Rattle.frame.specs.Replies.{handle}

@@ -25,9 +25,9 @@ use Rattle.tables.specs.View.{view, sizesOf, ofParts, Sized, total, layout}
 use Rattle.making.specs.Empty.{empty}
 use Rattle.answers.specs.declared.Refusal.the-variants as refusal
 use Rattle.answers.specs.declared.Answer.the-variants.{Refused}
-use Rattle.refine.specs.Sizes.{good-sizes}
-use Rattle.refine.specs.Tables.{sizesFor, tablesOf}
-use Rattle.refine.specs.Words.{view-words, words-sized}
+use Rattle.decoded.specs.Sizes.{good-sizes}
+use Rattle.decoded.specs.Tables.{sizesFor, tablesOf}
+use Rattle.decoded.specs.Words.{view-words, words-sized}
 use Rattle.refine.specs.Making.{empty-words}
 use Rattle.frame.specs.declared.replies.Reply as replies
 use Rattle.frame.specs.Replies.{replyOf, Returns}

@@ -26,8 +26,8 @@ use Rattle.tables.specs.View.{view, Sized, Left}
 use Rattle.update.specs.declared.Item.{Item}
 use Rattle.update.specs.Ring.{popOf}
 use Rattle.update.specs.Stored.{ringOf, withRingOf}
-use Rattle.refine.specs.Tables.{poolOf, tablesOf}
-use Rattle.refine.specs.Words.{words-held, held-words}
+use Rattle.decoded.specs.Tables.{poolOf, tablesOf}
+use Rattle.decoded.specs.Words.{words-held, held-words}
 use Rattle.refine.specs.Queue.RingSteps.{itemFor}
 use Rattle.refine.specs.Calls.Performs.{pop-performs, opened-handle}
 use Rattle.frame.specs.declared.replies.Reply as replies

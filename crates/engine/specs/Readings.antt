@@ -23,8 +23,8 @@ use Rattle.answers.specs.declared.Answer.the-variants.{Done, Refused}
 use Rattle.answers.specs.declared.Refusal.{Refusal}
 use Rattle.answers.specs.Answers.{numberOf}
 use Rattle.readings.specs.Readings as readings
-use Rattle.refine.specs.Tables.{tablesOf}
-use Rattle.refine.specs.Words.{words-held}
+use Rattle.decoded.specs.Tables.{tablesOf}
+use Rattle.decoded.specs.Words.{words-held}
 use Rattle.refine.specs.Agrees.{bind-assoc}
 use Rattle.refine.specs.Calls.ReadingCalls.{refcount-is, cores-are, holders-are, fill-same}
 use Rattle.frame.specs.declared.replies.Reply as replies

@@ -15,12 +15,12 @@ use Rattle.words.specs.Cases.{both-true}
 use Rattle.tables.specs.Tables.{Tables}
 use Rattle.tables.specs.View.{view, Sized}
 use Rattle.tables.specs.Tests.{sizedB, sized-true, true-sized}
-use Rattle.refine.specs.Rows.{map-up-length}
-use Rattle.refine.specs.Sizes.{limits-good}
-use Rattle.refine.specs.Shape.{Shaped}
-use Rattle.refine.specs.Decode.Read.{poolFrom, domainsFrom, regionsFrom, sizesFrom, stateOf}
-use Rattle.refine.specs.Settled.Tidy.{Tidy}
-use Rattle.refine.specs.Settled.Words.{SoundWords, view-shaped, tidy-words, words-tidy}
+use Rattle.decoded.specs.Rows.{map-up-length}
+use Rattle.decoded.specs.Sizes.{limits-good}
+use Rattle.decoded.specs.Shape.{Shaped}
+use Rattle.decoded.specs.Decode.Read.{poolFrom, domainsFrom, regionsFrom, sizesFrom, stateOf}
+use Rattle.decoded.specs.Settled.Tidy.{Tidy}
+use Rattle.decoded.specs.Settled.Words.{SoundWords, view-shaped, tidy-words, words-tidy}
 use Rattle.sound_pools.specs.Hold.{poolsHold}
 use Rattle.sound_tree.specs.Tree.{treeHolds}
 use Rattle.sound_capas.specs.Capas.{capasHold}

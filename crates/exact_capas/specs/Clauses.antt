@@ -7,9 +7,9 @@ use Rattle.model.specs.State as state
 use Rattle.model.specs.State.{Word}
 use Rattle.model.specs.Sound.{Sound, OnceEach, inUse, OwnerSound, ManagerSound, RevokeFit, HandleFit, QueueSound}
 use Rattle.tables.specs.Tables.{Tables, noUpdate}
-use Rattle.refine.specs.Shape.{Shaped}
-use Rattle.refine.specs.Decode.Read.{taken, stateOf}
-use Rattle.refine.specs.Settled.Tidy.{Tidy, PoolTidy, RegionTidy, UpdateTidy, domainRow, regionRow, place, behind}
+use Rattle.decoded.specs.Shape.{Shaped}
+use Rattle.decoded.specs.Decode.Read.{taken, stateOf}
+use Rattle.decoded.specs.Settled.Tidy.{Tidy, PoolTidy, RegionTidy, UpdateTidy, domainRow, regionRow, place, behind}
 
 -- ---- what is known before
 

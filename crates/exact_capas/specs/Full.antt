@@ -14,10 +14,10 @@ use Rattle.laws.specs.Stack.{one, one-at-most}
 use Rattle.laws.specs.Tree.Sum.{sum}
 use Rattle.laws.specs.Tree.Slots.{live-is}
 use Rattle.tables.specs.Tables.{Tables, noDomain, headAt, slotAt, regionAt}
-use Rattle.refine.specs.Shape.{Shaped}
-use Rattle.refine.specs.Decode.Read.{poolFrom, taken, linked, unlink, heldIn, domainFrom, domainsFrom, stateOf}
-use Rattle.refine.specs.Settled.Pools.{table-in}
-use Rattle.refine.specs.Settled.Tidy.{Tidy}
+use Rattle.decoded.specs.Shape.{Shaped}
+use Rattle.decoded.specs.Decode.Read.{poolFrom, taken, linked, unlink, heldIn, domainFrom, domainsFrom, stateOf}
+use Rattle.decoded.specs.Settled.Pools.{table-in}
+use Rattle.decoded.specs.Settled.Tidy.{Tidy}
 use Rattle.sound_capas.specs.Capas.{inUse, rowClaim, capaClaim, capasHold}
 use Rattle.exact_capas.specs.Fits.{FitFrom, times, By, by-times, count-sum, sum-below, out-holds}
 use Rattle.exact_capas.specs.Grid.{Rows, rows-fit, at-by, sum-twice, sum-some}

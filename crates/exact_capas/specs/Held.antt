@@ -19,10 +19,10 @@ use Rattle.laws.specs.Tree.Slots.{count-sum}
 use Rattle.tables.specs.declared.Handle.{Handle}
 use Rattle.tables.specs.declared.Slot.{Slot}
 use Rattle.tables.specs.Tables.{Tables, noDomain, noSlot, slotAt}
-use Rattle.refine.specs.Shape.{Shaped}
-use Rattle.refine.specs.Decode.Read.{capaFrom, heldIn}
-use Rattle.refine.specs.Settled.Domains.{held-at}
-use Rattle.refine.specs.Settled.Law.{each-at}
+use Rattle.decoded.specs.Shape.{Shaped}
+use Rattle.decoded.specs.Decode.Read.{capaFrom, heldIn}
+use Rattle.decoded.specs.Settled.Domains.{held-at}
+use Rattle.decoded.specs.Settled.Law.{each-at}
 use Rattle.exact_capas.specs.Reads.{yes-no}
 
 -- ---- the one capability of a region, and of a domain

@@ -13,8 +13,8 @@ use Rattle.tables.specs.declared.Handle.{Handle}
 use Rattle.tables.specs.declared.Slot.{Slot}
 use Rattle.tables.specs.Tables.{Tables, Arena, headAt, slotAt, regionAt}
 use Rattle.arena.specs.Arena.{liveB}
-use Rattle.refine.specs.Shape.{Shaped}
-use Rattle.refine.specs.Decode.Read.{taken}
+use Rattle.decoded.specs.Shape.{Shaped}
+use Rattle.decoded.specs.Decode.Read.{taken}
 use Rattle.sound_capas.specs.Capas.{number, wrong, namesB, olderB, claimBy, regionClaim, revokeClaim, managementClaim, channelClaim, slotClaim, climbed, headClaim, rowClaim}
 use Rattle.exact_capas.specs.Reads.{Lives, lives, live-at, not-free, free-is}
 

@@ -21,10 +21,10 @@ use Rattle.laws.specs.Tree.Sum.{sum, sum-get}
 use Rattle.tables.specs.declared.Handle.{Handle}
 use Rattle.tables.specs.Tables.{Tables, noDomain, noRegion, headAt, slotAt, regionAt}
 use Rattle.arena.specs.Arena.{liveB}
-use Rattle.refine.specs.Rows.{map-up-length}
-use Rattle.refine.specs.Shape.{Shaped}
-use Rattle.refine.specs.Decode.Read.{poolFrom, taken, linked, unlink, kindFrom, capaFrom, heldIn, domainFrom, regionFrom, domainsFrom, regionsFrom, stateOf}
-use Rattle.refine.specs.Settled.Pools.{table-used, table-in}
+use Rattle.decoded.specs.Rows.{map-up-length}
+use Rattle.decoded.specs.Shape.{Shaped}
+use Rattle.decoded.specs.Decode.Read.{poolFrom, taken, linked, unlink, kindFrom, capaFrom, heldIn, domainFrom, regionFrom, domainsFrom, regionsFrom, stateOf}
+use Rattle.decoded.specs.Settled.Pools.{table-used, table-in}
 use Rattle.sound_capas.specs.Capas.{olderB, above, climbed, rowClaim}
 use Rattle.exact_capas.specs.Clauses.{Before, CapasClauses}
 use Rattle.exact_capas.specs.Reads.{Lives, lives, live-read, fit-out}

@@ -16,9 +16,9 @@ use Rattle.model.specs.Sound.{RevokeFit, HandleFit}
 use Rattle.laws.specs.Cases.{is-true}
 use Rattle.tables.specs.declared.Handle.{Handle}
 use Rattle.tables.specs.Tables.{Tables, noDomain, noRegion, slotAt, regionAt}
-use Rattle.refine.specs.Shape.{Shaped}
-use Rattle.refine.specs.Decode.Read.{poolFrom, taken, kindFrom, handleFrom, heldIn, domainFrom, regionFrom, domainsFrom, regionsFrom, stateOf}
-use Rattle.refine.specs.Settled.Pools.{table-in}
+use Rattle.decoded.specs.Shape.{Shaped}
+use Rattle.decoded.specs.Decode.Read.{poolFrom, taken, kindFrom, handleFrom, heldIn, domainFrom, regionFrom, domainsFrom, regionsFrom, stateOf}
+use Rattle.decoded.specs.Settled.Pools.{table-in}
 use Rattle.sound_capas.specs.Capas.{rowClaim, capasHold}
 use Rattle.exact_capas.specs.Clauses.{Stored, Before, CapasClauses}
 use Rattle.exact_capas.specs.Reads.{live-read, fit-in}

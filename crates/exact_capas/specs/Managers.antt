@@ -15,9 +15,9 @@ use Rattle.laws.specs.Cases.{ltb-t, eqb-t, eqb-f, holds, fails, test}
 use Rattle.laws.specs.Tree.Sum.{sum}
 use Rattle.laws.specs.Tree.Slots.{is-live, none-some, some-same}
 use Rattle.tables.specs.Tables.{Tables, noDomain, headAt, slotAt}
-use Rattle.refine.specs.Shape.{Shaped}
-use Rattle.refine.specs.Decode.Read.{poolFrom, taken, linked, heldIn, domainFrom, domainsFrom, stateOf}
-use Rattle.refine.specs.Settled.Pools.{table-used, table-in}
+use Rattle.decoded.specs.Shape.{Shaped}
+use Rattle.decoded.specs.Decode.Read.{poolFrom, taken, linked, heldIn, domainFrom, domainsFrom, stateOf}
+use Rattle.decoded.specs.Settled.Pools.{table-used, table-in}
 use Rattle.sound_capas.specs.Capas.{above, climbed, rowClaim, capasHold}
 use Rattle.exact_capas.specs.Grid.{sum-none, sum-only}
 use Rattle.exact_capas.specs.Clauses.{Before}

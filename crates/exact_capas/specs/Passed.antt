@@ -14,9 +14,9 @@ use Rattle.model.specs.Sound.{OwnerSound, isRegionOf}
 use Rattle.laws.specs.Cases.{lt, ge, cmp, eqb-t, eqb-f, holds, fails, test}
 use Rattle.laws.specs.Tree.Slots.{is-live}
 use Rattle.tables.specs.Tables.{Tables, noDomain, noRegion, slotAt, regionAt}
-use Rattle.refine.specs.Shape.{Shaped}
-use Rattle.refine.specs.Decode.Read.{poolFrom, taken, unlink, heldIn, domainFrom, regionFrom, domainsFrom, regionsFrom, stateOf}
-use Rattle.refine.specs.Settled.Pools.{table-used, table-in}
+use Rattle.decoded.specs.Shape.{Shaped}
+use Rattle.decoded.specs.Decode.Read.{poolFrom, taken, unlink, heldIn, domainFrom, regionFrom, domainsFrom, regionsFrom, stateOf}
+use Rattle.decoded.specs.Settled.Pools.{table-used, table-in}
 use Rattle.sound_capas.specs.Claims.{claimCount}
 use Rattle.sound_capas.specs.Capas.{inUse, rowClaim, capaClaim, capasHold}
 use Rattle.exact_capas.specs.Fits.{FitFrom, times, By, times-by, times-once, count-sum, sum-tight, holds-out}

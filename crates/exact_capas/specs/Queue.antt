@@ -20,14 +20,14 @@ use Rattle.laws.specs.Cases.{lt, ge, cmp, ltb-t, ltb-f, eqb-t, eqb-f, holds, fa
 use Rattle.tables.specs.declared.Update.{Update}
 use Rattle.tables.specs.Tables.{Tables, noUpdate, noDomain, updateAt}
 use Rattle.arena.specs.Arena.{liveB}
-use Rattle.refine.specs.Rows.{map-up-length}
-use Rattle.refine.specs.Shape.{Shaped}
-use Rattle.refine.specs.Queue.Round.{along-at}
-use Rattle.refine.specs.Decode.Read.{poolFrom, domainFrom, domainsFrom, updateFrom, queueFrom, stateOf}
-use Rattle.refine.specs.Decode.Places.{along, items-are}
-use Rattle.refine.specs.Settled.Tidy.{Tidy, UpdateTidy, place, behind}
-use Rattle.refine.specs.Settled.Ring.{along-back}
-use Rattle.refine.specs.Settled.Sound.{sound-walked}
+use Rattle.decoded.specs.Rows.{map-up-length}
+use Rattle.decoded.specs.Shape.{Shaped}
+use Rattle.decoded.specs.Queue.Round.{along-at}
+use Rattle.decoded.specs.Decode.Read.{poolFrom, domainFrom, domainsFrom, updateFrom, queueFrom, stateOf}
+use Rattle.decoded.specs.Decode.Places.{along, items-are}
+use Rattle.decoded.specs.Settled.Tidy.{Tidy, UpdateTidy, place, behind}
+use Rattle.decoded.specs.Settled.Ring.{along-back}
+use Rattle.decoded.specs.Settled.Sound.{sound-walked}
 use Rattle.sound_capas.specs.Claims.{claimsHold}
 use Rattle.sound_capas.specs.Places.{queuedB, clearB, handleAt, updateClaim, placeClaim, queueHolds}
 use Rattle.exact_capas.specs.Fits.{FitFrom, holds-out, out-holds}

@@ -15,10 +15,10 @@ use Rattle.laws.specs.Cases.{lt, ge, cmp, ltb-t, ltb-f, eqb-t, holds, fails, te
 use Rattle.tables.specs.declared.Handle.{Handle}
 use Rattle.tables.specs.Tables.{Arena}
 use Rattle.arena.specs.Arena.{isFreeB, liveB}
-use Rattle.refine.specs.Rows.{map-up-length}
-use Rattle.refine.specs.Shape.{PoolShaped}
-use Rattle.refine.specs.Decode.Read.{poolFrom, taken, tableFrom, handleFrom}
-use Rattle.refine.specs.Settled.Pools.{table-used, table-free, taken-link, free-link}
+use Rattle.decoded.specs.Rows.{map-up-length}
+use Rattle.decoded.specs.Shape.{PoolShaped}
+use Rattle.decoded.specs.Decode.Read.{poolFrom, taken, tableFrom, handleFrom}
+use Rattle.decoded.specs.Settled.Pools.{table-used, table-free, taken-link, free-link}
 use Rattle.sound_capas.specs.Capas.{olderB}
 
 pub yes-no : true ≡ false → ⊥

@@ -14,7 +14,7 @@ use Rattle.model.specs.Updates.{isPermissionOf}
 use Rattle.model.specs.Sound.{Singly}
 use Rattle.laws.specs.Cases.{lt, ge, cmp, eqb-t, eqb-f, true-is}
 use Rattle.tables.specs.declared.Update.{Update}
-use Rattle.refine.specs.Decode.Read.{updateFrom}
+use Rattle.decoded.specs.Decode.Read.{updateFrom}
 use Rattle.exact_capas.specs.Reads.{yes-no}
 
 -- ---- lists by number

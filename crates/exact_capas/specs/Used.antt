@@ -12,10 +12,10 @@ use Rattle.laws.specs.Cases.{ltb-t, ltb-f, holds, fails, test}
 use Rattle.laws.specs.Tree.Sum.{sum, sum-add, sum-same}
 use Rattle.tables.specs.Tables.{Tables, Arena, noDomain, noRegion}
 use Rattle.arena.specs.Arena.{capacityOf}
-use Rattle.refine.specs.Decode.Read.{afterFree, freeFrom, poolFrom, taken, tableFrom, domainFrom, regionFrom, domainsFrom, regionsFrom, stateOf}
-use Rattle.refine.specs.Settled.Ends.{stack-long}
-use Rattle.refine.specs.Settled.Tidy.{PoolTidy}
-use Rattle.refine.specs.Settled.Pools.{table-used, table-free}
+use Rattle.decoded.specs.Decode.Read.{afterFree, freeFrom, poolFrom, taken, tableFrom, domainFrom, regionFrom, domainsFrom, regionsFrom, stateOf}
+use Rattle.decoded.specs.Settled.Ends.{stack-long}
+use Rattle.decoded.specs.Settled.Tidy.{PoolTidy}
+use Rattle.decoded.specs.Settled.Pools.{table-used, table-free}
 use Rattle.sound_capas.specs.Capas.{inUse}
 use Rattle.exact_capas.specs.Fits.{sum-split}
 use Rattle.exact_capas.specs.Grid.{counted}

@@ -27,9 +27,9 @@ use Rattle.arena.specs.Arena.{isFreeB}
 use Rattle.region.specs.Links.{firstLink}
 use Rattle.readings.specs.Readings as readings
 use Rattle.readings.specs.Readings.{recordsFrom, recordsOf}
-use Rattle.refine.specs.Rows.{map-up-length, getD-up}
-use Rattle.refine.specs.Free.{used-not-free}
-use Rattle.refine.specs.Tables.{poolOf, recordFor, domainFor, domainsFor, tablesOf}
+use Rattle.decoded.specs.Rows.{map-up-length, getD-up}
+use Rattle.decoded.specs.Free.{used-not-free}
+use Rattle.decoded.specs.Tables.{poolOf, recordFor, domainFor, domainsFor, tablesOf}
 use Rattle.refine.specs.Calls.ReadingCalls.{rowsOf, records-read, fill-same}
 use Rattle.laws.specs.Words.SameTrackers.{firstSlot}
 use Rattle.listing.specs.Lines.{recordLine, slotLines, numbers}

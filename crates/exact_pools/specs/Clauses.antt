@@ -9,9 +9,9 @@ use Rattle.model.specs.Lists.{In}
 use Rattle.model.specs.State as state
 use Rattle.model.specs.Sound.{OnceEach, inUse, recordUses}
 use Rattle.tables.specs.Tables.{Tables, noRegion, noRecord}
-use Rattle.refine.specs.Tables.{domainFor}
-use Rattle.refine.specs.Decode.Read.{taken, stateOf}
-use Rattle.refine.specs.Settled.Tidy.{PoolTidy, Marked, DomainTidy, domainRow, regionRow, recordRow}
+use Rattle.decoded.specs.Tables.{domainFor}
+use Rattle.decoded.specs.Decode.Read.{taken, stateOf}
+use Rattle.decoded.specs.Settled.Tidy.{PoolTidy, Marked, DomainTidy, domainRow, regionRow, recordRow}
 
 pub record PoolsClauses (v : Tables) : Type 0 where
   -- the words

@@ -7,11 +7,11 @@ use native.Mathlib.Omega.{arith}
 use lib.ListN.{length, getD}
 use Rattle.words.specs.Cases.{pick, both, both-true}
 use Rattle.tables.specs.Tables.{Tables, noDomain, noSlot, headAt, slotAt, regionAt, recordAt}
-use Rattle.refine.specs.Shape.{Shaped}
-use Rattle.refine.specs.Tables.{domainFor}
-use Rattle.refine.specs.Decode.Read.{taken}
-use Rattle.refine.specs.Settled.Law.{each-at}
-use Rattle.refine.specs.Settled.Tidy.{SlotTidy, domainRow, regionRow, recordRow}
+use Rattle.decoded.specs.Shape.{Shaped}
+use Rattle.decoded.specs.Tables.{domainFor}
+use Rattle.decoded.specs.Decode.Read.{taken}
+use Rattle.decoded.specs.Settled.Law.{each-at}
+use Rattle.decoded.specs.Settled.Tidy.{SlotTidy, domainRow, regionRow, recordRow}
 use Rattle.sound_pools.specs.declared.links.Stack.the-variants.{Domains, Regions, Records, Slots, Trackers}
 use Rattle.sound_pools.specs.Hold.{mayMeet, eligible, nextOf, topOf, stackHolds, headClear, slotClear, slotTidy, slotsHold, domainHolds, regionClear, recordClear, rowHolds, rowsHold}
 use Rattle.exact_pools.specs.Walks.{all-at, at-all}

@@ -11,10 +11,10 @@ use Rattle.laws.specs.Cases.{lt, ge, cmp, ltb-t, ltb-f, holds, fails, test}
 use Rattle.laws.specs.Stack.{once-at-most, none-beyond}
 use Rattle.words.specs.Cases.{both, both-true}
 use Rattle.tables.specs.Tables.{Tables}
-use Rattle.refine.specs.Shape.{Shaped}
-use Rattle.refine.specs.Decode.Read.{taken, freeFrom, heldIn, domainFrom, regionFrom, domainsFrom, regionsFrom, poolFrom, stateOf}
-use Rattle.refine.specs.Settled.Tidy.{Tidy, DomainTidy, domainRow, regionRow, recordRow}
-use Rattle.refine.specs.Settled.Pools.{table-used, table-in}
+use Rattle.decoded.specs.Shape.{Shaped}
+use Rattle.decoded.specs.Decode.Read.{taken, freeFrom, heldIn, domainFrom, regionFrom, domainsFrom, regionsFrom, poolFrom, stateOf}
+use Rattle.decoded.specs.Settled.Tidy.{Tidy, DomainTidy, domainRow, regionRow, recordRow}
+use Rattle.decoded.specs.Settled.Pools.{table-used, table-in}
 use Rattle.sound_pools.specs.declared.links.Stack.the-variants.{Domains, Regions, Records, Trackers}
 use Rattle.sound_pools.specs.Hold.{mayMeet, domainHolds, stackHolds, rowsHold, trackersHold, poolHolds, poolsHold}
 use Rattle.exact_pools.specs.Clauses.{PoolsClauses}

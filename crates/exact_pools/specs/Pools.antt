@@ -15,11 +15,11 @@ use Rattle.laws.specs.Stack.{none-beyond}
 use Rattle.words.specs.Cases.{both}
 use Rattle.tables.specs.declared.Handle.{Handle}
 use Rattle.tables.specs.Tables.{Arena, Domain, noSlot}
-use Rattle.refine.specs.Rows.{map-up-length}
-use Rattle.refine.specs.Decode.Read.{afterFree, freeFrom, taken, tableFrom, capaFrom, heldIn, afterSlot, listFrom}
-use Rattle.refine.specs.Settled.Tidy.{PoolTidy, Marked}
-use Rattle.refine.specs.Settled.Pools.{taken-link, free-link, not-on, on, table-used, table-free}
-use Rattle.refine.specs.Settled.Domains.{held-at}
+use Rattle.decoded.specs.Rows.{map-up-length}
+use Rattle.decoded.specs.Decode.Read.{afterFree, freeFrom, taken, tableFrom, capaFrom, heldIn, afterSlot, listFrom}
+use Rattle.decoded.specs.Settled.Tidy.{PoolTidy, Marked}
+use Rattle.decoded.specs.Settled.Pools.{taken-link, free-link, not-on, on, table-used, table-free}
+use Rattle.decoded.specs.Settled.Domains.{held-at}
 use Rattle.sound_pools.specs.Walk.{linkTo}
 use Rattle.exact_pools.specs.Walks.{true-false}
 use Rattle.exact_pools.specs.Stacks.{StackGood, testOf, stack-good, good-stack}

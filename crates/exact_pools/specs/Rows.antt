@@ -16,8 +16,8 @@ use Rattle.tables.specs.declared.Slot.{Slot}
 use Rattle.tables.specs.declared.RegionCapa.{RegionCapa}
 use Rattle.tables.specs.declared.Region.{Region}
 use Rattle.tables.specs.Tables.{Domain, noHead, noSlot, noRegion, noRecord}
-use Rattle.refine.specs.Tables.{domainFor}
-use Rattle.refine.specs.Settled.Tidy.{SlotTidy}
+use Rattle.decoded.specs.Tables.{domainFor}
+use Rattle.decoded.specs.Settled.Tidy.{SlotTidy}
 use Rattle.sound_pools.specs.Hold.{headClear, slotClear, slotTidy, regionClear, recordClear}
 
 -- ---- all zero

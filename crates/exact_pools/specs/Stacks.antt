@@ -13,8 +13,8 @@ use Rattle.model.specs.Lists.{oneIf, count}
 use Rattle.laws.specs.Cases.{lt, ge, cmp, ltb-t, holds, fails, test}
 use Rattle.laws.specs.Stack.{one, one-at-most}
 use Rattle.words.specs.Cases.{both, both-true}
-use Rattle.refine.specs.Decode.Read.{stackFrom, chainFrom}
-use Rattle.refine.specs.Settled.Ends.{stackEnd, chainEnd, end-none}
+use Rattle.decoded.specs.Decode.Read.{stackFrom, chainFrom}
+use Rattle.decoded.specs.Settled.Ends.{stackEnd, chainEnd, end-none}
 use Rattle.sound_pools.specs.Walk.{linkTo, met, covered, covers}
 use Rattle.exact_pools.specs.Walks.{marked-once, once-marked, covers-at, at-covers, met-is, is-met, true-false}
 

@@ -15,8 +15,8 @@ use Rattle.laws.specs.Cases.{lt, ge, cmp, holds, fails, test}
 use Rattle.laws.specs.Stack.{one-at-most}
 use Rattle.tables.specs.declared.Region.{Region}
 use Rattle.tables.specs.Tables.{Tables, noDomain, noRecord, headAt, recordAt}
-use Rattle.refine.specs.Decode.Read.{chainFrom, taken, recordFrom, domainFrom}
-use Rattle.refine.specs.Settled.Ends.{chainEnd}
+use Rattle.decoded.specs.Decode.Read.{chainFrom, taken, recordFrom, domainFrom}
+use Rattle.decoded.specs.Settled.Ends.{chainEnd}
 use Rattle.sound_pools.specs.declared.links.Stack.the-variants.{Domains, Trackers}
 use Rattle.sound_pools.specs.Walk.{covered, met}
 use Rattle.sound_pools.specs.Hold.{mayMeet, eligible, nextOf, onward, trackersMet, trackersHold}

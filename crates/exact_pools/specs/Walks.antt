@@ -14,8 +14,8 @@ use Rattle.model.specs.Lists.{oneIf, count}
 use Rattle.laws.specs.Cases.{lt, ge, cmp, ltb-t, ltb-f, eqb-t, eqb-f, holds, fails, test}
 use Rattle.laws.specs.Stack.{one}
 use Rattle.words.specs.Cases.{pick, both-true}
-use Rattle.refine.specs.Decode.Read.{chainFrom}
-use Rattle.refine.specs.Settled.Ends.{chainEnd}
+use Rattle.decoded.specs.Decode.Read.{chainFrom}
+use Rattle.decoded.specs.Settled.Ends.{chainEnd}
 use Rattle.sound_pools.specs.Walk.{seen, fresh, mark, met, ended, allFrom, covers}
 
 -- ---- tests of every slot

@@ -20,8 +20,8 @@ use Rattle.laws.specs.Tree.Carved.{Carving, carved-find, carved-get}
 use Rattle.words.specs.Cases.{both-true}
 use Rattle.tables.specs.declared.RegionCapa.{RegionCapa}
 use Rattle.tables.specs.Tables.{Tables, noRegion, regionAt}
-use Rattle.refine.specs.Decode.Read.{taken, kindFrom, regionFrom, regionsFrom}
-use Rattle.refine.specs.Settled.Pools.{table-in, table-used, table-free}
+use Rattle.decoded.specs.Decode.Read.{taken, kindFrom, regionFrom, regionsFrom}
+use Rattle.decoded.specs.Settled.Pools.{table-in, table-used, table-free}
 use Rattle.sound_trackers.specs.Chains.{chain}
 use Rattle.sound_trackers.specs.Tally.{coversB, carvesB, uncarvedB}
 use Rattle.exact_trackers.specs.Tests.{true-false, both-so, chain-is, every-in, in-every}

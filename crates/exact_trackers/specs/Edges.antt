@@ -16,8 +16,8 @@ use Rattle.laws.specs.Test.Points.{carvedFrom, concerns, pointsIn, pointsOf}
 use Rattle.laws.specs.Tree.Slots.{live-is}
 use Rattle.tables.specs.declared.RegionCapa.{RegionCapa}
 use Rattle.tables.specs.Tables.{Tables, slotAt, regionAt}
-use Rattle.refine.specs.Shape.{Shaped}
-use Rattle.refine.specs.Decode.Read.{domainsFrom, regionsFrom}
+use Rattle.decoded.specs.Shape.{Shaped}
+use Rattle.decoded.specs.Decode.Read.{domainsFrom, regionsFrom}
 use Rattle.sound_trackers.specs.Chains.{chain}
 use Rattle.sound_trackers.specs.Tally.{namesB}
 use Rattle.sound_trackers.specs.Trackers.{pointB, endsB, carveB, carvesEndB, regionB, slotB, edgesB}

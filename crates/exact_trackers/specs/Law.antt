@@ -20,11 +20,11 @@ use Rattle.words.specs.Cases.{pick}
 use Rattle.tables.specs.declared.Region.{Region}
 use Rattle.tables.specs.Tables.{Tables, noDomain, headAt, recordAt}
 use Rattle.arena.specs.Arena.{isFreeB}
-use Rattle.refine.specs.Shape.{Shaped}
-use Rattle.refine.specs.Decode.Read.{taken, domainFrom, domainsFrom, regionsFrom, stateOf}
-use Rattle.refine.specs.Settled.Ends.{chainEnd}
-use Rattle.refine.specs.Settled.Pools.{table-in, table-used, taken-link, free-link}
-use Rattle.refine.specs.Settled.Tidy.{Tidy, domainRow, recordRow}
+use Rattle.decoded.specs.Shape.{Shaped}
+use Rattle.decoded.specs.Decode.Read.{taken, domainFrom, domainsFrom, regionsFrom, stateOf}
+use Rattle.decoded.specs.Settled.Ends.{chainEnd}
+use Rattle.decoded.specs.Settled.Pools.{table-in, table-used, taken-link, free-link}
+use Rattle.decoded.specs.Settled.Tidy.{Tidy, domainRow, recordRow}
 use Rattle.sound_trackers.specs.Tally.{agreesB, tally}
 use Rattle.sound_trackers.specs.Trackers.{records, recordsB, pointB, edgesB, domainB, trackersHold}
 use Rattle.exact_trackers.specs.Tests.{chain-is, pick-both, pick-true, every-below, below-every}

@@ -13,7 +13,7 @@ use Rattle.laws.specs.Cases.{holds, fails, test, lt, ge, cmp}
 use Rattle.words.specs.Cases.{both-true}
 use Rattle.tables.specs.declared.Region.{Region}
 use Rattle.tables.specs.Tables.{Tables, recordAt}
-use Rattle.refine.specs.Decode.Read.{recordFrom}
+use Rattle.decoded.specs.Decode.Read.{recordFrom}
 use Rattle.sound_trackers.specs.Tally.{agreesB, tally}
 use Rattle.sound_trackers.specs.Trackers.{touchesB, insideB, pointIn}
 use Rattle.exact_trackers.specs.Tests.{true-false, both-so}

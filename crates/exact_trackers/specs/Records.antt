@@ -12,8 +12,8 @@ use Rattle.laws.specs.Cases.{holds, fails, test}
 use Rattle.words.specs.Cases.{pick, both, both-true}
 use Rattle.tables.specs.declared.Region.{Region}
 use Rattle.tables.specs.Tables.{Tables, noRecord, recordAt}
-use Rattle.refine.specs.Decode.Read.{recordFrom}
-use Rattle.refine.specs.Settled.Ends.{chainEnd}
+use Rattle.decoded.specs.Decode.Read.{recordFrom}
+use Rattle.decoded.specs.Settled.Ends.{chainEnd}
 use Rattle.sound_trackers.specs.Chains.{every, chain}
 use Rattle.sound_trackers.specs.Tally.{agreesB, tally}
 use Rattle.sound_trackers.specs.Trackers.{emptyB, formB, sameB, nextB, joinB, recordB}

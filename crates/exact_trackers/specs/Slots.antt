@@ -22,11 +22,11 @@ use Rattle.tables.specs.declared.Handle.{Handle}
 use Rattle.tables.specs.declared.Slot.{Slot}
 use Rattle.tables.specs.Tables.{Tables, noDomain, noSlot, slotAt}
 use Rattle.arena.specs.Arena.{liveB}
-use Rattle.refine.specs.Shape.{Shaped}
-use Rattle.refine.specs.Decode.Read.{taken, capaFrom, heldIn, poolFrom, domainFrom, domainsFrom, regionsFrom}
-use Rattle.refine.specs.Decode.Walks.{getD-any}
-use Rattle.refine.specs.Settled.Pools.{table-in}
-use Rattle.refine.specs.Settled.Law.{each-at}
+use Rattle.decoded.specs.Shape.{Shaped}
+use Rattle.decoded.specs.Decode.Read.{taken, capaFrom, heldIn, poolFrom, domainFrom, domainsFrom, regionsFrom}
+use Rattle.decoded.specs.Decode.Walks.{getD-any}
+use Rattle.decoded.specs.Settled.Pools.{table-in}
+use Rattle.decoded.specs.Settled.Law.{each-at}
 use Rattle.sound_trackers.specs.Tally.{namesB}
 use Rattle.exact_trackers.specs.Tests.{true-false, both-so}
 use Rattle.exact_trackers.specs.Carved.{region-in}

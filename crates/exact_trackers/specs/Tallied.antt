@@ -22,9 +22,9 @@ use Rattle.words.specs.Cases.{pick, both}
 use Rattle.tables.specs.declared.Slot.{Slot}
 use Rattle.tables.specs.declared.RegionCapa.{RegionCapa}
 use Rattle.tables.specs.Tables.{Tables, slotAt, regionAt}
-use Rattle.refine.specs.Rows.{map-up-length}
-use Rattle.refine.specs.Shape.{Shaped}
-use Rattle.refine.specs.Decode.Read.{taken, domainsFrom, regionsFrom}
+use Rattle.decoded.specs.Rows.{map-up-length}
+use Rattle.decoded.specs.Shape.{Shaped}
+use Rattle.decoded.specs.Decode.Read.{taken, domainsFrom, regionsFrom}
 use Rattle.sound_trackers.specs.Tally.{noSums, ones, coversB, countsB, namesB, share, tally}
 use Rattle.exact_trackers.specs.Tests.{true-false}
 use Rattle.exact_trackers.specs.Carved.{regionRead, region-in, region-used, region-free, covers-so, so-covers, uncarved-is}

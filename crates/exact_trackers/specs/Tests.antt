@@ -8,7 +8,7 @@ use lib.Dec.{eqb, eqb→eq}
 use Rattle.model.specs.Lists.{oneIf, count}
 use Rattle.laws.specs.Cases.{lt, ge, cmp, eqb-t, true-is, holds, fails, test}
 use Rattle.words.specs.Cases.{pick, both, both-true}
-use Rattle.refine.specs.Decode.Read.{chainFrom}
+use Rattle.decoded.specs.Decode.Read.{chainFrom}
 use Rattle.sound_trackers.specs.Chains.{every, slotsFrom, chain}
 
 pub true-false : {b : Bool} → b ≡ true → b ≡ false → ⊥

@@ -20,11 +20,11 @@ use Rattle.laws.specs.Tree.Facts.{Regions, no-overlap}
 use Rattle.words.specs.Cases.{pick}
 use Rattle.tables.specs.declared.RegionCapa.{RegionCapa}
 use Rattle.tables.specs.Tables.{Tables}
-use Rattle.refine.specs.Shape.{Shaped}
-use Rattle.refine.specs.Decode.Read.{kindFrom, regionsFrom, stateOf}
-use Rattle.refine.specs.Decode.Regions.{child-once, member}
-use Rattle.refine.specs.Settled.Tidy.{Tidy, Walked, regionRow}
-use Rattle.refine.specs.Settled.Sound.{parent-is, sound-walked}
+use Rattle.decoded.specs.Shape.{Shaped}
+use Rattle.decoded.specs.Decode.Read.{kindFrom, regionsFrom, stateOf}
+use Rattle.decoded.specs.Decode.Regions.{child-once, member}
+use Rattle.decoded.specs.Settled.Tidy.{Tidy, Walked, regionRow}
+use Rattle.decoded.specs.Settled.Sound.{parent-is, sound-walked}
 use Rattle.sound_tree.specs.Tree.{noRun, floorOf, isChild, climbFrom}
 use Rattle.exact_tree.specs.Walks.{Behind, Sorted, pairs-fit, pairs-of}
 use Rattle.exact_tree.specs.Lists.{kids, many, Listed, uses, many-uses, tells, one-t, one-f}

@@ -22,11 +22,11 @@ use Rattle.laws.specs.Tree.Sum.{sum, sum-lt, sum-find, sum-unique}
 use Rattle.laws.specs.Tree.Slots.{each-in, in-each, is-live}
 use Rattle.tables.specs.declared.RegionCapa.{RegionCapa}
 use Rattle.tables.specs.Tables.{Tables}
-use Rattle.refine.specs.Shape.{Shaped}
-use Rattle.refine.specs.Decode.Read.{kindFrom, regionsFrom}
-use Rattle.refine.specs.Settled.Ends.{ended-once}
-use Rattle.refine.specs.Settled.Tidy.{regionRow}
-use Rattle.refine.specs.Settled.Sound.{parent-is}
+use Rattle.decoded.specs.Shape.{Shaped}
+use Rattle.decoded.specs.Decode.Read.{kindFrom, regionsFrom}
+use Rattle.decoded.specs.Settled.Ends.{ended-once}
+use Rattle.decoded.specs.Settled.Tidy.{regionRow}
+use Rattle.decoded.specs.Settled.Sound.{parent-is}
 use Rattle.sound_tree.specs.Tree.{noRun, isChild}
 use Rattle.exact_tree.specs.Walks.{nextOf, fits-parents, fits-pairs, pairs-find, pairs-ordered}
 use Rattle.exact_tree.specs.Lists.{kids, many, Listed, uses, many-uses, tells, one-t}

@@ -18,10 +18,10 @@ use Rattle.words.specs.Cases.{both-true}
 use Rattle.tables.specs.declared.RegionCapa.{RegionCapa}
 use Rattle.tables.specs.Tables.{Tables, regionAt}
 use Rattle.tables.specs.View.{total}
-use Rattle.refine.specs.Shape.{Shaped}
-use Rattle.refine.specs.Decode.Read.{kindFrom, taken, regionsFrom, stateOf}
-use Rattle.refine.specs.Settled.Tidy.{Tidy, RegionTidy, regionRow}
-use Rattle.refine.specs.Settled.Sound.{parent-is}
+use Rattle.decoded.specs.Shape.{Shaped}
+use Rattle.decoded.specs.Decode.Read.{kindFrom, taken, regionsFrom, stateOf}
+use Rattle.decoded.specs.Settled.Tidy.{Tidy, RegionTidy, regionRow}
+use Rattle.decoded.specs.Settled.Sound.{parent-is}
 use Rattle.sound_tree.specs.Tree.{oneIf, tallyFrom, isChild, childCount, rowsHold, listsHold, rootsHold, treeHolds}
 use Rattle.sound_tree.specs.Turns.{one-few}
 use Rattle.exact_tree.specs.Lists.{many, Listed, lists-facts, facts-lists, tells, child-sum}

@@ -12,9 +12,9 @@ use Rattle.laws.specs.Cases.{holds, fails, test, lt, ge, cmp, ltb-t, eqb-t}
 use Rattle.laws.specs.Tree.Sum.{sum, sum-same, sum-swap}
 use Rattle.laws.specs.Test.Paths.{counted}
 use Rattle.tables.specs.declared.RegionCapa.{RegionCapa}
-use Rattle.refine.specs.Decode.Read.{chainFrom}
-use Rattle.refine.specs.Decode.Walks.{chain-none}
-use Rattle.refine.specs.Settled.Ends.{chainEnd, end-none}
+use Rattle.decoded.specs.Decode.Read.{chainFrom}
+use Rattle.decoded.specs.Decode.Walks.{chain-none}
+use Rattle.decoded.specs.Settled.Ends.{chainEnd, end-none}
 use Rattle.sound_tree.specs.Tree.{oneIf, tallyFrom, noRun, walked, listsFrom, isChild, childCount}
 use Rattle.exact_tree.specs.Walks.{nextOf, FitAll, walk-facts, facts-walk}
 

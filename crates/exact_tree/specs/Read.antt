@@ -13,12 +13,12 @@ use Rattle.model.specs.Tree.{isCarve}
 use Rattle.laws.specs.Tree.Slots.{none-some, some-same}
 use Rattle.tables.specs.declared.RegionCapa.{RegionCapa}
 use Rattle.tables.specs.Tables.{Tables, noRegion}
-use Rattle.refine.specs.Rows.{map-up-length}
-use Rattle.refine.specs.Decode.Read.{kindFrom, chainFrom, regionFrom, regionsFrom}
-use Rattle.refine.specs.Decode.Walks.{chain-none}
-use Rattle.refine.specs.Settled.Ends.{chainEnd, end-none}
-use Rattle.refine.specs.Settled.Tidy.{regionRow}
-use Rattle.refine.specs.Settled.Pools.{table-used, table-in}
+use Rattle.decoded.specs.Rows.{map-up-length}
+use Rattle.decoded.specs.Decode.Read.{kindFrom, chainFrom, regionFrom, regionsFrom}
+use Rattle.decoded.specs.Decode.Walks.{chain-none}
+use Rattle.decoded.specs.Settled.Ends.{chainEnd, end-none}
+use Rattle.decoded.specs.Settled.Tidy.{regionRow}
+use Rattle.decoded.specs.Settled.Pools.{table-used, table-in}
 use Rattle.exact_tree.specs.Walks.{nextOf}
 use Rattle.exact_tree.specs.Lists.{kids, Listed}
 use Rattle.exact_tree.specs.Rows.{Used}

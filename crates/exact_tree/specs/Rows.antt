@@ -13,10 +13,10 @@ use Rattle.words.specs.Cases.{both, both-true}
 use Rattle.tables.specs.declared.RegionCapa.{RegionCapa}
 use Rattle.tables.specs.Tables.{Tables, Arena, noRegion, regionAt}
 use Rattle.arena.specs.Arena.{isFreeB}
-use Rattle.refine.specs.Shape.{Shaped}
-use Rattle.refine.specs.Decode.Read.{taken}
-use Rattle.refine.specs.Settled.Tidy.{regionRow}
-use Rattle.refine.specs.Settled.Pools.{taken-link, free-link}
+use Rattle.decoded.specs.Shape.{Shaped}
+use Rattle.decoded.specs.Decode.Read.{taken}
+use Rattle.decoded.specs.Settled.Tidy.{regionRow}
+use Rattle.decoded.specs.Settled.Pools.{taken-link, free-link}
 use Rattle.sound_tree.specs.Tree.{allFrom, rightsFit, inParent, placeFits, rowFits, regionFits, rowsHold}
 
 -- ---- slots in use

@@ -15,8 +15,8 @@ use Rattle.laws.specs.Cases.{holds, fails, test, true-is, lt, ge, cmp, ltb-t, l
 use Rattle.laws.specs.Tree.Slots.{each-in, in-each}
 use Rattle.words.specs.Cases.{both-true}
 use Rattle.tables.specs.declared.RegionCapa.{RegionCapa}
-use Rattle.refine.specs.Decode.Read.{chainFrom}
-use Rattle.refine.specs.Settled.Ends.{chainEnd}
+use Rattle.decoded.specs.Decode.Read.{chainFrom}
+use Rattle.decoded.specs.Settled.Ends.{chainEnd}
 use Rattle.sound_tree.specs.declared.Run.{Run}
 use Rattle.sound_tree.specs.Tree.{larger, after, floorOf, childFits, walkFrom}
 

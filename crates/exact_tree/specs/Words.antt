@@ -14,9 +14,9 @@ use Rattle.tables.specs.declared.RegionCapa.{RegionCapa}
 use Rattle.tables.specs.Tables.{regionAt}
 use Rattle.tables.specs.View.{view, Sized}
 use Rattle.tables.specs.Accessors.{regionPlace, region-loaded}
-use Rattle.refine.specs.Decode.Read.{stateOf}
-use Rattle.refine.specs.Settled.Tidy.{Tidy}
-use Rattle.refine.specs.Settled.Words.{view-shaped}
+use Rattle.decoded.specs.Decode.Read.{stateOf}
+use Rattle.decoded.specs.Settled.Tidy.{Tidy}
+use Rattle.decoded.specs.Settled.Words.{view-shaped}
 use Rattle.sound_tree.specs.Tree.{treeHolds}
 use Rattle.exact_tree.specs.Rows.{PoolClauses, RegionWords}
 use Rattle.exact_tree.specs.Law.{TreeClauses, tree-holds, holds-tree}

@@ -27,8 +27,8 @@ use Rattle.tables.specs.Tests.{sizedB, sized-true}
 use Rattle.answers.specs.declared.Answer as code
 use Rattle.answers.specs.declared.Answer.the-variants.{Done, Refused}
 use Rattle.answers.specs.Answers.{Step}
-use Rattle.refine.specs.Tables.{tablesOf}
-use Rattle.refine.specs.Words.{words-held, held-words}
+use Rattle.decoded.specs.Tables.{tablesOf}
+use Rattle.decoded.specs.Words.{words-held, held-words}
 use Rattle.refine.specs.Agrees.{Agrees, refusalFor, same-number}
 use Rattle.refine.specs.Calls.Performs.{Stepped, stepFor, slotFrom, call-refines}
 use Rattle.sound.specs.Test.{isSound}

@@ -14,7 +14,7 @@ use Rattle.answers.specs.declared.Refusal.{Refusal}
 use Rattle.answers.specs.declared.Refusal.the-variants.{Memory, Sizes, NoDomain, NoSlot, WrongKind, Stale, BadRange, Beyond, Root, NotCarried, NoRegion, NoLocal, NoTracker, RingFull, NoDomainRoom, Spent, BadRecord}
 use Rattle.answers.specs.declared.Answer.the-variants.{Done, Refused}
 use Rattle.answers.specs.Answers.{Step, numberOf, done, refused, andThen, then-done, then-refused}
-use Rattle.refine.specs.Tables.{tablesOf}
+use Rattle.decoded.specs.Tables.{tablesOf}
 
 -- ---- refusals
 

@@ -7,7 +7,7 @@ use Rattle.model.specs.State.{State}
 use Rattle.model.specs.Layout.{writePlace}
 use Rattle.tables.specs.declared.Region.{Region}
 use Rattle.tables.specs.Tables.{withPlaces, withDomainPool, withRegionPool, withRecordPool, withDomains, withRegions, withRecords, withRing}
-use Rattle.refine.specs.Tables.{poolOf, domainsFor, regionsFor, recordsFor, ringFor, tablesOf}
+use Rattle.decoded.specs.Tables.{poolOf, domainsFor, regionsFor, recordsFor, ringFor, tablesOf}
 
 module _ (s : State) where
   pub record-pool-changed : (p : state.Pool) → tablesOf (state.withRecordPool p s) ≡ withRecordPool (tablesOf s) (poolOf (s .sizes .records) p)

@@ -1,12 +1,5 @@
--- The structured tables that the code works on, and the states of the model that they stand for.
-pub mod Rows
-pub mod Shape
-pub mod Tables
-pub mod Sizes
-pub mod Words
-pub mod Links
+-- Each step and call on structured tables is the model's on the state that they stand for.
 pub mod Making
-pub mod Free
 pub mod Changes
 pub mod Agrees
 pub mod Arenas
@@ -15,5 +8,3 @@ pub mod Slots
 pub mod Tree
 pub mod Queue
 pub mod Calls
-pub mod Decode
-pub mod Settled

@@ -19,11 +19,11 @@ use Rattle.tables.specs.Tables.{noRegion, noRecord, noUpdate}
 use Rattle.tables.specs.View.{layout}
 use Rattle.arena.specs.Arena.{freshLink, linksFrom, newArena}
 use Rattle.making.specs.Empty.{empty, emptyDomain}
-use Rattle.refine.specs.Rows.{same-up, replicate-up}
+use Rattle.decoded.specs.Rows.{same-up, replicate-up}
 use Rattle.laws.specs.Empty.{free-slot}
-use Rattle.refine.specs.Links.{up-link, up-last}
-use Rattle.refine.specs.Tables.{sizesFor, poolOf, freeSlot, slotFor, slotsFor, domainFor, regionFor, recordIn, placeFor, domainsFor, regionsFor, recordsFor, ringFor, tablesOf}
-use Rattle.refine.specs.Words.{layout-tables}
+use Rattle.decoded.specs.Links.{up-link, up-last}
+use Rattle.decoded.specs.Tables.{sizesFor, poolOf, freeSlot, slotFor, slotsFor, domainFor, regionFor, recordIn, placeFor, domainsFor, regionsFor, recordsFor, ringFor, tablesOf}
+use Rattle.decoded.specs.Words.{layout-tables}
 
 -- ---- a pool with every slot free
 

@@ -1,5 +1,4 @@
 -- Domains and their slot lists in the tables.
-pub mod Domains
 pub mod Locals
 pub mod ListSteps
 pub mod Sweep

@@ -1,5 +1,4 @@
 -- The trackers in the tables: gain and loss, turn by turn.
-pub mod Trackers
 pub mod TrackerSteps
 pub mod Linked
 pub mod RecordSteps

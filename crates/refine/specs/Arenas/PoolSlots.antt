@@ -21,11 +21,11 @@ use Rattle.tables.specs.Tables.{noRegion, withDomainPool, withRegionPool, withD
 use Rattle.arena.specs.Arena.{allocated, freesB, freed}
 use Rattle.pools.specs.declared.Pool.the-variants.{Regions}
 use Rattle.pools.specs.Wiping.{slotFreed}
-use Rattle.refine.specs.Tables.{poolOf, domainFor, regionFor, tablesOf}
+use Rattle.decoded.specs.Tables.{poolOf, domainFor, regionFor, tablesOf}
 use Rattle.refine.specs.Arenas.Pools.{poolFreed, allocated-first, first-inside, first-unused, frees-is, freed-is}
-use Rattle.refine.specs.Tracker.Trackers.{trackerOf}
-use Rattle.refine.specs.Slots.Domains.{domain-set}
-use Rattle.refine.specs.Tree.Regions.{childrenIn, region-set}
+use Rattle.decoded.specs.Tracker.Trackers.{trackerOf}
+use Rattle.decoded.specs.Slots.Domains.{domain-set}
+use Rattle.decoded.specs.Tree.Regions.{childrenIn, region-set}
 
 -- ---- slots taken
 

@@ -23,11 +23,11 @@ use Rattle.arena.specs.declared.Given.the-variants.{At, Full}
 use Rattle.arena.specs.declared.Freed.{Freed}
 use Rattle.arena.specs.declared.Freed.the-variants.{Done, Spent}
 use Rattle.arena.specs.Arena.{headLink, given, taken, pushed, allocated, heldB, raisableB, answerTo, freesB, freed, liveB, capacityOf}
-use Rattle.refine.specs.Sizes.{and-both}
-use Rattle.refine.specs.Rows.{map-up-length, getD-up, set-up}
-use Rattle.refine.specs.Links.{link-top, link-under}
-use Rattle.refine.specs.Free.{free-fits, free-room, free-below, used-not-free}
-use Rattle.refine.specs.Tables.{handleFor, poolOf}
+use Rattle.decoded.specs.Sizes.{and-both}
+use Rattle.decoded.specs.Rows.{map-up-length, getD-up, set-up}
+use Rattle.decoded.specs.Links.{link-top, link-under}
+use Rattle.decoded.specs.Free.{free-fits, free-room, free-below, used-not-free}
+use Rattle.decoded.specs.Tables.{handleFor, poolOf}
 
 -- ---- what the model's outcomes are to the code
 

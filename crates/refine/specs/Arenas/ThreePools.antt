@@ -16,8 +16,8 @@ use Rattle.arena.specs.Arena.{given, allocated, answerTo, freed, liveB, capacit
 use Rattle.pools.specs.declared.Pool.{Pool}
 use Rattle.pools.specs.declared.Pool.the-variants.{Domains, Regions, Records}
 use Rattle.pools.specs.Pools as pools
-use Rattle.refine.specs.Tables.{poolOf, tablesOf}
-use Rattle.refine.specs.Words.{held-words}
+use Rattle.decoded.specs.Tables.{poolOf, tablesOf}
+use Rattle.decoded.specs.Words.{held-words}
 use Rattle.refine.specs.Arenas.Pools.{givenBy, poolGiven, answerBy, poolFreed, given-is, allocated-is, answer-is, freed-is, capacity-is, handleIn, live-is}
 
 -- ---- a pool of a state

@@ -21,8 +21,8 @@ use Rattle.laws.specs.Capas.Held.{domain-at}
 use Rattle.answers.specs.Answers.{Step, andThen}
 use Rattle.region.specs.Turns.{addRegion, removeRegion}
 use Rattle.domain.specs.Activate.{notifyIf, activate, deactivate}
-use Rattle.refine.specs.Sizes.{good-limits}
-use Rattle.refine.specs.Tables.{tablesOf}
+use Rattle.decoded.specs.Sizes.{good-limits}
+use Rattle.decoded.specs.Tables.{tablesOf}
 use Rattle.refine.specs.Agrees.{Agrees, agrees-call, agrees-from, bind-assoc}
 use Rattle.refine.specs.Queue.RingSteps.{notify-refines}
 use Rattle.refine.specs.Tracker.RecordSteps.{Held}

@@ -15,7 +15,7 @@ use Rattle.segment.specs.Regions.{access}
 use Rattle.refine.specs.Agrees.{Agrees, agrees-call}
 use Rattle.refine.specs.Tree.ChildChecks.{accessFor}
 use Rattle.refine.specs.Calls.Bounds.{Able}
-use Rattle.refine.specs.Tables.{tablesOf}
+use Rattle.decoded.specs.Tables.{tablesOf}
 
 -- what a call without a number gives, with the number 0
 abbrev pub plain : Outcome State → Outcome (ℕ × State)

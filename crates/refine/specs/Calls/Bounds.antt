@@ -36,8 +36,8 @@ use Rattle.laws.specs.Keep.Coupled.{told, Behind}
 use Rattle.laws.specs.Keep.Base.{Base}
 use Rattle.laws.specs.Keep.BaseSteps.{Live, gained-base, lost-base}
 use Rattle.laws.specs.Keep.Whole.{Whole}
-use Rattle.refine.specs.Sizes.{good-limits}
-use Rattle.refine.specs.Free.{sum-slots}
+use Rattle.decoded.specs.Sizes.{good-limits}
+use Rattle.decoded.specs.Free.{sum-slots}
 
 -- ---- what is needed, and what is kept
 

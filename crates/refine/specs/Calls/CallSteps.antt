@@ -27,11 +27,11 @@ use Rattle.tables.specs.Tables.{Tables, regionAt}
 use Rattle.answers.specs.Answers.{Step, andThen}
 use Rattle.domain.specs.Activate.{reserve, insert}
 use Rattle.calls.specs.Checks.{liveDomain, regionHeld, capaOf}
-use Rattle.refine.specs.Tables.{poolOf, capaSlot, tablesOf}
+use Rattle.decoded.specs.Tables.{poolOf, capaSlot, tablesOf}
 use Rattle.refine.specs.Arenas.Pools.{handleIn}
 use Rattle.refine.specs.Agrees.{Agrees, agrees-step}
 use Rattle.refine.specs.Calls.Chains.{agrees-on}
-use Rattle.refine.specs.Tree.Regions.{region-read}
+use Rattle.decoded.specs.Tree.Regions.{region-read}
 use Rattle.refine.specs.Slots.ListSteps.{insert-refines}
 use Rattle.refine.specs.Calls.Checks.{Lists, live-domain-refines, region-held-refines, room-here}
 use Rattle.refine.specs.Calls.KeptLists.{sound-lists, capacity-lists}

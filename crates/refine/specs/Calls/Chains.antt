@@ -12,7 +12,7 @@ use Rattle.words.specs.Cases.{pick}
 use Rattle.tables.specs.Tables.{Tables}
 use Rattle.answers.specs.Answers as answers
 use Rattle.answers.specs.Answers.{Step, andThen}
-use Rattle.refine.specs.Tables.{tablesOf}
+use Rattle.decoded.specs.Tables.{tablesOf}
 use Rattle.refine.specs.Agrees.{refusalFor, Agrees, agrees-from, agrees-then}
 
 module _ {A : Type 0} {P : A → Type 0} where

@@ -28,7 +28,7 @@ use Rattle.region.specs.declared.AccessRights.{AccessRights}
 use Rattle.slots.specs.Capas.{capaAt}
 use Rattle.domain.specs.Activate.{reserve}
 use Rattle.calls.specs.Checks.{liveDomain, liveRegion, asRegion, asTarget, regionHeld, targetHeld, roomForRegion}
-use Rattle.refine.specs.Tables.{handleFor, capaSlot, tablesOf}
+use Rattle.decoded.specs.Tables.{handleFor, capaSlot, tablesOf}
 use Rattle.refine.specs.Agrees.{Agrees, agrees-call, agrees-state, ok-then, bind-assoc}
 use Rattle.refine.specs.Calls.Chains.{agrees-check, agrees-unless, require-then}
 use Rattle.refine.specs.Arenas.Pools.{handleIn, live-is, capacity-is}

@@ -41,11 +41,11 @@ use Rattle.segment.specs.Children.{insertChild, checkChild}
 use Rattle.segment.specs.Regions.{access, capaFor, newRegion}
 use Rattle.calls.specs.Checks.{liveDomain, regionHeld, roomForRegion, capaOf}
 use Rattle.calls.specs.Calls.{createRootRegion, addChild, aliasRegion, exchangeRights, carveRegion}
-use Rattle.refine.specs.Tables.{capaSlot, tablesOf}
+use Rattle.decoded.specs.Tables.{capaSlot, tablesOf}
 use Rattle.refine.specs.Arenas.Pools.{handleIn}
 use Rattle.refine.specs.Agrees.{Agrees, agrees-call, agrees-step, agrees-state, bind-assoc}
 use Rattle.refine.specs.Calls.Chains.{agrees-on, agrees-next, agrees-check}
-use Rattle.refine.specs.Tree.Regions.{region-read}
+use Rattle.decoded.specs.Tree.Regions.{region-read}
 use Rattle.refine.specs.Tree.Search.{Kids, regions-kids}
 use Rattle.refine.specs.Tree.Joins.{link-to}
 use Rattle.refine.specs.Tree.Comes.{join-made}

@@ -35,16 +35,16 @@ use Rattle.answers.specs.Answers.{Step, andThen}
 use Rattle.domain.specs.Activate.{activate, deactivate, cleanup}
 use Rattle.segment.specs.Regions.{access, freedRegion, leaveParent, giveBack, cleanupIf, revokeLeaf}
 use Rattle.refine.specs.Agrees.{Agrees, agrees-step, agrees-call, agrees-state, bind-assoc, bind-same}
-use Rattle.refine.specs.Tree.Regions.{region-read}
+use Rattle.decoded.specs.Tree.Regions.{region-read}
 use Rattle.refine.specs.Tree.Search.{Kids, regions-kids}
 use Rattle.refine.specs.Tree.Joins.{leave-parent-is}
 use Rattle.refine.specs.Tree.RegionSteps.{free-region-refines}
 use Rattle.refine.specs.Calls.Bounds.{Able, Bounded, bounded-able, loss-bounded, regions-few, told-formed}
-use Rattle.refine.specs.Sizes.{good-limits}
+use Rattle.decoded.specs.Sizes.{good-limits}
 use Rattle.refine.specs.Queue.RingSteps.{cleanup-refines}
 use Rattle.refine.specs.Calls.Acts.{plain, Acts, Deacts, follows-range}
 use Rattle.laws.specs.Accepted.{all-ok}
-use Rattle.refine.specs.Tables.{regionFor, tablesOf}
+use Rattle.decoded.specs.Tables.{regionFor, tablesOf}
 
 -- ---- what a carve held goes back
 

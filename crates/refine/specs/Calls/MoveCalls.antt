@@ -41,7 +41,7 @@ use Rattle.domain.specs.Activate.{insert}
 use Rattle.segment.specs.Regions.{sendRegion, revoke}
 use Rattle.calls.specs.Checks.{liveDomain, liveRegion}
 use Rattle.calls.specs.Calls.{sendCapa, send, revokeUnlessRoot, revokeCapa, revokeLocal}
-use Rattle.refine.specs.Tables.{handleFor, capaSlot, tablesOf}
+use Rattle.decoded.specs.Tables.{handleFor, capaSlot, tablesOf}
 use Rattle.refine.specs.Arenas.Pools.{handleIn}
 use Rattle.refine.specs.Agrees.{Agrees, agrees-call, agrees-step, ok-then, bind-assoc, bind-same}
 use Rattle.refine.specs.Calls.Chains.{agrees-on, agrees-unless, require-then}

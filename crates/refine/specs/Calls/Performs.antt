@@ -19,8 +19,8 @@ use Rattle.update.specs.Ring.{popOf}
 use Rattle.update.specs.Stored.{ringOf, withRingOf}
 use Rattle.region.specs.declared.AccessRights.{AccessRights}
 use Rattle.calls.specs.Calls.{openDomain, openUnder, openChannel, setCores, createRootRegion, aliasRegion, carveRegion, send, revokeLocal, createRevokeCapa}
-use Rattle.refine.specs.Sizes.{good-limits}
-use Rattle.refine.specs.Tables.{handleFor, tablesOf}
+use Rattle.decoded.specs.Sizes.{good-limits}
+use Rattle.decoded.specs.Tables.{handleFor, tablesOf}
 use Rattle.refine.specs.Agrees.{Agrees, agrees-call, ok-then, bind-assoc, bind-same, bind-ok}
 use Rattle.refine.specs.Queue.RingSteps.{itemFor, pop-refines}
 use Rattle.refine.specs.Calls.SmallCalls.{open-domain-refines, open-under-refines, open-channel-refines, set-cores-refines, create-revoke-refines}

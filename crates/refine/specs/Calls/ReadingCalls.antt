@@ -30,14 +30,14 @@ use Rattle.region.specs.Links.{firstLink}
 use Rattle.readings.specs.declared.Permission.{Permission}
 use Rattle.readings.specs.Readings as readings
 use Rattle.readings.specs.Readings.{recordsFrom, recordsOf, permissionList, holdersOf}
-use Rattle.refine.specs.Rows.{getD-up}
-use Rattle.refine.specs.Free.{used-not-free}
-use Rattle.refine.specs.Tables.{poolOf, recordFor, recordIn, recordsFor, tablesOf}
-use Rattle.refine.specs.Slots.Domains.{head-read}
+use Rattle.decoded.specs.Rows.{getD-up}
+use Rattle.decoded.specs.Free.{used-not-free}
+use Rattle.decoded.specs.Tables.{poolOf, recordFor, recordIn, recordsFor, tablesOf}
+use Rattle.decoded.specs.Slots.Domains.{head-read}
 use Rattle.refine.specs.Tracker.Linked.{Spread, slot-of}
 use Rattle.refine.specs.Tracker.RecordSteps.{spread}
 use Rattle.refine.specs.Tracker.Walking.{leb-t, leb-f}
-use Rattle.refine.specs.Decode.Trackers.{Stored, tracker-fits, tracker-stored}
+use Rattle.decoded.specs.Decode.Trackers.{Stored, tracker-fits, tracker-stored}
 
 -- ---- rows
 

@@ -31,13 +31,13 @@ use Rattle.tables.specs.Tables.{Tables, regionAt}
 use Rattle.answers.specs.Answers.{andThen}
 use Rattle.segment.specs.Regions.{revokeLeaf, revokeRegion, revoke}
 use Rattle.refine.specs.Agrees.{Agrees, agrees-step, agrees-call, agrees-state, bind-assoc}
-use Rattle.refine.specs.Free.{all-slots}
-use Rattle.refine.specs.Tree.Regions.{region-read}
+use Rattle.decoded.specs.Free.{all-slots}
+use Rattle.decoded.specs.Tree.Regions.{region-read}
 use Rattle.refine.specs.Tree.Search.{regions-kids}
 use Rattle.refine.specs.Calls.Acts.{plain, Acts, Deacts}
 use Rattle.laws.specs.Accepted.{all-ok}
 use Rattle.refine.specs.Calls.Leaves.{revoke-leaf-refines}
-use Rattle.refine.specs.Tables.{poolOf, tablesOf}
+use Rattle.decoded.specs.Tables.{poolOf, tablesOf}
 
 -- ---- one turn
 

@@ -34,13 +34,13 @@ use Rattle.domain.specs.Activate.{activate, deactivate}
 use Rattle.segment.specs.Children as segment
 use Rattle.segment.specs.Regions.{access, movePiece, sendFrom, sendRegion}
 use Rattle.refine.specs.Agrees.{Agrees, agrees-step, agrees-call, agrees-state, bind-assoc, bind-same, bind-ok, ok-then}
-use Rattle.refine.specs.Tree.Regions.{region-read, owner-put}
+use Rattle.decoded.specs.Tree.Regions.{region-read, owner-put}
 use Rattle.refine.specs.Tree.Search.{Chained, Kids, kids-few, regions-kids, children-chained}
 use Rattle.refine.specs.Tree.Joins.{link-to}
 use Rattle.refine.specs.Tree.ChildChecks.{carve-word}
 use Rattle.refine.specs.Calls.Bounds.{Bounded, bounded-able, bounded-more, gain-bounded, loss-bounded, regions-few, whole-bounded}
 use Rattle.refine.specs.Calls.Acts.{plain, Acts, Deacts, follows-range}
-use Rattle.refine.specs.Tables.{regionFor, regionsFor, tablesOf}
+use Rattle.decoded.specs.Tables.{regionFor, regionsFor, tablesOf}
 
 -- ---- the rows of the children that are left
 

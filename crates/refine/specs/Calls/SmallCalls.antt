@@ -22,12 +22,12 @@ use Rattle.tables.specs.Tables.{regionAt, withHead}
 use Rattle.domain.specs.Opened.{newDomain}
 use Rattle.calls.specs.Checks.{liveDomain}
 use Rattle.calls.specs.Calls.{openDomain, openUnder, openChannel, setCores, createRevokeCapa}
-use Rattle.refine.specs.Sizes.{good-limits}
-use Rattle.refine.specs.Tables.{tablesOf}
+use Rattle.decoded.specs.Sizes.{good-limits}
+use Rattle.decoded.specs.Tables.{tablesOf}
 use Rattle.refine.specs.Arenas.Pools.{handleIn}
 use Rattle.refine.specs.Agrees.{Agrees, agrees-call, agrees-step, agrees-then, ok-then, bind-assoc, bind-same, bind-ok}
 use Rattle.refine.specs.Calls.Chains.{agrees-next, agrees-unless}
-use Rattle.refine.specs.Slots.Domains.{head-read, head-put}
+use Rattle.decoded.specs.Slots.Domains.{head-read, head-put}
 use Rattle.refine.specs.Tree.Joins.{link-to}
 use Rattle.refine.specs.Slots.Opening.{open-refines}
 use Rattle.refine.specs.Calls.Checks.{Lists}

@@ -35,12 +35,12 @@ use Rattle.update.specs.Queue.{Queues}
 use Rattle.update.specs.Search.{anyNames, queued-any}
 use Rattle.update.specs.Laid.{Laid, laid-queues, ring-same}
 use Rattle.domain.specs.Activate.{orRefused, notify, cleanup}
-use Rattle.refine.specs.Rows.{map-up-length}
-use Rattle.refine.specs.Sizes.{and-both}
-use Rattle.refine.specs.Tables.{poolOf, updateFor, placeFor, ringFor, tablesOf}
+use Rattle.decoded.specs.Rows.{map-up-length}
+use Rattle.decoded.specs.Sizes.{and-both}
+use Rattle.decoded.specs.Tables.{poolOf, updateFor, placeFor, ringFor, tablesOf}
 use Rattle.refine.specs.Agrees.{Agrees}
-use Rattle.refine.specs.Slots.Domains.{head-read}
-use Rattle.refine.specs.Queue.Ring.{update-read, empty-is, full-is, push-tables, push-is, push-refused, pop-none, pop-is, pop-read, pop-tables}
+use Rattle.decoded.specs.Slots.Domains.{head-read}
+use Rattle.decoded.specs.Queue.Ring.{update-read, empty-is, full-is, push-tables, push-is, push-refused, pop-none, pop-is, pop-read, pop-tables}
 
 -- a queued update as the ring has it
 abbrev pub queuedFor : state.Update → Update

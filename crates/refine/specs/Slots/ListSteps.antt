@@ -33,12 +33,12 @@ use Rattle.slots.specs.Lists.{isFreeB, slotIn, putIn, emptySlot, givesB, alloca
 use Rattle.slots.specs.Record.{padded, listOf, putList, listAt, withList}
 use Rattle.slots.specs.Capas.{withCapa, withoutCapa, withEmpty, capaAt}
 use Rattle.domain.specs.Activate.{insert, insertedAnswer}
-use Rattle.refine.specs.Rows.{map-up-length, getD-up}
-use Rattle.refine.specs.Links.{after-top}
-use Rattle.refine.specs.Free.{free-fits}
-use Rattle.refine.specs.Tables.{capaSlot, freeSlot, slotFor, slotsFor, headFor, tablesOf}
+use Rattle.decoded.specs.Rows.{map-up-length, getD-up}
+use Rattle.decoded.specs.Links.{after-top}
+use Rattle.decoded.specs.Free.{free-fits}
+use Rattle.decoded.specs.Tables.{capaSlot, freeSlot, slotFor, slotsFor, headFor, tablesOf}
 use Rattle.refine.specs.Agrees.{Agrees, agrees-call}
-use Rattle.refine.specs.Slots.Domains.{domain-row, domain-put}
+use Rattle.decoded.specs.Slots.Domains.{domain-row, domain-put}
 use Rattle.refine.specs.Slots.Locals.{slots-filled, slots-kept, slots-freed, inserted, insert-refused, insert-is}
 
 -- the record of a list of n slots

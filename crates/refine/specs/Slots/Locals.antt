@@ -18,11 +18,11 @@ use Rattle.laws.specs.Words.SameDomains.{Listed}
 use Rattle.model.specs.Layout.{slotOr0}
 use Rattle.tables.specs.declared.DomainHead.{DomainHead}
 use Rattle.tables.specs.Tables.{noSlot, withHead, withSlot}
-use Rattle.refine.specs.Rows.{set-up}
-use Rattle.refine.specs.Links.{after-top, after-under}
-use Rattle.refine.specs.Free.{free-fits, free-below}
-use Rattle.refine.specs.Tables.{capaSlot, freeSlot, slotFor, slotsFor, headFor, tablesOf}
-use Rattle.refine.specs.Slots.Domains.{slot-put, slot-put-only}
+use Rattle.decoded.specs.Rows.{set-up}
+use Rattle.decoded.specs.Links.{after-top, after-under}
+use Rattle.decoded.specs.Free.{free-fits, free-below}
+use Rattle.decoded.specs.Tables.{capaSlot, freeSlot, slotFor, slotsFor, headFor, tablesOf}
+use Rattle.decoded.specs.Slots.Domains.{slot-put, slot-put-only}
 
 -- what a slot holds matters to it alone; the stack matters to a slot by the slot after it
 slot-same : (f g : List ℕ) (j : ℕ) (o : Option Capa) → afterIn f j ≡ afterIn g j → slotFor f j o ≡ slotFor g j o

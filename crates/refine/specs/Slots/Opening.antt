@@ -31,10 +31,10 @@ use Rattle.answers.specs.declared.Refusal.the-variants.{NoDomainRoom}
 use Rattle.slots.specs.declared.SlotList.{SlotList}
 use Rattle.slots.specs.Record.{putList, withList}
 use Rattle.domain.specs.Opened.{freshFrom, freshList, newHead, taken, newDomain}
-use Rattle.refine.specs.Rows.{map-up-length, getD-up}
-use Rattle.refine.specs.Links.{after-top, after-under}
-use Rattle.refine.specs.Tables.{handleFor, freeSlot, slotFor, slotsFor, domainFor, domainsFor, tablesOf}
-use Rattle.refine.specs.Words.{slots-many}
+use Rattle.decoded.specs.Rows.{map-up-length, getD-up}
+use Rattle.decoded.specs.Links.{after-top, after-under}
+use Rattle.decoded.specs.Tables.{handleFor, freeSlot, slotFor, slotsFor, domainFor, domainsFor, tablesOf}
+use Rattle.decoded.specs.Words.{slots-many}
 use Rattle.refine.specs.Agrees.{Agrees, agrees-call}
 use Rattle.refine.specs.Arenas.Pools.{given-is, given-first, first-inside}
 use Rattle.refine.specs.Arenas.PoolSlots.{domain-opened}

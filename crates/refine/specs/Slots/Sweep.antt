@@ -28,7 +28,7 @@ use Rattle.slots.specs.Lists.{sweepSlot, sweepFrom, sweep}
 use Rattle.slots.specs.Record.{padded}
 use Rattle.slots.specs.Capas.{isInvalidB, roomB, swept, withCapacity}
 use Rattle.domain.specs.Activate.{orRefused, reserve}
-use Rattle.refine.specs.Tables.{capaSlot, freeSlot, slotFor, slotsFor, tablesOf}
+use Rattle.decoded.specs.Tables.{capaSlot, freeSlot, slotFor, slotsFor, tablesOf}
 use Rattle.refine.specs.Agrees.{Agrees, agrees-call}
 use Rattle.refine.specs.Arenas.Pools.{live-is}
 use Rattle.refine.specs.Slots.ListSteps.{listFor, slot-for, slots-long, freed-for, room-for, list-for, list-step}

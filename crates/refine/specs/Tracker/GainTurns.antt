@@ -22,7 +22,7 @@ use Rattle.region.specs.declared.Way.the-variants.{Add}
 use Rattle.region.specs.Links.{slotTo, inserted, split}
 use Rattle.region.specs.Counts.{changesB}
 use Rattle.region.specs.Turns.{Turn, to, over, onward, nextOf, fillTurn, cutStart, cutEnd, raiseTurn, addAt, addTurn, turn}
-use Rattle.refine.specs.Tables.{recordFor, tablesOf}
+use Rattle.decoded.specs.Tables.{recordFor, tablesOf}
 use Rattle.refine.specs.Tracker.Linked.{slot-of, lastLink}
 use Rattle.refine.specs.Tracker.RecordSteps.{tracked}
 use Rattle.refine.specs.Tracker.GainSteps.{newRecord, raisedRecord}

@@ -25,10 +25,10 @@ use Rattle.tables.specs.declared.Region.{Region}
 use Rattle.tables.specs.Tables.{Tables, Arena, noRecord, headAt, recordAt, withDomains, withHead, withRecords, withRecord, withRecordPool}
 use Rattle.region.specs.Links as links
 use Rattle.region.specs.Links.{withNext}
-use Rattle.refine.specs.Rows.{getD-up}
-use Rattle.refine.specs.Tables.{recordFor, headFor, recordIn, recordsFor, tablesOf}
-use Rattle.refine.specs.Tracker.Trackers.{record-read}
-use Rattle.refine.specs.Slots.Domains.{head-read}
+use Rattle.decoded.specs.Rows.{getD-up}
+use Rattle.decoded.specs.Tables.{recordFor, headFor, recordIn, recordsFor, tablesOf}
+use Rattle.decoded.specs.Tracker.Trackers.{record-read}
+use Rattle.decoded.specs.Slots.Domains.{head-read}
 use Rattle.refine.specs.Tracker.TrackerSteps.{withFirst, domainsWith, record-changed, record-added, record-removed, front-added, front-removed}
 
 -- ---- the record before

@@ -22,7 +22,7 @@ use Rattle.region.specs.declared.Way.the-variants.{Remove}
 use Rattle.region.specs.Links.{slotTo, withNext, split, freedRecord}
 use Rattle.region.specs.Counts.{changesB}
 use Rattle.region.specs.Turns.{Turn, to, over, onward, nextOf, droppedOf, cutStart, cutEnd, lowerTurn, removeAt, removeTurn, turn}
-use Rattle.refine.specs.Tables.{recordFor, tablesOf}
+use Rattle.decoded.specs.Tables.{recordFor, tablesOf}
 use Rattle.refine.specs.Tracker.Linked.{slot-of, lastLink}
 use Rattle.refine.specs.Tracker.RecordSteps.{tracked}
 use Rattle.refine.specs.Tracker.LossSteps.{loweredRecord, lowers}

@@ -25,7 +25,7 @@ use Rattle.region.specs.declared.Progress.the-variants.{Going}
 use Rattle.region.specs.declared.Way.the-variants.{Merge}
 use Rattle.region.specs.Links.{slotTo, freedRecord}
 use Rattle.region.specs.Turns.{to, over, onward, mergeAt, mergeTurn, turn}
-use Rattle.refine.specs.Tables.{recordFor, tablesOf}
+use Rattle.decoded.specs.Tables.{recordFor, tablesOf}
 use Rattle.refine.specs.Agrees.{bind-assoc}
 use Rattle.refine.specs.Tracker.Linked.{slot-of}
 use Rattle.refine.specs.Tracker.RecordSteps.{tracked}

@@ -22,8 +22,8 @@ use Rattle.region.specs.declared.Way.{Way}
 use Rattle.region.specs.declared.Way.the-variants.{Merge}
 use Rattle.region.specs.Turns as turns
 use Rattle.region.specs.Turns.{walk}
-use Rattle.refine.specs.Tables.{tablesOf}
-use Rattle.refine.specs.Free.{free-fits}
+use Rattle.decoded.specs.Tables.{tablesOf}
+use Rattle.decoded.specs.Free.{free-fits}
 use Rattle.refine.specs.Agrees.{Agrees, agrees-step, agrees-call, agrees-from, bind-assoc, bind-same}
 use Rattle.refine.specs.Tracker.RecordSteps.{tracked, Held, held-moved}
 use Rattle.refine.specs.Tracker.WalkSteps.{walked}

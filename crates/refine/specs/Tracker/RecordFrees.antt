@@ -25,7 +25,7 @@ use Rattle.tables.specs.Tables.{Tables, Arena, noRecord, withRecord, withRecord
 use Rattle.arena.specs.Arena as arena
 use Rattle.pools.specs.Wiping.{slotFreed}
 use Rattle.region.specs.Links.{withNext, freedAnswer, freedRecord}
-use Rattle.refine.specs.Tables.{recordFor, poolOf, tablesOf}
+use Rattle.decoded.specs.Tables.{recordFor, poolOf, tablesOf}
 use Rattle.refine.specs.Changes.{record-pool-changed}
 use Rattle.refine.specs.Arenas.Pools.{answerBy, poolFreed, answer-is, frees-is, freed-is}
 use Rattle.refine.specs.Tracker.TrackerSteps.{domainsWith}

@@ -34,7 +34,7 @@ use Rattle.answers.specs.declared.Refusal.the-variants.{NoTracker}
 use Rattle.answers.specs.Answers.{Step, done, refused}
 use Rattle.region.specs.Links as links
 use Rattle.region.specs.Links.{linkTo, withNext, taken, inserted, split}
-use Rattle.refine.specs.Tables.{recordFor, tablesOf}
+use Rattle.decoded.specs.Tables.{recordFor, tablesOf}
 use Rattle.refine.specs.Changes.{record-pool-changed}
 use Rattle.refine.specs.Arenas.Pools.{given-is, given-first, allocated-first, first-inside}
 use Rattle.refine.specs.Tracker.TrackerSteps.{domainsWith}

@@ -14,7 +14,7 @@ use Rattle.model.specs.Tracker.{lower, crosses, changes, mergeable, withCounts}
 use Rattle.laws.specs.Stack.{one-at-most}
 use Rattle.words.specs.Cases.{pick, both}
 use Rattle.region.specs.Counts.{up, made, raised, lowered, crossesB, changesB, mergeableB}
-use Rattle.refine.specs.Tables.{recordFor}
+use Rattle.decoded.specs.Tables.{recordFor}
 use Rattle.refine.specs.Tracker.Walking.{leb-t}
 use Rattle.refine.specs.Tracker.GainSteps.{newRecord, raisedRecord}
 

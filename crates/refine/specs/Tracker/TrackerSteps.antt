@@ -17,10 +17,10 @@ use Rattle.laws.specs.Words.SameTrackers.{firstSlot}
 use Rattle.tables.specs.declared.DomainHead.{DomainHead}
 use Rattle.tables.specs.declared.Region.{Region}
 use Rattle.tables.specs.Tables.{Tables, Domain, noDomain, noRecord, putHead, withDomains, withHead, withRecords, withRecord}
-use Rattle.refine.specs.Rows.{set-up, set-table, set-two}
-use Rattle.refine.specs.Tables.{recordFor, inTrackerFor, recordIn, headFor, domainFor, domainsFor, recordsFor, tablesOf}
-use Rattle.refine.specs.Tracker.Trackers.{trackerOf, first-same, row-later, row-before, record-unused, record-read, record-same}
-use Rattle.refine.specs.Slots.Domains.{domain-row}
+use Rattle.decoded.specs.Rows.{set-up, set-table, set-two}
+use Rattle.decoded.specs.Tables.{recordFor, inTrackerFor, recordIn, headFor, domainFor, domainsFor, recordsFor, tablesOf}
+use Rattle.decoded.specs.Tracker.Trackers.{trackerOf, first-same, row-later, row-before, record-unused, record-read, record-same}
+use Rattle.decoded.specs.Slots.Domains.{domain-row}
 
 -- a domain's words with another first record
 abbrev pub withFirst : DomainHead → ℕ → DomainHead

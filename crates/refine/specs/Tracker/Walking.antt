@@ -32,8 +32,8 @@ use Rattle.region.specs.declared.Progress.the-variants.{Going, Over}
 use Rattle.region.specs.declared.Way.{Way}
 use Rattle.region.specs.Links.{withNext, firstLink, inserted, split, freedRecord}
 use Rattle.region.specs.Turns.{Turn, to, onward, turn, walk}
-use Rattle.refine.specs.Tables.{recordFor, tablesOf}
-use Rattle.refine.specs.Slots.Domains.{head-read}
+use Rattle.decoded.specs.Tables.{recordFor, tablesOf}
+use Rattle.decoded.specs.Slots.Domains.{head-read}
 use Rattle.refine.specs.Agrees.{Agrees, agrees-step, agrees-call, agrees-from, bind-same}
 use Rattle.refine.specs.Tracker.Linked.{lastLink, row-is}
 use Rattle.refine.specs.Tracker.RecordSteps.{tracked, Held, spread, tracked-again, held-moved, inSlot, from, inserted-is, moves-in, split-is}

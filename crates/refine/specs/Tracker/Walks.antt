@@ -22,7 +22,7 @@ use Rattle.region.specs.declared.Progress.the-variants.{Going}
 use Rattle.region.specs.declared.Way.{Way}
 use Rattle.region.specs.Links.{split}
 use Rattle.region.specs.Turns.{to, over, onward, turn, walk}
-use Rattle.refine.specs.Tables.{tablesOf}
+use Rattle.decoded.specs.Tables.{tablesOf}
 use Rattle.refine.specs.Agrees.{Agrees, agrees-step, agrees-call, bind-assoc}
 use Rattle.refine.specs.Tracker.Linked.{last-of}
 use Rattle.refine.specs.Tracker.RecordSteps.{tracked, from}

@@ -26,10 +26,10 @@ use Rattle.segment.specs.declared.Overlap.{Overlap}
 use Rattle.segment.specs.declared.Search.{Search}
 use Rattle.segment.specs.declared.Search.the-variants as search
 use Rattle.segment.specs.Children.{overlapsB, fitsB, checkChild}
-use Rattle.refine.specs.Sizes.{and-both}
-use Rattle.refine.specs.Tree.Regions.{region-read}
+use Rattle.decoded.specs.Sizes.{and-both}
+use Rattle.decoded.specs.Tree.Regions.{region-read}
 use Rattle.refine.specs.Tree.Search.{rest, ends, Kids, find-is}
-use Rattle.refine.specs.Tables.{tablesOf}
+use Rattle.decoded.specs.Tables.{tablesOf}
 
 -- the range and rights that a call is given
 abbrev pub accessFor : AccessRights → Access

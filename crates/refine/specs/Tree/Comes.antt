@@ -21,7 +21,7 @@ use Rattle.laws.specs.Keep.Locals.{made, new-all}
 use Rattle.segment.specs.Children.{insertChild}
 use Rattle.refine.specs.Tree.Search.{Kids}
 use Rattle.refine.specs.Tree.Joins.{insert-child-is}
-use Rattle.refine.specs.Tables.{tablesOf}
+use Rattle.decoded.specs.Tables.{tablesOf}
 
 -- a free slot is no child, and what is put there leaves the children
 module _ (rs : List (Option state.Region)) (p : ℕ) (cs : List ℕ) (kids : Kids rs p cs) (i : ℕ) (free : slotOf rs i ≡ none) where

@@ -30,11 +30,11 @@ use Rattle.segment.specs.declared.Search.{Search}
 use Rattle.segment.specs.declared.Search.the-variants as search
 use Rattle.segment.specs.Children.{withNext, withChild, linkChild, insertChild, removeChild}
 use Rattle.segment.specs.Regions.{leaveParent}
-use Rattle.refine.specs.Links.{after-top, after-behind}
-use Rattle.refine.specs.Tree.Regions.{region-read}
-use Rattle.refine.specs.Tree.Children.{rowIn, child-added, child-removed, first-added, first-removed}
+use Rattle.decoded.specs.Links.{after-top, after-behind}
+use Rattle.decoded.specs.Tree.Regions.{region-read}
+use Rattle.decoded.specs.Tree.Children.{rowIn, child-added, child-removed, first-added, first-removed}
 use Rattle.refine.specs.Tree.Search.{before, rest, cut-is, lastLink, ends, Kids, row-read, next-of, find-is}
-use Rattle.refine.specs.Tables.{tablesOf}
+use Rattle.decoded.specs.Tables.{tablesOf}
 
 -- ---- lists
 

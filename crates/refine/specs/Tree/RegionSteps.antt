@@ -33,14 +33,14 @@ use Rattle.answers.specs.Answers.{Step, done, refused}
 use Rattle.region.specs.declared.AccessRights.{AccessRights}
 use Rattle.region.specs.Links.{freedAnswer}
 use Rattle.segment.specs.Regions.{capaFor, newRegion, freedRegion, leaveParent}
-use Rattle.refine.specs.Links.{after-out}
+use Rattle.decoded.specs.Links.{after-out}
 use Rattle.refine.specs.Arenas.Pools.{answerBy, given-first, given-none, first-unused, answer-is}
 use Rattle.refine.specs.Arenas.PoolSlots.{free-slot, region-made, region-freed, stateAfter}
-use Rattle.refine.specs.Tree.Regions.{region-read}
+use Rattle.decoded.specs.Tree.Regions.{region-read}
 use Rattle.refine.specs.Tree.Joins.{link-to}
 use Rattle.refine.specs.Tree.ChildChecks.{accessFor}
 use Rattle.refine.specs.Agrees.{refusalFor, Agrees, agrees-step, agrees-call, agrees-done, agrees-refused}
-use Rattle.refine.specs.Tables.{poolOf, regionFor, tablesOf}
+use Rattle.decoded.specs.Tables.{poolOf, regionFor, tablesOf}
 
 -- a step and a call that are accepted, or refused, alike
 pub agrees-ok : (x : Step) (m : Outcome (ℕ × State)) (v : ℕ) (t : Tables) (s : State) → x ≡ done v t → m ≡ ok (v, s) → t ≡ tablesOf s → Agrees x m

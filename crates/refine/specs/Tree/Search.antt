@@ -24,12 +24,12 @@ use Rattle.tables.specs.Tables.{Tables, noRegion, regionAt}
 use Rattle.segment.specs.declared.Place.{Place}
 use Rattle.segment.specs.declared.Search.{Search}
 use Rattle.segment.specs.Children.{endsB, findFrom, find}
-use Rattle.refine.specs.Rows.{getD-up}
-use Rattle.refine.specs.Links.{after-top, after-under}
-use Rattle.refine.specs.Free.{stack-length, sum-slots}
-use Rattle.refine.specs.Tree.Regions.{childrenIn, region-read}
-use Rattle.refine.specs.Tree.Children.{rowIn, sibling-list}
-use Rattle.refine.specs.Tables.{regionsFor, tablesOf}
+use Rattle.decoded.specs.Rows.{getD-up}
+use Rattle.decoded.specs.Links.{after-top, after-under}
+use Rattle.decoded.specs.Free.{stack-length, sum-slots}
+use Rattle.decoded.specs.Tree.Regions.{childrenIn, region-read}
+use Rattle.decoded.specs.Tree.Children.{rowIn, sibling-list}
+use Rattle.decoded.specs.Tables.{regionsFor, tablesOf}
 
 -- ---- a list cut before the first that passes the test
 

@@ -1,0 +1,88 @@
+-- The regions read from their rows. A region stands in exactly its parent's list, once, so its sibling link is that list's, and a list has no more
+-- members than there are regions.
+use mathlib.Core.Path.{_≡_, refl, ap, _∙_}
+use Prim.Native.Nat.{ℕ, _≤_, _<_}
+use mathlib.Core.Option.{Option, some}
+use mathlib.Core.List.{List, _∷_}
+use native.Mathlib.Omega.{arith}
+use native.Mathlib.Decide.{ℕ-discrete}
+use lib.Dec.{eqb}
+use lib.ListN.{length, getD}
+use Rattle.model.specs.Lists.{oneIf, count, slotOf, In, firstOf, afterIn}
+use Rattle.model.specs.State as state
+use Rattle.model.specs.State.{Kind, Root, Alias, Carve, parentOf}
+use Rattle.model.specs.Layout.{link, kindWord}
+use Rattle.laws.specs.Cases.{lt, ge, cmp, eqb-f}
+use Rattle.laws.specs.Stack.{one-at-most}
+use Rattle.laws.specs.Tree.Slots.{in-length, live-is, each-in}
+use Rattle.laws.specs.Tree.Shares.{child}
+use Rattle.laws.specs.Tree.Facts.{Regions, child-le, has-parent, listing, own}
+use Rattle.laws.specs.Tree.Shape.{kids-at}
+use Rattle.laws.specs.Test.Paths.{no-longer}
+use Rattle.tables.specs.declared.RegionCapa.{RegionCapa}
+use Rattle.tables.specs.Tables.{noRegion}
+use Rattle.decoded.specs.Tree.Children.{sibling-list}
+use Rattle.decoded.specs.Tables.{regionFor}
+use Rattle.decoded.specs.Decode.Read.{kindFrom, childrenFrom, regionFrom}
+use Rattle.decoded.specs.Decode.Walks.{chain-walked, chained-after}
+
+kind-read : (k : Kind) → kindFrom (kindWord k) (link (parentOf k)) ≡ k
+kind-read Root = refl
+kind-read (Alias p) = refl
+kind-read (Carve p) = refl
+
+-- ---- child lists
+
+module _ (rs : List (Option state.Region)) (s : Regions rs) (p : ℕ) (g : state.Region) (at : In rs p g) where
+  pub child-once : (c : ℕ) → count (eqb c) (g .children) ≤ 1
+  child-once c = omega (arith, listing rs s p g at c, child-le (slotOf rs c) p)
+
+  -- a child, with what it is
+  pub member : (c : ℕ) → 0 < count (eqb c) (g .children) → (x : state.Region) × In rs c x × (parentOf (x .kind) ≡ some p)
+  member c h =
+      let l = live-is (slotOf rs c) (each-in _ (g .children) (s p g at .childrenLive) c h) in
+      (l .0, l .1, has-parent (l .0 .kind) p (omega (arith, listing rs s p g at c, ap (λ o. child o p) (l .1))))
+
+  none-beyond : (c : ℕ) → length rs ≤ c → count (eqb c) (g .children) ≡ 0
+  none-beyond c b = elim (cmp 0 (count (eqb c) (g .children))) [
+    | lt h ↦ let m = member c h in absurd (omega (arith, in-length rs c (m .0) (m .1)))
+    | ge h ↦ omega arith
+  ]
+
+  -- it has children that are regions, each once, and not itself: fewer than there are regions
+  pub children-few : length (g .children) < length rs
+  children-few = no-longer (length rs) (p ∷ g .children) beyond once
+    where
+      itself : count (eqb p) (g .children) ≡ 0
+      itself = listing rs s p g at p ∙ ap (λ o. child o p) at ∙ own rs s p g at
+
+      beyond : (c : ℕ) → length rs ≤ c → count (eqb c) (p ∷ g .children) ≡ 0
+      beyond c b = omega (arith, none-beyond c b, ap oneIf (eqb-f c p (λ e. omega (arith, in-length rs p g at))))
+
+      once : (c : ℕ) → count (eqb c) (p ∷ g .children) ≤ 1
+      once c = elim (ℕ-discrete c p) [
+        | yes e ↦ omega (arith, itself, ap (λ k. count (eqb k) (g .children)) e, one-at-most (eqb c p))
+        | no ne ↦ omega (arith, child-once c, ap oneIf (eqb-f c p ne))
+      ]
+
+-- ---- n regions, with these rows
+
+module _ (n : ℕ) (rs : List (Option state.Region)) (long : length rs ≡ n) (s : Regions rs) (rows : List RegionCapa)
+    (row : (i : ℕ) (g : state.Region) → In rs i g → getD rows i noRegion ≡ regionFor rs i (some g))
+    (p : ℕ) (g : state.Region) (at : In rs p g) where
+  next : (c : ℕ) → 0 < count (eqb c) (g .children) → getD rows c noRegion .next ≡ link (afterIn (g .children) c)
+  next c h =
+      let m = member rs s p g at c h in
+      ap (λ (r : RegionCapa). r .next) (row c (m .0) (m .1))
+      ∙ ap (λ l. link (afterIn l c)) (sibling-list rs (m .0 .kind) p (m .2) ∙ kids-at rs p g at)
+
+  children-read : childrenFrom n rows (link (firstOf (g .children))) ≡ g .children
+  children-read =
+      chain-walked (λ i. getD rows i noRegion .next) n (g .children) (omega (arith, children-few rs s p g at))
+      (chained-after (λ i. getD rows i noRegion .next) (g .children) (child-once rs s p g at) next)
+
+  pub region-from : regionFrom n rows (getD rows p noRegion) ≡ g
+  region-from =
+      let k = kind-read (g .kind) in
+      ap (regionFrom n rows) (row p g at)
+      ∙ λ i. record { owner = g .owner; kind = k i; start = g .start; end = g .end; rights = g .rights; children = children-read i }

@@ -1,0 +1,3 @@
+-- The update ring in the tables.
+pub mod Round
+pub mod Ring

@@ -1,0 +1,67 @@
+-- The law for words: as many words as their sizes ask are those of a sound state exactly where the tables that they show are tidy and the state that
+-- is read from these is sound.
+use mathlib.Core.Path.{_≡_}
+use Prim.Native.Nat.{ℕ, zero, suc, _+_}
+use mathlib.Core.List.{List}
+use native.Mathlib.Omega.{arith}
+use lib.ListN.{length, drop, take}
+use Rattle.model.specs.Lists.{Each}
+use Rattle.model.specs.State.{State}
+use Rattle.model.specs.Layout.{words}
+use Rattle.model.specs.Sound.{Sound}
+use Rattle.words.specs.Runs.{length-part}
+use Rattle.words.specs.Rows.{rows, length-rows}
+use Rattle.tables.specs.View.{sizesOf, slotOf, regionOf, recordOf, updateOf, arenaOf, domainOf, stride, ofParts, view, Sized}
+use Rattle.tables.specs.Sections.{section, section-length}
+use Rattle.decoded.specs.Shape.{PoolShaped, Shaped}
+use Rattle.decoded.specs.Words.{words-held, held-words}
+use Rattle.decoded.specs.Decode.Read.{stateOf}
+use Rattle.decoded.specs.Settled.Tidy.{Tidy}
+use Rattle.decoded.specs.Settled.Exact.{tidy-stands, stands-tidy}
+
+-- ---- sized words show tables of the right shape
+
+arena-shaped : (n : ℕ) (p : List ℕ) → length p ≡ 2 + (n + n) → PoolShaped n (arenaOf n p)
+unfolding arenaOf
+arena-shaped n p h = record { links = length-part p 2 n (omega arith); gens = length-part p (2 + n) n (omega arith) }
+
+each-row : {A : Type 0} (P : A → Type 0) (w n : ℕ) (f : List ℕ → A) (l : List ℕ) → ((p : List ℕ) → P (f p)) → Each P (rows w n f l)
+unfolding rows
+each-row P w zero f l h = tt
+each-row P w (suc n) f l h = (h (take w l), each-row P w n f (drop w l) h)
+
+slots-many : (n : ℕ) (p : List ℕ) → length (domainOf n p .slots) ≡ n
+unfolding domainOf
+slots-many n p = length-rows 3 n slotOf (drop 5 p)
+
+pub view-shaped : (t : List ℕ) → Sized t → Shaped (view t)
+unfolding view ofParts
+view-shaped t s =
+    let z = sizesOf t in
+    record {
+      limits = s .limits;
+      domainPool = arena-shaped (z .domains) (section t 1) (section-length t 1 s);
+      regionPool = arena-shaped (z .regions) (section t 2) (section-length t 2 s);
+      recordPool = arena-shaped (z .records) (section t 3) (section-length t 3 s);
+      domains = length-rows (stride z) (z .domains) (domainOf (z .slots)) (section t 4);
+      slots = each-row _ (stride z) (z .domains) (domainOf (z .slots)) (section t 4) (slots-many (z .slots));
+      regions = length-rows 8 (z .regions) regionOf (section t 5);
+      records = length-rows 9 (z .records) recordOf (section t 6);
+      ring = length-rows 4 (z .updates + 1) updateOf (section t 7);
+    }
+
+-- ---- the words of a sound state
+
+abbrev pub SoundWords : List ℕ → Type 0
+SoundWords t = (s : State) × Sound s × (t ≡ words s)
+
+pub tidy-words : (t : List ℕ) → Sized t → Tidy (view t) → Sound (stateOf (view t)) → SoundWords t
+tidy-words t z d h =
+    let x = tidy-stands (view t) (view-shaped t z) d h in
+    (x .0, x .1, held-words (x .0) t (record { seen = x .2; sized = z }))
+
+pub words-tidy : (t : List ℕ) → SoundWords t → Sized t × Tidy (view t) × Sound (stateOf (view t))
+words-tidy t x =
+    let l = words-held (x .0) (x .1) t (x .2) in
+    let y = stands-tidy (view t) (x .0, x .1, l .seen) in
+    (l .sized, y .0, y .1)

@@ -1,0 +1,2 @@
+-- Domains and their slot lists in the tables.
+pub mod Domains

@@ -1,0 +1,2 @@
+-- The trackers in the tables.
+pub mod Trackers

@@ -1,0 +1,3 @@
+-- The region tree in the tables.
+pub mod Regions
+pub mod Children
