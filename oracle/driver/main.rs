@@ -1,20 +1,5 @@
 //! The judge's driver: one build for each set of pool sizes (oracle/build). oracle/README.md has the commands and the text form.
 
-mod antt;
-mod compare;
-mod drawn;
-mod judge;
-mod leftovers;
-#[cfg(linked)]
-mod linked;
-mod met;
-mod ours;
-mod outside;
-mod random;
-mod sample;
-mod script;
-mod scripts;
-
 use std::io::{self, BufRead};
 use std::process::ExitCode;
 
@@ -22,7 +7,8 @@ use shared::calls::{show, Call};
 use shared::lists::parse;
 use shared::tables::Tables;
 
-use judge::Judge;
+use driver::judge::{self, Judge};
+use driver::{compare, leftovers, ours, outside, sample, script, scripts};
 
 const USAGE: &str = "driver run [tables|words]              answers to the calls on standard input; then every entry, or every word, of the tables
 driver compare SEED CALLS LENGTH       random lists, the Rust beside the reference
@@ -36,7 +22,6 @@ driver linked SEED CALLS LENGTH        random lists, the Rust beside the exporte
 driver damage SEED SHAPES LENGTH WORDS sound tables by lists of up to LENGTH calls, damaged, lent to the exported functions
 driver script < SCRIPT                 what the script program is to print
 driver scripts PROGRAM SEED COUNT      random scripts, the Rust beside the script program
-driver antt PREFIX < lists             theorems about the model, one for each list
 driver outside                         what the Rust does outside the domain of equality
 driver leftovers SEED CALLS LENGTH     what a failing call leaves behind in the Rust, each way with a short list
 driver leftovers FILE                  these lists, run again";
@@ -89,7 +74,6 @@ fn command(words: &[&str]) -> Result<bool, String> {
         ["linked" | "damage", ..] => Err("built without target/staticlib/libengine.a: run `rt staticlib engine` and oracle/build".to_string()),
         ["script"] => script::print(),
         ["scripts", program, seed, count] => scripts::compare(program, number(seed)?, number(count)?),
-        ["antt", prefix] => antt::print(prefix),
         ["outside"] => Ok(outside::check()),
         ["leftovers", seed, calls, l] => Ok(leftovers::print(number(seed)?, number(calls)?, length(l)?)),
         ["leftovers", file] => leftovers::check(file),

@@ -6,7 +6,8 @@ use native.Mathlib.Omega.{arith}
 use lib.ListN.{length, getD, set, length-set, List·getD-eq-default}
 use lib.Seq.{getD-set-same, getD-set-other, set-out}
 use Rattle.words.specs.Runs.{part-at, length-part, part-in, part-before, part-after}
-use Rattle.tables.specs.View.{arenaOf, poolWidth}
+use Rattle.tables.specs.View.{arenaOf}
+use Rattle.sizes.specs.Sizes.{poolWidth}
 use Rattle.arena.specs.Arena.{withTop, withLink, withGen}
 
 module _ (n : ℕ) (p : List ℕ) (sz : length p ≡ poolWidth n) where

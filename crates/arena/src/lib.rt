@@ -3,7 +3,8 @@
 ghost use mathlib.Core.Path.{_≡_};
 ghost use Prim.Native.Nat.{_<_};
 ghost use lib.ListN.{length, getD};
-ghost use Rattle.tables.specs.View.{arenaOf, poolWidth};
+ghost use Rattle.tables.specs.View.{arenaOf};
+ghost use Rattle.sizes.specs.Sizes.{poolWidth};
 ghost use Rattle.arena.specs.Arena.{withTop, withLink, withGen, headLink, given, allocated, heldB, answerTo, freed, isFreeB, liveB, capacityOf, newArena};
 use tables::Handle;
 

@@ -9,8 +9,10 @@ use lib.Dec.{ltb, eqb}
 use lib.ListN.{length, set, length-set}
 use Rattle.words.specs.Cases.{pick}
 use Rattle.tables.specs.Tables.{Tables, recordAt}
-use Rattle.tables.specs.View.{sizesOf, view, ofParts, Sized}
-use Rattle.region.specs.Links.{slotTo, firstLink}
+use Rattle.sizes.specs.Sizes.{sizesOf}
+use Rattle.tables.specs.View.{view, ofParts, Sized}
+use Rattle.tables.specs.Links.{slotTo}
+use Rattle.tracker_records.specs.Links.{firstLink}
 use Rattle.readings.specs.declared.Permission.{Permission}
 use Rattle.readings.specs.declared.Plan.{Plan}
 use Rattle.readings.specs.Readings.{recordsFrom, recordsOf, permissionOf, permissionList, foundAt, planOf, fillRun}

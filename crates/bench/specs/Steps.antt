@@ -8,19 +8,20 @@ use lib.Dec.{eqb}
 use lib.ListN.{length}
 use Rattle.words.specs.Cases.{pick, both}
 use Rattle.tables.specs.declared.Slot.{Slot}
-use Rattle.tables.specs.declared.sizes.Sizes.{Sizes}
-use Rattle.tables.specs.Limits.{limitsB}
+use Rattle.sizes.specs.declared.Sizes.{Sizes}
+use Rattle.sizes.specs.Limits.{limitsB}
 use Rattle.tables.specs.Tables.{Tables}
-use Rattle.tables.specs.Tests.{sizedB}
-use Rattle.tables.specs.View.{total, layout, Left}
+use Rattle.sizes.specs.Tests.{sizedB}
+use Rattle.sizes.specs.Sizes.{total}
+use Rattle.tables.specs.View.{layout, Left}
 use Rattle.tables.specs.Layout.{words-are}
 use Rattle.arena.specs.declared.Given.{Given}
 use Rattle.arena.specs.declared.Given.the-variants.{At as AtHandle, Full as NoneFree}
 use Rattle.arena.specs.declared.Freed.{Freed}
 use Rattle.arena.specs.declared.Freed.the-variants.{Done, Spent, NotHeld}
 use Rattle.making.specs.Empty.{empty}
-use Rattle.slots.specs.declared.Inserted.{Inserted}
-use Rattle.slots.specs.declared.Inserted.the-variants.{At, Full}
+use Rattle.slot_list.specs.declared.Inserted.{Inserted}
+use Rattle.slot_list.specs.declared.Inserted.the-variants.{At, Full}
 
 -- the answer where there is none
 abbrev pub nothing : ℕ

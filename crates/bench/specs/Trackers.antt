@@ -4,7 +4,7 @@ use mathlib.Core.Bool.{Bool, true, false}
 use mathlib.Core.List.{List, [], _∷_}
 use Prim.Native.Nat.{ℕ}
 use Rattle.words.specs.Cases.{pick}
-use Rattle.tables.specs.Tests.{sizedB}
+use Rattle.sizes.specs.Tests.{sizedB}
 use Rattle.answers.specs.declared.Answer.{Answer}
 use Rattle.answers.specs.declared.Answer.the-variants.{Done, Refused}
 use Rattle.region.specs.declared.AccessRights.{AccessRights}

@@ -3,16 +3,16 @@
 ghost use mathlib.Core.Path.{_≡_};
 ghost use lib.ListN.{length, replicate};
 ghost use Rattle.words.specs.Copies.{copied};
-ghost use Rattle.tables.specs.Limits.{limitsB};
+ghost use Rattle.sizes.specs.Limits.{limitsB};
 ghost use Rattle.tables.specs.Tables.{withRegionPool};
 ghost use Rattle.tables.specs.View.{view};
 ghost use Rattle.arena.specs.Arena.{given, allocated, answerTo};
 ghost use Rattle.pools.specs.declared.Pool.{Pool};
 ghost use Rattle.pools.specs.Wiping.{slotFreed};
-ghost use Rattle.slots.specs.Lists.{giveSlot};
-ghost use Rattle.slots.specs.Record.{listAt};
+ghost use Rattle.slot_list.specs.Lists.{giveSlot};
+ghost use Rattle.stored_slots.specs.Record.{listAt};
 ghost use Rattle.slots.specs.Capas.{withCapa, withoutCapa};
-ghost use Rattle.update.specs.Ring.{cleanupOf, pushOf, popOf, markOf};
+ghost use Rattle.ring.specs.Ring.{cleanupOf, pushOf, popOf, markOf};
 ghost use Rattle.update.specs.Stored.{ringOf, withRingOf};
 ghost use Rattle.bench.specs.Steps.{nothing, flagOf, insertedOf, givenOf, freedOf, capaOf, sizesOf, reply, left, makes, made};
 
@@ -20,9 +20,9 @@ pub mod trackers;
 
 use arena::Freed;
 use arena::Given;
-use slots::Inserted;
+use sizes::Sizes;
+use slot_list::Inserted;
 use tables::Handle;
-use tables::Sizes;
 use tables::Slot;
 
 pub const NOTHING: u64 = 18446744073709551615;
@@ -76,7 +76,7 @@ pub extern "C" fn bench_insert(
     ensures { λ r. ⌜ (r ≡ reply (now (t .entry)) (insertedOf (giveSlot (listAt (view (now (t .entry))) d) .at)))
         × (now (t .exit) ≡ left (now (t .entry)) (withCapa (view (now (t .entry))) d (capaOf kind slot generation))) ⌝ }
 {
-    if tables::is_sized(t) {
+    if sizes::is_sized(t) {
         let handle = Handle { slot, generation };
         return inserted(slots::insert_capa(t, d, Slot { kind, handle }));
     }
@@ -87,7 +87,7 @@ pub extern "C" fn bench_insert(
 pub extern "C" fn bench_remove(t: &mut [u64], d: usize, i: usize) -> u64
     ensures { λ r. ⌜ (r ≡ reply (now (t .entry)) 1) × (now (t .exit) ≡ left (now (t .entry)) (withoutCapa (view (now (t .entry))) d i)) ⌝ }
 {
-    if tables::is_sized(t) {
+    if sizes::is_sized(t) {
         slots::remove_capa(t, d, i);
         return 1;
     }
@@ -101,7 +101,7 @@ pub extern "C" fn bench_mark(t: &mut [u64], slot: u64, generation: u64, cores: u
     ensures { λ r. ⌜ (r ≡ reply (now (t .entry)) (flagOf (markOf (ringOf (view (now (t .entry)))) slot generation cores .ok)))
         × (now (t .exit) ≡ left (now (t .entry)) (withRingOf (view (now (t .entry))) (markOf (ringOf (view (now (t .entry)))) slot generation cores .ring))) ⌝ }
 {
-    if tables::is_sized(t) {
+    if sizes::is_sized(t) {
         return flag(update::mark_domain(t, slot, generation, cores));
     }
     NOTHING
@@ -112,7 +112,7 @@ pub extern "C" fn bench_push(t: &mut [u64], start: u64, end: u64) -> u64
     ensures { λ r. ⌜ (r ≡ reply (now (t .entry)) (flagOf (pushOf (ringOf (view (now (t .entry)))) (cleanupOf start end) .ok)))
         × (now (t .exit) ≡ left (now (t .entry)) (withRingOf (view (now (t .entry))) (pushOf (ringOf (view (now (t .entry)))) (cleanupOf start end) .ring))) ⌝ }
 {
-    if tables::is_sized(t) {
+    if sizes::is_sized(t) {
         return flag(update::push_cleanup(t, start, end));
     }
     NOTHING
@@ -124,7 +124,7 @@ pub extern "C" fn bench_pop(t: &mut [u64]) -> u64
     ensures { λ r. ⌜ (r ≡ reply (now (t .entry)) (popOf (ringOf (view (now (t .entry)))) .item .update .kind))
         × (now (t .exit) ≡ left (now (t .entry)) (withRingOf (view (now (t .entry))) (popOf (ringOf (view (now (t .entry)))) .ring))) ⌝ }
 {
-    if tables::is_sized(t) {
+    if sizes::is_sized(t) {
         let item = update::pop_update(t);
         return item.update.kind;
     }
@@ -138,7 +138,7 @@ pub extern "C" fn bench_allocate(t: &mut [u64]) -> u64
     ensures { λ r. ⌜ (r ≡ reply (now (t .entry)) (givenOf (given (view (now (t .entry)) .regionPool))))
         × (now (t .exit) ≡ left (now (t .entry)) (withRegionPool (view (now (t .entry))) (allocated (view (now (t .entry)) .regionPool)))) ⌝ }
 {
-    if tables::is_sized(t) {
+    if sizes::is_sized(t) {
         return given_slot(pools::allocate_region(t));
     }
     NOTHING
@@ -149,7 +149,7 @@ pub extern "C" fn bench_free(t: &mut [u64], i: usize) -> u64
     ensures { λ r. ⌜ (r ≡ reply (now (t .entry)) (freedOf (answerTo (view (now (t .entry)) .regionPool) i)))
         × (now (t .exit) ≡ left (now (t .entry)) (slotFreed (view (now (t .entry))) Pool.Regions i)) ⌝ }
 {
-    if tables::is_sized(t) {
+    if sizes::is_sized(t) {
         return freed(pools::free_region(t, i));
     }
     NOTHING
@@ -177,8 +177,8 @@ pub extern "C" fn bench_make(
         records,
         updates,
     };
-    if tables::limits_hold(z) {
-        if t.len() == tables::total_of(z) {
+    if sizes::limits_hold(z) {
+        if t.len() == sizes::total_of(z) {
             making::make_empty(t, z);
             return 1;
         }

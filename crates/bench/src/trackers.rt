@@ -30,7 +30,7 @@ pub extern "C" fn bench_gain(t: &mut [u64], d: usize, start: u64, end: u64, righ
     ensures { λ r. ⌜ (r ≡ reply (now (t .entry)) (changeOf (addRegion d (accessOf start end rights) (view (now (t .entry))) .answer)))
         × (now (t .exit) ≡ left (now (t .entry)) (addRegion d (accessOf start end rights) (view (now (t .entry))) .tables)) ⌝ }
 {
-    if tables::is_sized(t) {
+    if sizes::is_sized(t) {
         let ops = Rights(rights);
         return change(region::add_region(t, d, AccessRights { start, end, ops }));
     }
@@ -42,7 +42,7 @@ pub extern "C" fn bench_loss(t: &mut [u64], d: usize, start: u64, end: u64, righ
     ensures { λ r. ⌜ (r ≡ reply (now (t .entry)) (changeOf (removeRegion d (accessOf start end rights) (view (now (t .entry))) .answer)))
         × (now (t .exit) ≡ left (now (t .entry)) (removeRegion d (accessOf start end rights) (view (now (t .entry))) .tables)) ⌝ }
 {
-    if tables::is_sized(t) {
+    if sizes::is_sized(t) {
         let ops = Rights(rights);
         return change(region::remove_region(t, d, AccessRights { start, end, ops }));
     }
@@ -55,7 +55,7 @@ pub extern "C" fn bench_loss(t: &mut [u64], d: usize, start: u64, end: u64, righ
 pub extern "C" fn bench_refcount(t: &[u64], d: usize, start: u64, end: u64) -> u64
     ensures { λ r. ⌜ r ≡ reply (now (t .entry)) (largestReach start end (recordsOf (view (now (t .entry))) d)) ⌝ }
 {
-    if tables::is_sized(t) {
+    if sizes::is_sized(t) {
         return readings::get_refcount(t, d, start, end);
     }
     NOTHING
@@ -96,7 +96,7 @@ pub extern "C" fn bench_permissions(t: &[u64], d: usize, run: &mut [u64]) -> u64
     ensures { λ r. ⌜ (r ≡ reply (now (t .entry)) (length (permissionList (view (now (t .entry))) d)))
         × (now (run .exit) ≡ filled (now (t .entry)) (wordsOf (permissionList (view (now (t .entry))) d)) (now (run .entry))) ⌝ }
 {
-    if tables::is_sized(t) {
+    if sizes::is_sized(t) {
         return list(t, d, run);
     }
     NOTHING

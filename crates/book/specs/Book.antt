@@ -6,8 +6,8 @@ use mathlib.Core.List.{List, [], _∷_, _++_}
 use lib.Dec.{eqb}
 use lib.ListN.{length, getD, set, replicate}
 use Rattle.model.specs.Lists.{if_then_else_, countUp, isEmpty, slotOf, orElse}
-use Rattle.model.specs.State.{Sizes, Access, Kind, Root, Alias, Carve, parentOf}
-use Rattle.model.specs.Perform.{Call, Reply, Answer}
+use Rattle.model.specs.State.{Sizes, Handle, Access, Kind, Root, Alias, Carve, parentOf}
+use Rattle.model.specs.Perform.{Step, Call, Reply, Answer}
 
 -- ---- what the book keeps
 
@@ -20,27 +20,29 @@ pub record Noted : Type 0 where
   pub rights : ℕ
   pub alive : Bool
 
--- What a slot in use holds: nothing any more, a region, a RegionRevoke of a region (both by place), or the name of a domain (Management or Channel).
+-- What a slot in use holds: nothing any more, a region, a RegionRevoke of a region (both by place), a Management or a Channel capability of a domain
+-- (both by the handle that calls and answers name).
 pub data Held : Type 0 where
   emptied : Held
   regionOf : ℕ → Held
   revokeOf : ℕ → Held
-  domainOf : ℕ → Held
+  managementOf : Handle → Held
+  channelOf : Handle → Held
 
 -- A domain's slots: `none` is free; the free slots as a stack, the one given next first.
 pub record Slots : Type 0 where
   pub held : List (Option Held)
   pub free : List ℕ
 
--- The slots that a new domain has, the regions by place, and for each domain's number its slots (`none`: not opened).
+-- The making's sizes, the regions by place, and for each domain's number its slots (`none`: not opened).
 pub record Book : Type 0 where
-  pub width : ℕ
+  pub sizes : Sizes
   pub regions : List Noted
   pub lists : List (Option Slots)
 
 -- An empty book for tables of these sizes: no region, no domain opened.
 abbrev pub blank : Sizes → Book
-blank z = record { width = z .slots; regions = []; lists = replicate (z .domains) none }
+blank z = record { sizes = z; regions = []; lists = replicate (z .domains) none }
 
 -- ---- reading and changing it
 
@@ -60,10 +62,10 @@ heldAt b d l = slotOf (slotsOf b d .held) l
 
 -- the book with one domain's slots, or its regions, changed
 abbrev pub withSlots : ℕ → Slots → Book → Book
-withSlots d l b = record { width = b .width; regions = b .regions; lists = set (b .lists) d (some l) }
+withSlots d l b = record { sizes = b .sizes; regions = b .regions; lists = set (b .lists) d (some l) }
 
 abbrev pub withNoted : List Noted → Book → Book
-withNoted rs b = record { width = b .width; regions = rs; lists = b .lists }
+withNoted rs b = record { sizes = b .sizes; regions = rs; lists = b .lists }
 
 -- ---- slots "are given .., freed and swept as above"
 
@@ -81,7 +83,8 @@ abbrev pub isDead : List Noted → Held → Bool
 isDead rs emptied = true
 isDead rs (regionOf k) = not (noted rs k .alive)
 isDead rs (revokeOf k) = not (noted rs k .alive)
-isDead rs (domainOf d) = false
+isDead rs (managementOf h) = false
+isDead rs (channelOf h) = false
 
 -- the slots that hold such a thing, rising; the first element is slot i
 abbrev pub deadSlots : List Noted → ℕ → List (Option Held) → List ℕ
@@ -97,17 +100,19 @@ swept rs l = if isEmpty (l .free) then freeSlots (deadSlots rs 0 (l .held)) l el
 unfoldable pub makeRoom : ℕ → Book → Book
 makeRoom d b = withSlots d (swept (b .regions) (slotsOf b d)) b
 
--- The slot is given: what it holds from now on, and the top of the stack is gone.
-abbrev pub pop : List ℕ → List ℕ
-pop [] = []
-pop (i ∷ is) = is
-
+-- The slot that is given next.
 abbrev pub top : List ℕ → ℕ
 top [] = 0
 top (i ∷ is) = i
 
+-- Slot n is free no more. A free slot stands in the stack once.
+abbrev pub removed : ℕ → List ℕ → List ℕ
+removed n [] = []
+removed n (i ∷ is) = if eqb i n then is else i ∷ removed n is
+
+-- Slot n is given: what it holds from now on.
 unfoldable pub put : ℕ → ℕ → Held → Book → Book
-put d n c b = let l = slotsOf b d in withSlots d (record { held = set (l .held) n (some c); free = pop (l .free) }) b
+put d n c b = let l = slotsOf b d in withSlots d (record { held = set (l .held) n (some c); free = removed n (l .free) }) b
 
 -- Slot n of domain d, the answered one, is given; the list is swept before, if it is full.
 unfoldable pub give : ℕ → ℕ → Held → Book → Book
@@ -121,7 +126,7 @@ giveNext d c b = let b₁ = makeRoom d b in put d (top (slotsOf b₁ d .free)) c
 
 -- Opening: a list of free slots, 0 given first.
 unfoldable pub opened : ℕ → Book → Book
-opened d b = withSlots d (record { held = replicate (b .width) none; free = countUp 0 (b .width) }) b
+opened d b = withSlots d (record { held = replicate (b .sizes .slots) none; free = countUp 0 (b .sizes .slots) }) b
 
 -- "a live region of that kind, with the range and rights given, the caller's": it takes the next place.
 unfoldable pub added : Kind → ℕ → Access → Book → Book
@@ -136,12 +141,13 @@ unfoldable pub ownedBy : ℕ → ℕ → Book → Book
 ownedBy d k b = let r = noted (b .regions) k in withNoted (set (b .regions) k (record { kind = r .kind; owner = d; start = r .start; end = r .end; rights = r .rights; alive = r .alive })) b
 
 -- "a region is that domain's from then on"; all else only moves.
-unfoldable pub handedTo : ℕ → Option Held → Book → Book
-handedTo d none b = b
-handedTo d (some emptied) b = b
-handedTo d (some (regionOf k)) b = ownedBy d k b
-handedTo d (some (revokeOf k)) b = b
-handedTo d (some (domainOf e)) b = b
+unfoldable pub ownedIfRegion : ℕ → Option Held → Book → Book
+ownedIfRegion d none b = b
+ownedIfRegion d (some emptied) b = b
+ownedIfRegion d (some (regionOf k)) b = ownedBy d k b
+ownedIfRegion d (some (revokeOf k)) b = b
+ownedIfRegion d (some (managementOf h)) b = b
+ownedIfRegion d (some (channelOf h)) b = b
 
 -- Slot l of domain d is freed.
 unfoldable pub freed : ℕ → ℕ → Book → Book
@@ -155,12 +161,16 @@ putAny d n (some c) b = put d n c b
 -- "Send frees the sent slot and gives one in the list of the domain that the target names, in the source's order; what it held goes there":
 -- the target's list is swept, if it is full; then the sent slot is read, and freed; then the slot is given.
 unfoldable pub sent : ℕ → ℕ → ℕ → ℕ → Book → Book
-sent d l to n b = let b₁ = makeRoom to b in let c = heldAt b₁ d l in putAny to n c (freed d l (handedTo to c b₁))
+sent d l to n b = let b₁ = makeRoom to b in let c = heldAt b₁ d l in putAny to n c (freed d l (ownedIfRegion to c b₁))
 
--- Region j is k or below it: the parents lead from j to k. n places are enough, as parents come first.
+-- Region j is k or below it: at most n parents lead from j to k.
 abbrev pub isUnder : List Noted → ℕ → ℕ → ℕ → Bool
 isUnder rs zero k j = eqb j k
 isUnder rs (suc n) k j = eqb j k || elim (parentOf (noted rs j .kind)) [ none ↦ false | some p ↦ isUnder rs n k p ]
+
+-- No region has more above it than there are regions, as a parent comes first.
+abbrev pub mostAbove : List Noted → ℕ
+mostAbove rs = length rs
 
 -- Those that pass the test die; i is the first one's place.
 abbrev pub dying : (ℕ → Bool) → ℕ → List Noted → List Noted
@@ -169,7 +179,7 @@ dying t i (r ∷ rs) = record { kind = r .kind; owner = r .owner; start = r .sta
 
 -- "the region held or named there dies with all below"
 unfoldable pub killed : ℕ → Book → Book
-killed k b = withNoted (dying (isUnder (b .regions) (length (b .regions)) k) 0 (b .regions)) b
+killed k b = withNoted (dying (isUnder (b .regions) (mostAbove (b .regions)) k) 0 (b .regions)) b
 
 -- the same by what the slot held: a region, or a RegionRevoke that names one
 unfoldable pub revoked : Option Held → Book → Book
@@ -177,7 +187,8 @@ revoked none b = b
 revoked (some emptied) b = b
 revoked (some (regionOf k)) b = killed k b
 revoked (some (revokeOf k)) b = killed k b
-revoked (some (domainOf d)) b = b
+revoked (some (managementOf h)) b = b
+revoked (some (channelOf h)) b = b
 
 -- "Revoke empties the slot, still in use"
 unfoldable pub emptySlot : ℕ → ℕ → Book → Book
@@ -189,7 +200,8 @@ placeIn none = 0
 placeIn (some emptied) = 0
 placeIn (some (regionOf k)) = k
 placeIn (some (revokeOf k)) = 0
-placeIn (some (domainOf d)) = 0
+placeIn (some (managementOf h)) = 0
+placeIn (some (channelOf h)) = 0
 
 -- the domain that a target slot names
 abbrev pub domainIn : Option Held → ℕ
@@ -197,9 +209,10 @@ domainIn none = 0
 domainIn (some emptied) = 0
 domainIn (some (regionOf k)) = 0
 domainIn (some (revokeOf k)) = 0
-domainIn (some (domainOf d)) = d
+domainIn (some (managementOf h)) = h .slot
+domainIn (some (channelOf h)) = h .slot
 
--- What an answered slot or domain is.
+-- The slot, and the domain, that an answer names.
 abbrev pub localOf : Reply → ℕ
 localOf Reply.done = 0
 localOf (Reply.domain h) = 0
@@ -209,39 +222,40 @@ localOf (Reply.permissionList l) = 0
 localOf (Reply.number n) = 0
 localOf (Reply.domainList l) = 0
 
-abbrev pub domainNumber : Reply → ℕ
-domainNumber Reply.done = 0
-domainNumber (Reply.domain h) = h .slot
-domainNumber (Reply.local n) = 0
-domainNumber (Reply.popped u) = 0
-domainNumber (Reply.permissionList l) = 0
-domainNumber (Reply.number n) = 0
-domainNumber (Reply.domainList l) = 0
+-- what an answer that names no domain reads as; no accepted opening gives it
+abbrev pub noHandle : Handle
+noHandle = record { slot = 0; gen = 0 }
+
+abbrev pub domainOf : Reply → Handle
+domainOf Reply.done = noHandle
+domainOf (Reply.domain h) = h
+domainOf (Reply.local n) = noHandle
+domainOf (Reply.popped u) = noHandle
+domainOf (Reply.permissionList l) = noHandle
+domainOf (Reply.number n) = noHandle
+domainOf (Reply.domainList l) = noHandle
 
 -- An accepted call.
 unfoldable pub accept : Book → Call → Reply → Book
 -- "Making empties it."
 accept b (Call.Make z) y = blank z
 -- "in a manager's list, opening" takes a slot that names the new domain
-accept b (Call.Open none cores) y = opened (domainNumber y) b
-accept b (Call.Open (some m) cores) y = giveNext (m .slot) (domainOf (domainNumber y)) (opened (domainNumber y) b)
+accept b (Call.Do (Step.Open none cores)) y = opened (domainOf y .slot) b
+accept b (Call.Do (Step.Open (some m) cores)) y = giveNext (m .slot) (managementOf (domainOf y)) (opened (domainOf y .slot) b)
 -- "Channel, RegionRevoke .. take a slot that names their domain or region."
-accept b (Call.Channel h to) y = give (h .slot) (localOf y) (domainOf (to .slot)) b
-accept b (Call.MakeRevoke h l) y = give (h .slot) (localOf y) (revokeOf (placeIn (heldAt b (h .slot) l))) b
+accept b (Call.Do (Step.Channel h to)) y = give (h .slot) (localOf y) (channelOf to) b
+accept b (Call.Do (Step.MakeRevoke h l)) y = give (h .slot) (localOf y) (revokeOf (placeIn (heldAt b (h .slot) l))) b
 -- "its parent is the region in the slot named, a root's none"
-accept b (Call.Root h a) y = created Root (h .slot) (localOf y) a b
-accept b (Call.Alias h l a) y = created (Alias (placeIn (heldAt b (h .slot) l))) (h .slot) (localOf y) a b
-accept b (Call.Carve h l a) y = created (Carve (placeIn (heldAt b (h .slot) l))) (h .slot) (localOf y) a b
+accept b (Call.Do (Step.Root h a)) y = created Root (h .slot) (localOf y) a b
+accept b (Call.Do (Step.Alias h l a)) y = created (Alias (placeIn (heldAt b (h .slot) l))) (h .slot) (localOf y) a b
+accept b (Call.Do (Step.Carve h l a)) y = created (Carve (placeIn (heldAt b (h .slot) l))) (h .slot) (localOf y) a b
 -- **Send** and **Revoke**
-accept b (Call.Send h l target) y = sent (h .slot) l (domainIn (heldAt b (h .slot) target)) (localOf y) b
-accept b (Call.Revoke h l) y = emptySlot (h .slot) l (revoked (heldAt b (h .slot) l) b)
+accept b (Call.Do (Step.Send h l target)) y = sent (h .slot) l (domainIn (heldAt b (h .slot) target)) (localOf y) b
+accept b (Call.Do (Step.Revoke h l)) y = emptySlot (h .slot) l (revoked (heldAt b (h .slot) l) b)
 -- "pop, core maps and readings change nothing"
-accept b (Call.SetCores h cores) y = b
+accept b (Call.Do (Step.SetCores h cores)) y = b
 accept b Call.Pop y = b
-accept b (Call.Permissions h) y = b
-accept b (Call.Refcount h from to) y = b
-accept b (Call.CoreMap h) y = b
-accept b (Call.Holders a) y = b
+accept b (Call.Read r) y = b
 
 -- What a call and its answer add to the book: "Refused calls .. change nothing."
 unfoldable pub note : Book → Call → Answer → Book

@@ -1,13 +1,14 @@
 -- Demand 3: "one claim about the list, not one for each call". The sums and counts of its claims are read off the book.
 use mathlib.Core.Path.{_≡_}
 use Prim.Native.Nat.{ℕ, zero, suc, _+_, _<_}
-use mathlib.Core.Bool.{Bool, true, false, not, _&&_}
+use mathlib.Core.Bool.{Bool, false, not, _&&_}
+use mathlib.Core.Option.{some}
 use mathlib.Core.List.{List, [], _∷_}
 use lib.Dec.{T, eqb}
 use Rattle.model.specs.Lists.{oneIf, any, count, Each, In}
 use Rattle.model.specs.Outcome.{ok}
-use Rattle.rights.specs.Rights.{has, READ, WRITE, EXEC, SUPER}
-use Rattle.model.specs.State.{State, Sizes, Region, Kind, Root, Alias, Carve}
+use Rattle.model.specs.State.{State, Sizes, Region, Kind, Root, Alias, Carve, parentOf}
+use Rattle.model.specs.Fields.{Field, get, passes}
 use Rattle.model.specs.Tree.{isRootKind}
 use Rattle.model.specs.Making.{makeTables}
 use Rattle.model.specs.Counts.{holds, storedCounts}
@@ -42,12 +43,9 @@ abbrev pub noteTally : List Noted → ℕ → ℕ → (ℕ → Bool) → ℕ →
 noteTally rs d a t i [] = 0
 noteTally rs d a t i (r ∷ l) = oneIf (counts rs d a i r && t (r .rights)) + noteTally rs d a t (suc i) l
 
--- the number of them, and of those "that hold the right"
-abbrev pub bookReach : Book → ℕ → ℕ → ℕ
-bookReach b d a = noteTally (b .regions) d a (λ r. true) 0 (b .regions)
-
-abbrev pub bookCount : Book → ℕ → ℕ → ℕ → ℕ
-bookCount b flag d a = noteTally (b .regions) d a (λ r. has r flag) 0 (b .regions)
+-- the number of them, and for a right of those "that hold the right"
+abbrev pub bookCount : Book → Field → ℕ → ℕ → ℕ
+bookCount b f d a = noteTally (b .regions) d a (passes f) 0 (b .regions)
 
 -- "accepted roots covering the address"
 abbrev pub isRootOver : ℕ → Noted → Bool
@@ -62,8 +60,8 @@ abbrev pub accepted : Book → ℕ → ℕ
 accepted b a = count (isRootOver a) (b .regions) + count (isAliasOver a) (b .regions)
 
 -- an "accepted root covering the address had that right"
-abbrev pub rootHad : Book → ℕ → ℕ → Bool
-rootHad b flag a = any (λ r. isRootOver a r && has (r .rights) flag) (b .regions)
+abbrev pub rootHad : Book → Field → ℕ → Bool
+rootHad b f a = any (λ r. isRootOver a r && passes f (r .rights)) (b .regions)
 
 -- "reach summed over all domains": the first n
 abbrev pub sumTo : ℕ → (ℕ → ℕ) → ℕ
@@ -97,23 +95,19 @@ pub record OneForOne (b : Book) (s : State) : Type 0 where
   pub stored : (k : ℕ) → Lives b k → (g : Region) × In (s .regions) (at k) g × SameRegion at (noted (b .regions) k) g
   pub there : (i : ℕ) (g : Region) → In (s .regions) i g → Lives b (place i) × at (place i) ≡ i
   pub back : (k : ℕ) → Lives b k → place (at k) ≡ k
+  -- a live region's parent lives, so that `at` gives the parent's own slot
+  pub parent : (k p : ℕ) → Lives b k → parentOf (noted (b .regions) k .kind) ≡ some p → Lives b p
 
 -- All that demand 3 claims of the tables s after calls that left the book b.
 pub record Claims (b : Book) (s : State) : Type 0 where
   -- "the stored reach equals the number of its live regions covering the address and not carved there"
-  pub reach : (d a : ℕ) → storedCounts s d a .reach ≡ bookReach b d a
   -- "each stored count of READ, WRITE, EXEC and SUPER equals the number of those that hold the right"
-  pub read : (d a : ℕ) → storedCounts s d a .read ≡ bookCount b READ d a
-  pub write : (d a : ℕ) → storedCounts s d a .write ≡ bookCount b WRITE d a
-  pub exec : (d a : ℕ) → storedCounts s d a .exec ≡ bookCount b EXEC d a
-  pub super : (d a : ℕ) → storedCounts s d a .super ≡ bookCount b SUPER d a
-  -- "reach summed over all domains equals accepted roots covering the address plus accepted aliases covering it and not since revoked"
-  pub total : (a : ℕ) → sumTo (s .sizes .domains) (λ d. storedCounts s d a .reach) ≡ accepted b a
-  -- "none of those four counts is above 0 where no accepted root covering the address had that right"
-  pub readRoot : (d a : ℕ) → 0 < storedCounts s d a .read → T (rootHad b READ a)
-  pub writeRoot : (d a : ℕ) → 0 < storedCounts s d a .write → T (rootHad b WRITE a)
-  pub execRoot : (d a : ℕ) → 0 < storedCounts s d a .exec → T (rootHad b EXEC a)
-  pub superRoot : (d a : ℕ) → 0 < storedCounts s d a .super → T (rootHad b SUPER a)
+  pub counted : (f : Field) (d a : ℕ) → get f (storedCounts s d a) ≡ bookCount b f d a
+  -- "reach summed over all domains equals accepted roots covering the address plus accepted aliases covering it and not since revoked"; there are as
+  -- many domains as the making asked for
+  pub total : (a : ℕ) → sumTo (b .sizes .domains) (λ d. storedCounts s d a .reach) ≡ accepted b a
+  -- "none of those four counts is above 0 where no accepted root covering the address had that right"; nor the reach where none covers it
+  pub rooted : (f : Field) (d a : ℕ) → 0 < get f (storedCounts s d a) → T (rootHad b f a)
   -- "Stored live regions match the book's one for one in kind, owner, range, rights and parent."
   pub regions : OneForOne b s
 

@@ -12,16 +12,12 @@ use Rattle.model.specs.Layout.{words}
 use Rattle.model.specs.Perform.{Call, Reply, Answer, step}
 use Rattle.model.specs.CallWords.{CallWords}
 use Rattle.model.specs.Sound.{Sound}
-use Rattle.model.specs.Memory.{After, badSizes, badLengths, made, notSound, performed, held}
-use Rattle.laws.specs.Accepted.{both}
-use Rattle.laws.specs.Empty.{empty-sound}
+use Rattle.model.specs.Memory.{Lent, After, badSizes, badLengths, made, notSound, performed, held}
 use Rattle.laws.specs.Words.Unique.{words-unique}
 use Rattle.book.specs.Book.{Book, blank, accept, note}
 use Rattle.book.specs.Demand3.{noteAll, Claims}
-use Rattle.book.specs.Keep.{Good, make-match}
-use Rattle.book.specs.Run.{step-good}
-use Rattle.book.specs.Claim.{claims}
-use Rattle.book.specs.Theorem.{made-good}
+use Rattle.book.specs.Matches.{Matches}
+use Rattle.book.specs.Theorem.{matches-made, matches-step, matches-claims}
 
 -- "each call gets the tables the last left, and nothing else writes them": the calls, their answers, and the tables before and after.
 -- Each call may get another work area.
@@ -40,13 +36,14 @@ pub record ClaimsOf (b : Book) (t : List ℕ) : Type 0 where
 abbrev pub Demand3Lent : Type 0
 Demand3Lent = (t w t₁ w₁ t₂ : List ℕ) (z : Sizes) (cs : List Call) (ys : List Answer) → After t w (Call.Make z) (Answer.yes Reply.done) t₁ w₁ → Each CallWords cs → Chain t₁ cs ys t₂ → ClaimsOf (noteAll (blank z) cs ys) t₂
 
--- ---- proof
+-- ---- book and lent tables match
 
-record Told (b : Book) (t : List ℕ) : Type 0 where
-  state : State
-  tables : t ≡ words state
-  sound : Sound state
-  good : Good b state
+-- The tables are the words of sound tables that the book matches. Whatever writes tables, a converter say, has to show only that it keeps this.
+pub record BookOf (b : Book) (t : List ℕ) : Type 0 where
+  pub state : State
+  pub tables : t ≡ words state
+  pub sound : Sound state
+  pub matches : Matches b state
 
 passed : {A : Type 0} (c : Bool) (r : Refusal) (m : Outcome A) → T c → (require c r >> m) ≡ m
 unfolding require _>>_
@@ -57,25 +54,13 @@ making : (z : Sizes) → T (goodSizes z) → makeTables z ≡ ok (emptyTables z)
 unfolding makeTables
 making z p = passed (goodSizes z) _ _ p
 
-made-told : (z : Sizes) → T (goodSizes z) → Told (blank z) (words (emptyTables z))
-made-told z p = let q = made-good z (emptyTables z) (makeTables z) (both (make-match z) (empty-sound z)) (making z p) in record { state = emptyTables z; tables = refl; sound = q .1; good = q .0 }
+-- empty tables
+pub book-of-empty : (z : Sizes) → T (goodSizes z) → BookOf (blank z) (words (emptyTables z))
+book-of-empty z p = let q = matches-made z (emptyTables z) (making z p) in record { state = emptyTables z; tables = refl; sound = q .1; matches = q .0 }
 
-call-told : (b : Book) (t w t₁ w₁ : List ℕ) (c : Call) (y : Answer) → CallWords c → Told b t → After t w c y t₁ w₁ → Told (note b c y) t₁
-unfolding note accept
-call-told b t w t₁ w₁ c y u h (badSizes z p) = h
-call-told b t w t₁ w₁ c y u h (badLengths z p f) = h
-call-told b t w t₁ w₁ c y u h (made z p f) = made-told z p
-call-told b t w t₁ w₁ c y u h (notSound d m n) = h
-call-told b t w t₁ w₁ c y u h (performed d s m n l) =
-    let e : h .state ≡ s = words-unique (h .state) s (h .sound) (l .sound) (sym (h .tables) ∙ l .tables) in
-    let q = step-good b s d u (l .sound) (subst (Good b) e (h .good)) in
-    record { state = step s d .1; tables = refl; sound = q .1; good = q .0 }
-call-told b t w t₁ w₁ c y u h (held a s l k i) = h
-
-chain-told : (b : Book) (t t₂ : List ℕ) (cs : List Call) (ys : List Answer) → Each CallWords cs → Told b t → Chain t cs ys t₂ → Told (noteAll b cs ys) t₂
-unfolding noteAll
-chain-told b t t₂ cs ys u h Chain.start = h
-chain-told b t t₂ cs ys u h (Chain.next x r) = chain-told _ _ t₂ _ _ (u .1) (call-told b t _ _ _ _ _ (u .0) h x) r
+-- any sound state that these words are of
+pub book-of-state : (b : Book) (t w : List ℕ) (s : State) → BookOf b t → Lent t w s → Matches b s
+book-of-state b t w s h l = subst (Matches b) (words-unique (h .state) s (h .sound) (l .sound) (sym (h .tables) ∙ l .tables)) (h .matches)
 
 refusal : Answer → Type 0
 refusal (Answer.yes y) = ⊥
@@ -85,15 +70,36 @@ not-yes : (r : Refusal) → Answer.no r ≡ Answer.yes Reply.done → ⊥
 unfolding refusal
 not-yes r e = subst refusal e tt
 
-first-told : (t w t₁ w₁ : List ℕ) (z : Sizes) (y : Answer) → y ≡ Answer.yes Reply.done → After t w (Call.Make z) y t₁ w₁ → Told (blank z) t₁
-first-told t w t₁ w₁ z y e (badSizes v p) = absurd (not-yes _ e)
-first-told t w t₁ w₁ z y e (badLengths v p f) = absurd (not-yes _ e)
-first-told t w t₁ w₁ z y e (made v p f) = made-told v p
-first-told t w t₁ w₁ z y e (notSound d m n) = absurd (m z refl)
-first-told t w t₁ w₁ z y e (performed d s m n l) = absurd (m z refl)
+-- THEOREM: an accepted making begins it
+pub book-of-made : (t w t₁ w₁ : List ℕ) (z : Sizes) (y : Answer) → y ≡ Answer.yes Reply.done → After t w (Call.Make z) y t₁ w₁ → BookOf (blank z) t₁
+book-of-made t w t₁ w₁ z y e (badSizes v p) = absurd (not-yes _ e)
+book-of-made t w t₁ w₁ z y e (badLengths v p f) = absurd (not-yes _ e)
+book-of-made t w t₁ w₁ z y e (made v p f) = book-of-empty v p
+book-of-made t w t₁ w₁ z y e (notSound d q n) = absurd q
+book-of-made t w t₁ w₁ z y e (performed d s q l) = absurd q
+
+-- THEOREM: any call keeps it
+pub book-of-call : (b : Book) (t w t₁ w₁ : List ℕ) (c : Call) (y : Answer) → CallWords c → BookOf b t → After t w c y t₁ w₁ → BookOf (note b c y) t₁
+unfolding note accept
+book-of-call b t w t₁ w₁ c y u h (badSizes z p) = h
+book-of-call b t w t₁ w₁ c y u h (badLengths z p f) = h
+book-of-call b t w t₁ w₁ c y u h (made z p f) = book-of-empty z p
+book-of-call b t w t₁ w₁ c y u h (notSound d p n) = h
+book-of-call b t w t₁ w₁ c y u h (performed d s p l) =
+    let q = matches-step b s d u (l .sound) (book-of-state b t w s h l) in
+    record { state = step s d .1; tables = refl; sound = q .1; matches = q .0 }
+book-of-call b t w t₁ w₁ c y u h (held a s l k i) = h
+
+-- THEOREM: any chain of calls keeps it
+pub book-of-chain : (b : Book) (t t₂ : List ℕ) (cs : List Call) (ys : List Answer) → Each CallWords cs → BookOf b t → Chain t cs ys t₂ → BookOf (noteAll b cs ys) t₂
+unfolding noteAll
+book-of-chain b t t₂ cs ys u h Chain.start = h
+book-of-chain b t t₂ cs ys u h (Chain.next x r) = book-of-chain _ _ t₂ _ _ (u .1) (book-of-call b t _ _ _ _ _ (u .0) h x) r
+
+-- THEOREM: where it holds, all claims hold
+pub book-of-claims : (b : Book) (t : List ℕ) → BookOf b t → ClaimsOf b t
+book-of-claims b t h = record { state = h .state; tables = h .tables; sound = h .sound; claims = matches-claims b (h .state) (h .sound) (h .matches) }
 
 -- THEOREM
 pub demand3-lent : Demand3Lent
-demand3-lent t w t₁ w₁ t₂ z cs ys f u r =
-    let h = chain-told (blank z) t₁ t₂ cs ys u (first-told t w t₁ w₁ z _ refl f) r in
-    record { state = h .state; tables = h .tables; sound = h .sound; claims = claims _ (h .state) (h .good) (h .sound) }
+demand3-lent t w t₁ w₁ t₂ z cs ys f u r = book-of-claims _ t₂ (book-of-chain (blank z) t₁ t₂ cs ys u (book-of-made t w t₁ w₁ z _ refl f) r)

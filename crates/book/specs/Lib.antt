@@ -1,20 +1,30 @@
--- The book of demand 3 and what is claimed of it come first; the rest is the proof.
+-- The book of demand 3 and what is claimed of it come first. Then the relation that the calls keep, and each call by its name.
 pub mod Book
 pub mod Demand3
-pub mod Small
-pub mod Match
-pub mod Keep
-pub mod Grow
-pub mod Create
-pub mod Move
-pub mod Paired
-pub mod Weigh
-pub mod Claim
-pub mod Gens
-pub mod Dying
-pub mod Kill
+pub mod Tests
+pub mod Matches
+pub mod Slots
+pub mod Checks
+pub mod Held
+pub mod Trackers
+pub mod NewRegion
+pub mod Child
+pub mod Make
+pub mod Open
+pub mod Channel
+pub mod SetCores
+pub mod Root
+pub mod Alias
+pub mod Carve
+pub mod Send
 pub mod Revoke
-pub mod Run
+pub mod MakeRevoke
+pub mod Pop
+pub mod Calls
+-- from the relation to the claims
+pub mod Sums
+pub mod Counts
+pub mod Claims
 pub mod Theorem
 pub mod Lent
 pub mod Example

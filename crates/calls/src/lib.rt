@@ -1,16 +1,48 @@
-// The calls on lent tables (lib.rs; document 01, **Order of checks**). A refused call may leave the tables half changed.
-pub mod capas;
-pub mod checks;
-pub mod domains;
-pub mod regions;
+// The calls that are one step on the tables, as one type (lib.rs; document 01, **Order of checks**). A refused call may leave the tables half changed.
+ghost use mathlib.Core.Path.{_≡_};
+ghost use Rattle.tables.specs.View.{view, Sized, Left};
+ghost use Rattle.calls.specs.Steps.{stepOf};
+use answers::Answer;
+use region::AccessRights;
+use tables::Handle;
 
-pub use capas::create_revoke_capa;
-pub use capas::revoke;
-pub use capas::send;
-pub use domains::open_channel;
-pub use domains::open_domain;
-pub use domains::open_under;
-pub use domains::set_cores;
-pub use regions::alias_region;
-pub use regions::carve_region;
-pub use regions::create_root_region;
+// A part of the region in `local`, with its range and rights.
+pub struct Child {
+    pub domain: Handle,
+    pub local: usize,
+    pub access: AccessRights,
+}
+
+// The constructors are the model's, in its order; an opening has a manager or none.
+pub enum Call {
+    Open(u64),
+    OpenUnder(Handle, u64),
+    Channel(Handle, Handle),
+    SetCores(Handle, u64),
+    Root(Handle, AccessRights),
+    Alias(Child),
+    Carve(Child),
+    Send(Handle, usize, usize),
+    Revoke(Handle, usize),
+    MakeRevoke(Handle, usize),
+}
+
+// What the call does; the answer is a domain's slot, a local slot, or 0.
+pub fn step(t: &mut [u64], call: Call) -> Answer
+    requires { ⌜ Sized (now t) ⌝ }
+    ensures { λ r. ⌜ r ≡ stepOf call (view (now (t .entry))) .answer ⌝ }
+    ensures { λ _. ⌜ Left (now (t .exit)) (stepOf call (view (now (t .entry))) .tables) ⌝ }
+{
+    match call {
+        Call::Open(cores) => domain_calls::open_domain(t, cores),
+        Call::OpenUnder(h, cores) => domain_calls::open_under(t, h, cores),
+        Call::Channel(h, to) => domain_calls::open_channel(t, h, to),
+        Call::SetCores(h, cores) => domain_calls::set_cores(t, h, cores),
+        Call::Root(h, a) => region_calls::create_root_region(t, h, a),
+        Call::Alias(x) => region_calls::alias_region(t, x.domain, x.local, x.access),
+        Call::Carve(x) => region_calls::carve_region(t, x.domain, x.local, x.access),
+        Call::Send(h, local, target) => capa_calls::send(t, h, local, target),
+        Call::Revoke(h, local) => capa_calls::revoke(t, h, local),
+        Call::MakeRevoke(h, local) => capa_calls::create_revoke_capa(t, h, local),
+    }
+}

@@ -11,8 +11,9 @@ use Rattle.words.specs.Rows.{rows, flat}
 use Rattle.words.specs.Cuts.{cuts, join, offset}
 use Rattle.tables.specs.declared.Slot.{Slot}
 use Rattle.tables.specs.Tables.{Tables, Arena, Domain}
-use Rattle.tables.specs.Limits.{Limits}
-use Rattle.tables.specs.View.{sizesOf, view, widths, stride, poolWidth, total, ofParts, Sized, Left, slotOf, slotWords, regionOf, regionWords, recordOf, recordWords, updateOf, updateWords, domainOf, domainWords, arenaOf, arenaWords, headerWords, partsOf, layout}
+use Rattle.sizes.specs.Limits.{Limits}
+use Rattle.sizes.specs.Sizes.{sizesOf, widths, stride, poolWidth, total}
+use Rattle.tables.specs.View.{view, ofParts, Sized, Left, slotOf, slotWords, regionOf, regionWords, recordOf, recordWords, updateOf, updateWords, domainOf, domainWords, arenaOf, arenaWords, headerWords, partsOf, layout}
 use Rattle.decoded.specs.Rows.{Read, each-any, flat-length, rows-flat, cuts-join}
 
 -- a pool over n slots

@@ -7,7 +7,7 @@ use Rattle.model.specs.State as state
 use Rattle.model.specs.Making.{upTo, goodSizes}
 use Rattle.laws.specs.Cases.{is-true, true-is}
 use Rattle.words.specs.Cases.{both}
-use Rattle.tables.specs.Limits.{Limits, withinB, limitsB, limits-true, true-limits}
+use Rattle.sizes.specs.Limits.{Limits, withinB, limitsB, limits-true, true-limits}
 use Rattle.decoded.specs.Tables.{sizesFor}
 
 pub and-both : (a b : Bool) → a && b ≡ both a b

@@ -8,7 +8,7 @@ use Rattle.model.specs.Lists.{if_then_else_, slotOf, countUp, firstOf, afterIn}
 use Rattle.model.specs.State as state
 use Rattle.model.specs.State.{State, Capa, noCapa, region, regionRevoke, management, channel, parentOf, permission, cleanup}
 use Rattle.model.specs.Layout.{link, slotOr0, freeLink, kindWord, siblings, writePlace}
-use Rattle.tables.specs.declared.sizes.Sizes.{Sizes}
+use Rattle.sizes.specs.declared.Sizes.{Sizes}
 use Rattle.tables.specs.declared.Handle.{Handle}
 use Rattle.tables.specs.declared.DomainHead.{DomainHead}
 use Rattle.tables.specs.declared.Slot.{Slot}

@@ -112,7 +112,7 @@ pub record Fits (s : State) : Type 0 where
   pub recordGens : length (s .recordPool .gens) ≡ s .sizes .records
 
 pub sound-fits : (s : State) → Sound s → Fits s
-sound-fits s h = record { sizesGood = h .sizesGood; domainGens = h .domainPool .gensLength; regionGens = h .regionPool .gensLength; recordGens = h .recordPool .gensLength }
+sound-fits s h = record { sizesGood = h .outside .sizesGood; domainGens = h .outside .domainPool .gensLength; regionGens = h .outside .regionPool .gensLength; recordGens = h .tracked .recordPool .gensLength }
 
 pool-shaped : (n : ℕ) (p : state.Pool) → length (p .gens) ≡ n → PoolShaped n (poolOf n p)
 unfolding poolOf

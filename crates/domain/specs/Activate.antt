@@ -6,7 +6,7 @@ use lib.ListN.{getD}
 use Rattle.words.specs.Cases.{pick}
 use Rattle.tables.specs.declared.Slot.{Slot}
 use Rattle.tables.specs.Tables.{Tables, headAt}
-use Rattle.update.specs.Ring.{markOf, pushOf, cleanupOf}
+use Rattle.ring.specs.Ring.{markOf, pushOf, cleanupOf}
 use Rattle.update.specs.Stored.{ringOf, withRingOf}
 use Rattle.region.specs.declared.AccessRights.{AccessRights}
 use Rattle.region.specs.Turns.{addRegion, removeRegion}
@@ -15,10 +15,10 @@ use Rattle.answers.specs.declared.Answer.the-variants.{Done, Refused}
 use Rattle.answers.specs.declared.Refusal.{Refusal}
 use Rattle.answers.specs.declared.Refusal.the-variants.{NoLocal, RingFull}
 use Rattle.answers.specs.Answers.{Step, done, andThen}
-use Rattle.slots.specs.declared.Inserted.{Inserted}
-use Rattle.slots.specs.declared.Inserted.the-variants.{At, Full}
-use Rattle.slots.specs.Lists.{giveSlot}
-use Rattle.slots.specs.Record.{listAt}
+use Rattle.slot_list.specs.declared.Inserted.{Inserted}
+use Rattle.slot_list.specs.declared.Inserted.the-variants.{At, Full}
+use Rattle.slot_list.specs.Lists.{giveSlot}
+use Rattle.stored_slots.specs.Record.{listAt}
 use Rattle.slots.specs.Capas.{roomB, withCapacity, withCapa}
 
 -- done where the test holds

@@ -10,8 +10,9 @@ use lib.Seq.{set-at}
 use Rattle.words.specs.Cases.{pick}
 use Rattle.tables.specs.declared.Slot.{Slot}
 use Rattle.tables.specs.Tables.{noSlot}
-use Rattle.tables.specs.View.{sizesOf, view, ofParts}
-use Rattle.slots.specs.Lists.{freeSlot}
+use Rattle.sizes.specs.Sizes.{sizesOf}
+use Rattle.tables.specs.View.{view, ofParts}
+use Rattle.slot_list.specs.Lists.{freeSlot}
 use Rattle.domain.specs.Opened.{freshFrom}
 
 -- place i

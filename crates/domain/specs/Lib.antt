@@ -1,4 +1,3 @@
 pub mod Activate
 pub mod Opened
-pub mod Then
 pub mod Fresh

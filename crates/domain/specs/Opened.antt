@@ -11,9 +11,9 @@ use Rattle.arena.specs.declared.Given.the-variants.{At, Full}
 use Rattle.arena.specs.Arena.{given, allocated}
 use Rattle.answers.specs.declared.Refusal.the-variants.{NoDomainRoom}
 use Rattle.answers.specs.Answers.{Step, done, refused}
-use Rattle.slots.specs.declared.SlotList.{SlotList}
-use Rattle.slots.specs.Lists.{freeSlot}
-use Rattle.slots.specs.Record.{withList}
+use Rattle.slot_list.specs.declared.SlotList.{SlotList}
+use Rattle.slot_list.specs.Lists.{freeSlot}
+use Rattle.stored_slots.specs.Record.{withList}
 
 -- m places from slot i on of a list of n slots: each free with the next behind it, 0 behind the last; past the n slots all zero
 unfoldable pub freshFrom : ℕ → ℕ → ℕ → List Slot

@@ -6,7 +6,7 @@ ghost use Rattle.domain.specs.Activate.{orRefused, reserve, insert, noti
 use answers::Answer;
 use answers::Refusal;
 use region::AccessRights;
-use slots::Inserted;
+use slot_list::Inserted;
 use tables::Slot;
 
 fn or_refused(ok: bool, r: Refusal) -> Answer

@@ -6,7 +6,7 @@ ghost use Rattle.domain.specs.Fresh.{freshSlot};
 use answers::Answer;
 use answers::Refusal;
 use arena::Given;
-use slots::SlotList;
+use slot_list::SlotList;
 use tables::DomainHead;
 use tables::Slot;
 
@@ -17,9 +17,9 @@ fn fresh_slot(n: usize, i: usize) -> Slot
     if i < n {
         let k = i + 1;
         if k < n {
-            return slots::free_slot(k as u64);
+            return slot_list::free_slot(k as u64);
         }
-        return slots::free_slot(0);
+        return slot_list::free_slot(0);
     }
     tables::no_slot()
 }
@@ -60,7 +60,7 @@ pub fn new_domain(t: &mut [u64], manager: u64, cores: u64) -> Answer
                 count: 0,
             };
             tables::store_head(t, i, head);
-            slots::store_list(t, i, fresh_list(n));
+            stored_slots::store_list(t, i, fresh_list(n));
             Answer::Done(h.slot)
         }
         Given::Full => Answer::Refused(Refusal::NoDomainRoom),

@@ -1,4 +1,5 @@
-pub mod Others
+pub mod Opening
+pub mod Popping
 pub mod Made
 pub mod Lookup
 pub mod Readings

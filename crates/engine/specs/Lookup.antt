@@ -1,7 +1,6 @@
 -- A domain whose tables are to be read: the lent memory is tested, then the handle. Either the slot holds the live domain of a sound state whose words
 -- were lent, or every reading of the domain is refused with that number.
 use mathlib.Core.Path.{_≡_, refl, sym, ap, subst, _∙_}
-use mathlib.Core.Logic.{_≢_}
 use Prim.Native.Nat.{ℕ}
 use mathlib.Core.Bool.{Bool, true, false}
 use mathlib.Core.List.{List}
@@ -9,11 +8,11 @@ use native.Mathlib.Omega.{arith}
 use Rattle.model.specs.Lists.{Each, In}
 use Rattle.model.specs.Outcome as outcome
 use Rattle.model.specs.Outcome.{Outcome, ok, refuse, _>>=_}
-use Rattle.model.specs.State.{State, Sizes, Handle, Domain, Word}
+use Rattle.model.specs.State.{State, Handle, Domain, Word}
 use Rattle.model.specs.Calls as model
-use Rattle.model.specs.Perform.{Call, Reply, Answer, perform, step, after as outcome-after}
+use Rattle.model.specs.Perform.{Reading, Call, Reply, Answer, readTables, perform, step, after as outcome-after}
 use Rattle.model.specs.Layout.{words}
-use Rattle.model.specs.Memory.{Lent, After, zeroed}
+use Rattle.model.specs.Memory.{Lent, Settled, After, zeroed}
 use Rattle.laws.specs.Accepted.{all-ok}
 use Rattle.laws.specs.Cases.{holds, fails, test}
 use Rattle.laws.specs.Keep.Base.{sound-base}
@@ -25,7 +24,7 @@ use Rattle.answers.specs.declared.Answer as code
 use Rattle.answers.specs.declared.Answer.the-variants.{Done, Refused}
 use Rattle.answers.specs.declared.Refusal.the-variants.{Memory}
 use Rattle.answers.specs.Answers.{Step, numberOf}
-use Rattle.calls.specs.Checks.{liveDomain}
+use Rattle.checks.specs.Checks.{liveDomain}
 use Rattle.decoded.specs.Tables.{tablesOf}
 use Rattle.decoded.specs.Words.{words-held}
 use Rattle.refine.specs.Agrees.{Agrees, same-number}
@@ -43,9 +42,9 @@ domainRead t w domain generation = pick (admitted t w) (liveDomain (named domain
 
 -- ---- what the test and the handle say
 
--- the call c reads f of domain h
-abbrev pub Reads : Call → Handle → (State → ℕ → Reply) → Type 0
-Reads c h f = ((z : Sizes) → c ≢ Call.Make z) × ((a : ℕ) → c ≢ Call.Holders a) × ((s : State) → perform s c ≡ (model.liveDomain s h >>= λ d. ok (f s d, s)))
+-- the reading r reads f of domain h
+abbrev pub Reads : Reading → Handle → (State → ℕ → Reply) → Type 0
+Reads r h f = Settled (Call.Read r) × ((s : State) → readTables s r ≡ (model.liveDomain s h >>= λ d. ok (f s d)))
 
 -- slot d holds the live domain h of a sound state whose words were lent
 pub record Live (t w : List ℕ) (h : Handle) (d : ℕ) : Type 0 where
@@ -60,24 +59,27 @@ pub record Live (t w : List ℕ) (h : Handle) (d : ℕ) : Type 0 where
 pub record Refuses (t w : List ℕ) (h : Handle) (n : ℕ) : Type 0 where
   pub refusal : outcome.Refusal
   pub number : n ≡ outcome.number refusal
-  pub after : (c : Call) (f : State → ℕ → Reply) → Reads c h f → After t w c (Answer.no refusal) t (zeroed w)
+  pub after : (r : Reading) (f : State → ℕ → Reply) → Reads r h f → After t w (Call.Read r) (Answer.no refusal) t (zeroed w)
 
 abbrev pub Says : List ℕ → List ℕ → Handle → code.Answer → Type 0
 Says t w h (Done d) = Live t w h d
 Says t w h (Refused r) = Refuses t w h (numberOf r)
 
 -- a reading on the sound state whose words were lent
-after-step : (t w : List ℕ) (c : Call) (s : State) → Lent t w s → ((z : Sizes) → c ≢ Call.Make z) → ((a : ℕ) → c ≢ Call.Holders a)
-    → (a : Answer) → step s c ≡ (a, s) → After t w c a t (zeroed w)
-after-step t w c s l m n a e =
-    subst (λ v. After t w c a v (zeroed w)) (sym (l .tables)) (subst (λ (y : Answer × State). After t w c (y .0) (words (y .1)) (zeroed w)) e (After.performed c s m n l))
+after-step : (t w : List ℕ) (r : Reading) (s : State) → Lent t w s → Settled (Call.Read r) → (a : Answer) → step s (Call.Read r) ≡ (a, s) → After t w (Call.Read r) a t (zeroed w)
+after-step t w r s l q a e =
+    subst (λ v. After t w (Call.Read r) a v (zeroed w)) (sym (l .tables)) (subst (λ (y : Answer × State). After t w (Call.Read r) (y .0) (words (y .1)) (zeroed w)) e (After.performed (Call.Read r) s q l))
+
+-- what a caller sees of it, by what is read
+abbrev seenOf : State → Outcome Reply → Answer × State
+seenOf s o = outcome-after s (o >>= λ a. ok (a, s))
 
 module _ (t w : List ℕ) (known : Each Word t) (domain generation : ℕ) where
   abbrev h : Handle
   h = handle domain generation
 
   by-outcome : (s : State) → Lent t w s → view t ≡ tablesOf s → (x : Step) → (o : Outcome ℕ) → model.liveDomain s h ≡ o → Agrees x (o >>= λ d. ok (d, s)) → Says t w h (x .answer)
-  unfolding _>>=_ step
+  unfolding _>>=_ step perform
   by-outcome s l see x (ok d) e g =
       let y = all-ok _ (model.liveDomain s h) d (domain-live s h) e in
       subst (Says t w h) (sym (g .0)) (record { state = s; lent = l; seen = see; found = e; domain = y .0; at = y .1 })
@@ -86,7 +88,7 @@ module _ (t w : List ℕ) (known : Each Word t) (domain generation : ℕ) where
       (record {
         refusal = r;
         number = same-number r;
-        after = λ c f p. after-step t w c s l (p .0) (p .1) (Answer.no r) (ap (outcome-after s) (p .2 s ∙ ap (λ (o : Outcome ℕ). o >>= λ d. ok (f s d, s)) e));
+        after = λ q f p. after-step t w q s l (p .0) (Answer.no r) (ap (seenOf s) (p .1 s ∙ ap (λ (o : Outcome ℕ). o >>= λ d. ok (f s d)) e));
       })
 
   on-lent : (s : State) → Lent t w s → Says t w h (liveDomain (named domain generation) (view t) .answer)
@@ -100,14 +102,15 @@ module _ (t w : List ℕ) (known : Each Word t) (domain generation : ℕ) where
   unfolding domainRead
   read-says = elim (test (admitted t w)) [
     | holds p ↦ let l = lent t w known p in rw p (on-lent (l .0) (l .1))
-    | fails p ↦ rw p (record { refusal = outcome.memory; number = refl; after = λ c f q. not-admitted t w c (q .0) p })
+    | fails p ↦ rw p (record { refusal = outcome.memory; number = refl; after = λ r f q. not-admitted t w (Call.Read r) tt p })
   ]
 
 -- a reading of a live domain answers what the model says
-pub live-after : (t w : List ℕ) (h : Handle) (d : ℕ) (y : Live t w h d) (c : Call) (f : State → ℕ → Reply) → Reads c h f → After t w c (Answer.yes (f (y .state) d)) t (zeroed w)
-unfolding _>>=_ step
-live-after t w h d y c f p =
-    after-step t w c (y .state) (y .lent) (p .0) (p .1) (Answer.yes (f (y .state) d)) (ap (outcome-after (y .state)) (p .2 (y .state) ∙ ap (λ (o : Outcome ℕ). o >>= λ i. ok (f (y .state) i, y .state)) (y .found)))
+pub live-after : (t w : List ℕ) (h : Handle) (d : ℕ) (y : Live t w h d) (r : Reading) (f : State → ℕ → Reply) → Reads r h f → After t w (Call.Read r) (Answer.yes (f (y .state) d)) t (zeroed w)
+unfolding _>>=_ step perform
+live-after t w h d y r f p =
+    let s = y .state in
+    after-step t w r s (y .lent) (p .0) (Answer.yes (f s d)) (ap (seenOf s) (p .1 s ∙ ap (λ (o : Outcome ℕ). o >>= λ i. ok (f s i)) (y .found)))
 
 -- the tables that a live domain is read in are as long as their sizes ask
 pub read-sized : (t w : List ℕ) (domain generation : ℕ) (a : code.Answer) → a ≡ domainRead t w domain generation → (d : ℕ) → a ≡ Done d → Sized t

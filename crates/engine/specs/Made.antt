@@ -20,8 +20,9 @@ use Rattle.laws.specs.Empty.{empty-sound}
 use Rattle.laws.specs.Words.Length.{words-length}
 use Rattle.words.specs.Cases.{both, both-true}
 use Rattle.tables.specs.Tables.{Tables}
-use Rattle.tables.specs.Limits.{limitsB}
-use Rattle.tables.specs.View.{view, sizesOf, ofParts, Sized, total, layout}
+use Rattle.sizes.specs.Limits.{limitsB}
+use Rattle.tables.specs.View.{view, ofParts, Sized, layout}
+use Rattle.sizes.specs.Sizes.{sizesOf, total}
 use Rattle.making.specs.Empty.{empty}
 use Rattle.answers.specs.declared.Refusal.the-variants as refusal
 use Rattle.answers.specs.declared.Answer.the-variants.{Refused}

@@ -9,7 +9,7 @@ use Rattle.model.specs.Outcome.{_>>=_}
 use Rattle.model.specs.State.{State, Handle, Domain, Record, Access, Word, domainAt}
 use Rattle.model.specs.Calls as model
 use Rattle.model.specs.Readings.{permissions, permissionOf, fillRun}
-use Rattle.model.specs.Perform.{Call, Reply, Answer, perform}
+use Rattle.model.specs.Perform.{Reading, Reply, Answer, readTables}
 use Rattle.model.specs.Memory.{Filled, AfterPermissions, zeroed}
 use Rattle.laws.specs.Capas.Held.{domain-at}
 use Rattle.tables.specs.View.{view, Sized}
@@ -28,7 +28,6 @@ use Rattle.frame.specs.declared.replies.Reply as replies
 use Rattle.engine.specs.declared.read.Listing.{Listing}
 use Rattle.frame.specs.Replies.{handle, accessOf, ListsPermissions}
 use Rattle.frame.specs.Finish.{replyFor}
-use Rattle.engine.specs.Others.{no-make, no-holders}
 use Rattle.engine.specs.Lookup.{domainRead, Reads, Live, Refuses, live-after, read-sized}
 use Rattle.engine.specs.Readings.{is-live, is-refused}
 
@@ -44,9 +43,9 @@ pub record Plans (t w : List ℕ) (h : Handle) (room : ℕ) (p : Listing) (w′ 
 abbrev listIn : State → ℕ → List Access
 listIn s d = map permissionOf (domainAt s d .tracker)
 
-list-reads : (h : Handle) → Reads (Call.Permissions h) h (λ s d. Reply.permissionList (listIn s d))
-unfolding perform permissions _>>=_
-list-reads h = (no-make (Call.Permissions h) tt, no-holders (Call.Permissions h) tt, λ s. bind-assoc (model.liveDomain s h) _ _)
+list-reads : (h : Handle) → Reads (Reading.Permissions h) h (λ s d. Reply.permissionList (listIn s d))
+unfolding readTables permissions _>>=_
+list-reads h = (tt, λ s. bind-assoc (model.liveDomain s h) _ _)
 
 -- a list of the model that the code gives, and back
 given-back : (l : List Record) → map accessOf (map (λ q. permissionIn (permissionOf q)) l) ≡ map permissionOf l
@@ -73,7 +72,7 @@ module _ (t w : List ℕ) (h : Handle) (d : ℕ) (y : Live t w h d) where
       record {
         answer = yes;
         after = subst (λ u. AfterPermissions t w h (map accessOf run) yes t u (map accessOf run₂)) (sym ew) (subst (λ u. AfterPermissions t w h (map accessOf run) yes t (zeroed w) u) (sym same)
-            (Filled.filled l t (zeroed w) (live-after t w h d y (Call.Permissions h) (λ s i. Reply.permissionList (listIn s i)) (list-reads h))));
+            (Filled.filled l t (zeroed w) (live-after t w h d y (Reading.Permissions h) (λ s i. Reply.permissionList (listIn s i)) (list-reads h))));
         reply = ap (λ (m : ℕ). record { refusal = 0; value = m }) (en ∙ sym (length-map (permissionList (view t) d) accessOf) ∙ ap length list-same);
       }
 
@@ -82,7 +81,7 @@ list-refused : (t w : List ℕ) (h : Handle) (n : ℕ) → Refuses t w h n → (
 list-refused t w h n y run x w₂ ex ew = record {
   answer = Answer.no (y .refusal);
   after = subst (λ u. AfterPermissions t w h (map accessOf run) (Answer.no (y .refusal)) t u (map accessOf run)) (sym ew)
-      (Filled.untouched (y .refusal) t (zeroed w) (y .after (Call.Permissions h) (λ s i. Reply.permissionList (listIn s i)) (list-reads h)));
+      (Filled.untouched (y .refusal) t (zeroed w) (y .after (Reading.Permissions h) (λ s i. Reply.permissionList (listIn s i)) (list-reads h)));
   reply = ex ∙ ap (λ (m : ℕ). record { refusal = m; value = 0 }) (y .number);
 }
 

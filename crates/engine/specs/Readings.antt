@@ -1,18 +1,16 @@
 -- The readings return and leave what `After` says: what is read of the tables of a live domain is what the model reads of the domain.
 use mathlib.Core.Path.{_≡_, sym, ap, subst, _∙_}
-use mathlib.Core.Logic.{_≢_}
 use Prim.Native.Nat.{ℕ}
 use mathlib.Core.Bool.{Bool, true, false}
 use mathlib.Core.List.{List}
-use native.Mathlib.Omega.{arith}
 use lib.ListN.{length}
 use Rattle.model.specs.Lists.{Each}
 use Rattle.model.specs.Outcome as outcome
 use Rattle.model.specs.Outcome.{_>>=_}
-use Rattle.model.specs.State.{State, Sizes, Handle, Domain, Word, domainAt}
+use Rattle.model.specs.State.{State, Handle, Domain, Word, domainAt}
 use Rattle.model.specs.Calls as model
 use Rattle.model.specs.Readings.{getRefcount, coreMap, holders, largestReach, fillRun}
-use Rattle.model.specs.Perform.{Call, Reply, Answer, perform}
+use Rattle.model.specs.Perform.{Reading, Call, Reply, Answer, readTables}
 use Rattle.model.specs.Memory.{After, Filled, AfterHolders, zeroed}
 use Rattle.laws.specs.Capas.Held.{domain-at}
 use Rattle.laws.specs.Tree.Holders as laws
@@ -31,26 +29,25 @@ use Rattle.frame.specs.declared.replies.Reply as replies
 use Rattle.frame.specs.Replies.{handle, replyOf, Returns, ListsHolders}
 use Rattle.frame.specs.Finish.{admitted, replyFor}
 use Rattle.frame.specs.Law.{lent, not-admitted}
-use Rattle.engine.specs.Others.{no-make, no-holders}
 use Rattle.engine.specs.Lookup.{domainRead, Reads, Live, Refuses, Says, read-says, live-after}
 
 -- ---- a number of a live domain
 
 -- n is what the model reads; v is what the code read
-number-returns : (t w : List ℕ) (h : Handle) (d : ℕ) (y : Live t w h d) (c : Call) (n : State → ℕ → ℕ) → Reads c h (λ s i. Reply.number (n s i))
-    → (v : ℕ) (w₂ : List ℕ) → v ≡ n (y .state) d → w₂ ≡ zeroed w → Returns replyOf t w c (record { refusal = 0; value = v }) t w₂
-number-returns t w h d y c n p v w₂ e ew = record {
+number-returns : (t w : List ℕ) (h : Handle) (d : ℕ) (y : Live t w h d) (q : Reading) (n : State → ℕ → ℕ) → Reads q h (λ s i. Reply.number (n s i))
+    → (v : ℕ) (w₂ : List ℕ) → v ≡ n (y .state) d → w₂ ≡ zeroed w → Returns replyOf t w (Call.Read q) (record { refusal = 0; value = v }) t w₂
+number-returns t w h d y q n p v w₂ e ew = record {
   answer = Answer.yes (Reply.number (n (y .state) d));
-  after = subst (λ u. After t w c (Answer.yes (Reply.number (n (y .state) d))) t u) (sym ew) (live-after t w h d y c (λ s i. Reply.number (n s i)) p);
+  after = subst (λ u. After t w (Call.Read q) (Answer.yes (Reply.number (n (y .state) d))) t u) (sym ew) (live-after t w h d y q (λ s i. Reply.number (n s i)) p);
   reply = ap (λ (m : ℕ). record { refusal = 0; value = m }) e;
 }
 
 -- the reading is refused
-refused-returns : (t w : List ℕ) (h : Handle) (n : ℕ) (y : Refuses t w h n) (c : Call) (f : State → ℕ → Reply) → Reads c h f
-    → (x : replies.Reply) (w₂ : List ℕ) → x ≡ record { refusal = n; value = 0 } → w₂ ≡ zeroed w → Returns replyOf t w c x t w₂
-refused-returns t w h n y c f p x w₂ e ew = record {
+refused-returns : (t w : List ℕ) (h : Handle) (n : ℕ) (y : Refuses t w h n) (q : Reading) (f : State → ℕ → Reply) → Reads q h f
+    → (x : replies.Reply) (w₂ : List ℕ) → x ≡ record { refusal = n; value = 0 } → w₂ ≡ zeroed w → Returns replyOf t w (Call.Read q) x t w₂
+refused-returns t w h n y q f p x w₂ e ew = record {
   answer = Answer.no (y .refusal);
-  after = subst (λ u. After t w c (Answer.no (y .refusal)) t u) (sym ew) (y .after c f p);
+  after = subst (λ u. After t w (Call.Read q) (Answer.no (y .refusal)) t u) (sym ew) (y .after q f p);
   reply = e ∙ ap (λ (m : ℕ). record { refusal = m; value = 0 }) (y .number);
 }
 
@@ -63,13 +60,13 @@ reachIn a b s d = largestReach a b (domainAt s d .tracker)
 abbrev coresIn : State → ℕ → ℕ
 coresIn s d = domainAt s d .cores
 
-refcount-reads : (h : Handle) (a b : ℕ) → Reads (Call.Refcount h a b) h (λ s d. Reply.number (reachIn a b s d))
-unfolding perform getRefcount _>>=_
-refcount-reads h a b = (no-make (Call.Refcount h a b) tt, no-holders (Call.Refcount h a b) tt, λ s. bind-assoc (model.liveDomain s h) _ _)
+refcount-reads : (h : Handle) (a b : ℕ) → Reads (Reading.Refcount h a b) h (λ s d. Reply.number (reachIn a b s d))
+unfolding readTables getRefcount _>>=_
+refcount-reads h a b = (tt, λ s. bind-assoc (model.liveDomain s h) _ _)
 
-cores-reads : (h : Handle) → Reads (Call.CoreMap h) h (λ s d. Reply.number (coresIn s d))
-unfolding perform coreMap _>>=_
-cores-reads h = (no-make (Call.CoreMap h) tt, no-holders (Call.CoreMap h) tt, λ s. bind-assoc (model.liveDomain s h) _ _)
+cores-reads : (h : Handle) → Reads (Reading.CoreMap h) h (λ s d. Reply.number (coresIn s d))
+unfolding readTables coreMap _>>=_
+cores-reads h = (tt, λ s. bind-assoc (model.liveDomain s h) _ _)
 
 module _ (t w : List ℕ) (h : Handle) (d : ℕ) (y : Live t w h d) where
   reach-same : (a b : ℕ) → readings.largestReach a b (readings.recordsOf (view t) d) ≡ reachIn a b (y .state) d
@@ -95,28 +92,25 @@ module _ (t w : List ℕ) (known : Each Word t) (domain generation : ℕ) (a : c
   is-refused r e = subst (Says t w h) (sym said ∙ e) (read-says t w known domain generation)
 
   pub refcount-returns : (d from to v : ℕ) → a ≡ Done d → v ≡ readings.largestReach from to (readings.recordsOf (view t) d)
-      → Returns replyOf t w (Call.Refcount h from to) (record { refusal = 0; value = v }) t w₂
+      → Returns replyOf t w (Call.Read (Reading.Refcount h from to)) (record { refusal = 0; value = v }) t w₂
   refcount-returns d from to v e ev =
       let y = is-live d e in
-      number-returns t w h d y (Call.Refcount h from to) (reachIn from to) (refcount-reads h from to) v w₂ (ev ∙ reach-same t w h d y from to) ew
+      number-returns t w h d y (Reading.Refcount h from to) (reachIn from to) (refcount-reads h from to) v w₂ (ev ∙ reach-same t w h d y from to) ew
 
-  pub refcount-refused : (from to : ℕ) (r : Refusal) → a ≡ Refused r → (x : replies.Reply) → x ≡ replyFor (Refused r) → Returns replyOf t w (Call.Refcount h from to) x t w₂
-  refcount-refused from to r e x ex = refused-returns t w h _ (is-refused r e) (Call.Refcount h from to) _ (refcount-reads h from to) x w₂ ex ew
+  pub refcount-refused : (from to : ℕ) (r : Refusal) → a ≡ Refused r → (x : replies.Reply) → x ≡ replyFor (Refused r) → Returns replyOf t w (Call.Read (Reading.Refcount h from to)) x t w₂
+  refcount-refused from to r e x ex = refused-returns t w h _ (is-refused r e) (Reading.Refcount h from to) _ (refcount-reads h from to) x w₂ ex ew
 
-  pub cores-returns : (d v : ℕ) → a ≡ Done d → v ≡ headAt (view t) d .cores → Returns replyOf t w (Call.CoreMap h) (record { refusal = 0; value = v }) t w₂
+  pub cores-returns : (d v : ℕ) → a ≡ Done d → v ≡ headAt (view t) d .cores → Returns replyOf t w (Call.Read (Reading.CoreMap h)) (record { refusal = 0; value = v }) t w₂
   cores-returns d v e ev =
       let y = is-live d e in
-      number-returns t w h d y (Call.CoreMap h) coresIn (cores-reads h) v w₂ (ev ∙ cores-same t w h d y) ew
+      number-returns t w h d y (Reading.CoreMap h) coresIn (cores-reads h) v w₂ (ev ∙ cores-same t w h d y) ew
 
-  pub cores-refused : (r : Refusal) → a ≡ Refused r → (x : replies.Reply) → x ≡ replyFor (Refused r) → Returns replyOf t w (Call.CoreMap h) x t w₂
-  cores-refused r e x ex = refused-returns t w h _ (is-refused r e) (Call.CoreMap h) _ (cores-reads h) x w₂ ex ew
+  pub cores-refused : (r : Refusal) → a ≡ Refused r → (x : replies.Reply) → x ≡ replyFor (Refused r) → Returns replyOf t w (Call.Read (Reading.CoreMap h)) x t w₂
+  cores-refused r e x ex = refused-returns t w h _ (is-refused r e) (Reading.CoreMap h) _ (cores-reads h) x w₂ ex ew
 
 -- ---- the holders of an address: b is what the test said, run₂ and w₂ what was left
 
 module _ (t w : List ℕ) (a : ℕ) (run : List ℕ) (b : Bool) (said : b ≡ admitted t w) (w₂ : List ℕ) (ew : w₂ ≡ zeroed w) where
-  not-make : (z : Sizes) → Call.Holders a ≢ Call.Make z
-  not-make z e = let q : _≡_ {A = ℕ} 0 1 = cc in omega arith
-
   pub holders-returns : Each Word t → b ≡ true → (n : ℕ) (run₂ : List ℕ) → n ≡ length (readings.holdersOf (view t) a) → run₂ ≡ readings.fillRun (readings.holdersOf (view t) a) run
       → ListsHolders t w a run (record { refusal = 0; value = n }) w₂ run₂
   holders-returns known e n run₂ en er =
@@ -135,6 +129,6 @@ module _ (t w : List ℕ) (a : ℕ) (run : List ℕ) (b : Bool) (said : b ≡ ad
   pub holders-refused : b ≡ false → (x : replies.Reply) → x ≡ record { refusal = 1; value = 0 } → ListsHolders t w a run x w₂ run
   holders-refused e x ex = record {
     answer = Answer.no outcome.memory;
-    after = subst (λ u. AfterHolders t w a run (Answer.no outcome.memory) t u run) (sym ew) (Filled.untouched outcome.memory t (zeroed w) (not-admitted t w (Call.Holders a) not-make (sym said ∙ e)));
+    after = subst (λ u. AfterHolders t w a run (Answer.no outcome.memory) t u run) (sym ew) (Filled.untouched outcome.memory t (zeroed w) (not-admitted t w (Call.Read (Reading.Holders a)) tt (sym said ∙ e)));
     reply = ex;
   }

@@ -1,9 +1,7 @@
 // Capabilities sent and revoked.
-ghost use Rattle.model.specs.Perform.{Call};
+ghost use Rattle.model.specs.Perform.{Call, Step};
 ghost use Rattle.frame.specs.Replies.{handle, replyOf, Returns};
-use answers::Refusal;
 use frame::Reply;
-use frame::replies;
 use tables::Handle;
 
 // The value is the slot in the list of the domain that the target names.
@@ -16,17 +14,17 @@ pub extern "C" fn mityvurno_send(
     local: u64,
     target: u64,
 ) -> Reply
-    ensures { λ r. ⌜ Returns replyOf (now (t .entry)) (now (w .entry)) (Call.Send (handle domain generation) local target) r (now (t .exit)) (now (w .exit)) ⌝ }
+    ensures { λ r. ⌜ Returns replyOf (now (t .entry)) (now (w .entry)) (Call.Do (Step.Send (handle domain generation) local target)) r (now (t .exit)) (now (w .exit)) ⌝ }
 {
-    if frame::begin(t, w) {
-        let h = Handle {
-            slot: domain,
-            generation,
-        };
-        let a = calls::send(t, h, local as usize, target as usize);
-        return frame::finish(t, w, a);
-    }
-    replies::refused(Refusal::Memory)
+    let domain = Handle {
+        slot: domain,
+        generation,
+    };
+    frame::run(
+        t,
+        w,
+        calls::Call::Send(domain, local as usize, target as usize),
+    )
 }
 
 #[no_mangle]
@@ -37,17 +35,13 @@ pub extern "C" fn mityvurno_revoke(
     generation: u64,
     local: u64,
 ) -> Reply
-    ensures { λ r. ⌜ Returns replyOf (now (t .entry)) (now (w .entry)) (Call.Revoke (handle domain generation) local) r (now (t .exit)) (now (w .exit)) ⌝ }
+    ensures { λ r. ⌜ Returns replyOf (now (t .entry)) (now (w .entry)) (Call.Do (Step.Revoke (handle domain generation) local)) r (now (t .exit)) (now (w .exit)) ⌝ }
 {
-    if frame::begin(t, w) {
-        let h = Handle {
-            slot: domain,
-            generation,
-        };
-        let a = calls::revoke(t, h, local as usize);
-        return frame::finish(t, w, a);
-    }
-    replies::refused(Refusal::Memory)
+    let domain = Handle {
+        slot: domain,
+        generation,
+    };
+    frame::run(t, w, calls::Call::Revoke(domain, local as usize))
 }
 
 // The value is the local slot of the RegionRevoke.
@@ -59,15 +53,11 @@ pub extern "C" fn mityvurno_create_revoke_capa(
     generation: u64,
     local: u64,
 ) -> Reply
-    ensures { λ r. ⌜ Returns replyOf (now (t .entry)) (now (w .entry)) (Call.MakeRevoke (handle domain generation) local) r (now (t .exit)) (now (w .exit)) ⌝ }
+    ensures { λ r. ⌜ Returns replyOf (now (t .entry)) (now (w .entry)) (Call.Do (Step.MakeRevoke (handle domain generation) local)) r (now (t .exit)) (now (w .exit)) ⌝ }
 {
-    if frame::begin(t, w) {
-        let h = Handle {
-            slot: domain,
-            generation,
-        };
-        let a = calls::create_revoke_capa(t, h, local as usize);
-        return frame::finish(t, w, a);
-    }
-    replies::refused(Refusal::Memory)
+    let domain = Handle {
+        slot: domain,
+        generation,
+    };
+    frame::run(t, w, calls::Call::MakeRevoke(domain, local as usize))
 }

@@ -1,11 +1,10 @@
 // Domains, channels and core maps.
 ghost use mathlib.Core.Path.{_≡_};
-ghost use Rattle.model.specs.Perform.{Call};
-ghost use Rattle.tables.specs.View.{view, Sized};
 ghost use mathlib.Core.Option.{none, some};
+ghost use Rattle.model.specs.Perform.{Call, Step};
+ghost use Rattle.tables.specs.View.{view, Sized};
 ghost use Rattle.frame.specs.Replies.{handle, replyOf, domainReplyOf, Returns};
 ghost use Rattle.frame.specs.Finish.{openedFor};
-use answers::Refusal;
 use frame::DomainReply;
 use frame::Reply;
 use frame::replies;
@@ -13,7 +12,7 @@ use tables::Handle;
 
 // An accepted opening's slot, with the generation that it has.
 fn opened(t: &[u64], r: Reply) -> DomainReply
-    requires { ⌜ Sized (now t) ⌝ }
+    requires { ⌜ (r .refusal ≡ 0 → Sized (now t)) ⌝ }
     ensures { λ x. ⌜ x ≡ openedFor (view (now (t .entry))) r ⌝ }
 {
     if r.refusal == 0 {
@@ -29,14 +28,10 @@ fn opened(t: &[u64], r: Reply) -> DomainReply
 // A domain without a manager.
 #[no_mangle]
 pub extern "C" fn mityvurno_open_domain(t: &mut [u64], w: &mut [u64], cores: u64) -> DomainReply
-    ensures { λ r. ⌜ Returns domainReplyOf (now (t .entry)) (now (w .entry)) (Call.Open none cores) r (now (t .exit)) (now (w .exit)) ⌝ }
+    ensures { λ r. ⌜ Returns domainReplyOf (now (t .entry)) (now (w .entry)) (Call.Do (Step.Open none cores)) r (now (t .exit)) (now (w .exit)) ⌝ }
 {
-    if frame::begin(t, w) {
-        let a = calls::open_domain(t, cores);
-        let r = frame::finish(t, w, a);
-        return opened(t, r);
-    }
-    replies::no_domain(1)
+    let r = frame::run(t, w, calls::Call::Open(cores));
+    opened(t, r)
 }
 
 // A domain whose manager gets a Management capability.
@@ -48,18 +43,14 @@ pub extern "C" fn mityvurno_open_under(
     generation: u64,
     cores: u64,
 ) -> DomainReply
-    ensures { λ r. ⌜ Returns domainReplyOf (now (t .entry)) (now (w .entry)) (Call.Open (some (handle manager generation)) cores) r (now (t .exit)) (now (w .exit)) ⌝ }
+    ensures { λ r. ⌜ Returns domainReplyOf (now (t .entry)) (now (w .entry)) (Call.Do (Step.Open (some (handle manager generation)) cores)) r (now (t .exit)) (now (w .exit)) ⌝ }
 {
-    if frame::begin(t, w) {
-        let h = Handle {
-            slot: manager,
-            generation,
-        };
-        let a = calls::open_under(t, h, cores);
-        let r = frame::finish(t, w, a);
-        return opened(t, r);
-    }
-    replies::no_domain(1)
+    let manager = Handle {
+        slot: manager,
+        generation,
+    };
+    let r = frame::run(t, w, calls::Call::OpenUnder(manager, cores));
+    opened(t, r)
 }
 
 // A Channel capability to a domain in another's list, or in its own; the value is its local slot.
@@ -72,21 +63,17 @@ pub extern "C" fn mityvurno_open_channel(
     to: u64,
     to_generation: u64,
 ) -> Reply
-    ensures { λ r. ⌜ Returns replyOf (now (t .entry)) (now (w .entry)) (Call.Channel (handle domain generation) (handle to «to_generation»)) r (now (t .exit)) (now (w .exit)) ⌝ }
+    ensures { λ r. ⌜ Returns replyOf (now (t .entry)) (now (w .entry)) (Call.Do (Step.Channel (handle domain generation) (handle to «to_generation»))) r (now (t .exit)) (now (w .exit)) ⌝ }
 {
-    if frame::begin(t, w) {
-        let h = Handle {
-            slot: domain,
-            generation,
-        };
-        let target = Handle {
-            slot: to,
-            generation: to_generation,
-        };
-        let a = calls::open_channel(t, h, target);
-        return frame::finish(t, w, a);
-    }
-    replies::refused(Refusal::Memory)
+    let domain = Handle {
+        slot: domain,
+        generation,
+    };
+    let to = Handle {
+        slot: to,
+        generation: to_generation,
+    };
+    frame::run(t, w, calls::Call::Channel(domain, to))
 }
 
 #[no_mangle]
@@ -97,15 +84,11 @@ pub extern "C" fn mityvurno_set_core_map(
     generation: u64,
     cores: u64,
 ) -> Reply
-    ensures { λ r. ⌜ Returns replyOf (now (t .entry)) (now (w .entry)) (Call.SetCores (handle domain generation) cores) r (now (t .exit)) (now (w .exit)) ⌝ }
+    ensures { λ r. ⌜ Returns replyOf (now (t .entry)) (now (w .entry)) (Call.Do (Step.SetCores (handle domain generation) cores)) r (now (t .exit)) (now (w .exit)) ⌝ }
 {
-    if frame::begin(t, w) {
-        let h = Handle {
-            slot: domain,
-            generation,
-        };
-        let a = calls::set_cores(t, h, cores);
-        return frame::finish(t, w, a);
-    }
-    replies::refused(Refusal::Memory)
+    let domain = Handle {
+        slot: domain,
+        generation,
+    };
+    frame::run(t, w, calls::Call::SetCores(domain, cores))
 }

@@ -4,7 +4,7 @@ ghost use Rattle.frame.specs.Replies.{sizes, replyOf, Returns};
 use answers::Refusal;
 use frame::Reply;
 use frame::replies;
-use tables::Sizes;
+use sizes::Sizes;
 
 #[no_mangle]
 pub extern "C" fn mityvurno_make_tables(
@@ -26,10 +26,10 @@ pub extern "C" fn mityvurno_make_tables(
         records: records as usize,
         updates: updates as usize,
     };
-    if !tables::limits_hold(z) {
+    if !sizes::limits_hold(z) {
         return replies::refused(Refusal::Sizes);
     }
-    let n = tables::total_of(z);
+    let n = sizes::total_of(z);
     if words::both(t.len() == n, w.len() == n) {
         making::make_empty(t, z);
         return Reply {

@@ -1,7 +1,7 @@
 // The readings (document 01, **Reading**). The tables are lent to be read only.
 ghost use mathlib.Core.Path.{_≡_};
 ghost use Rattle.model.specs.Memory.{zeroed};
-ghost use Rattle.model.specs.Perform.{Call};
+ghost use Rattle.model.specs.Perform.{Call, Reading};
 ghost use Rattle.frame.specs.Replies.{handle, replyOf, Returns, ListsPermissions, ListsHolders};
 ghost use Rattle.engine.specs.Lookup.{domainRead};
 ghost use Rattle.engine.specs.Permissions.{Plans};
@@ -28,7 +28,7 @@ fn domain_read(t: &[u64], w: &mut [u64], domain: u64, generation: u64) -> Answer
             slot: domain,
             generation,
         };
-        return calls::checks::live_domain(t, h);
+        return checks::live_domain(t, h);
     }
     Answer::Refused(Refusal::Memory)
 }
@@ -42,7 +42,7 @@ pub extern "C" fn mityvurno_get_refcount(
     start: u64,
     end: u64,
 ) -> Reply
-    ensures { λ r. ⌜ Returns replyOf (now (t .entry)) (now (w .entry)) (Call.Refcount (handle domain generation) start end) r (now (t .entry)) (now (w .exit)) ⌝ }
+    ensures { λ r. ⌜ Returns replyOf (now (t .entry)) (now (w .entry)) (Call.Read (Reading.Refcount (handle domain generation) start end)) r (now (t .entry)) (now (w .exit)) ⌝ }
 {
     match domain_read(t, w, domain, generation) {
         Answer::Done(d) => Reply {
@@ -60,7 +60,7 @@ pub extern "C" fn mityvurno_core_map(
     domain: u64,
     generation: u64,
 ) -> Reply
-    ensures { λ r. ⌜ Returns replyOf (now (t .entry)) (now (w .entry)) (Call.CoreMap (handle domain generation)) r (now (t .entry)) (now (w .exit)) ⌝ }
+    ensures { λ r. ⌜ Returns replyOf (now (t .entry)) (now (w .entry)) (Call.Read (Reading.CoreMap (handle domain generation))) r (now (t .entry)) (now (w .exit)) ⌝ }
 {
     match domain_read(t, w, domain, generation) {
         Answer::Done(d) => {

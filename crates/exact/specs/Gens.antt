@@ -8,7 +8,8 @@ use Rattle.model.specs.Lists.{Each}
 use Rattle.model.specs.State.{Word}
 use Rattle.words.specs.Runs.{part}
 use Rattle.words.specs.Cuts.{offset, cuts-part}
-use Rattle.tables.specs.View.{sizesOf, arenaOf, widths, poolWidth, ofParts, view}
+use Rattle.sizes.specs.Sizes.{sizesOf, widths, poolWidth}
+use Rattle.tables.specs.View.{arenaOf, ofParts, view}
 use Rattle.tables.specs.Sections.{section}
 
 part-words : (o n : ℕ) (l : List ℕ) → Each Word l → Each Word (part l o n)

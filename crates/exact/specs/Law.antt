@@ -1,36 +1,37 @@
--- The law: the test of lent tables is exact (document 01, **Sound**). The groups settle the clauses of `Tidy` and `Sound` in the order of the test:
--- the tree leans on the pools, capabilities and ring on both, the trackers on pools, tree and capabilities. What no group tests follows from the
--- sizes and from that memory holds words.
+-- The law: the test of lent tables is exact (document 01, **Sound**), and each of three groups of it by itself: what is outside the trackers and the
+-- ring; the ring; and, where the first holds, the trackers with their pool. Within the first the tree leans on the pools, the capabilities on both.
+-- What no group tests follows from the sizes and from that memory holds words.
 use mathlib.Core.Path.{_≡_, sym, _∙_}
-use mathlib.Core.Bool.{true}
+use mathlib.Core.Logic.{_↔_}
+use mathlib.Core.Bool.{Bool, true}
 use mathlib.Core.List.{List}
 use Prim.Native.Nat.{ℕ}
-use Rattle.model.specs.Lists.{Each, In}
-use Rattle.model.specs.State as state
+use Rattle.model.specs.Lists.{Each}
 use Rattle.model.specs.State.{State, Word}
 use Rattle.model.specs.Layout.{words}
-use Rattle.model.specs.Sound.{ListSound, TrackerSound, Sound}
+use Rattle.model.specs.Sound.{OutsideSound, TrackersSound, QueueSound, Sound}
 use Rattle.laws.specs.Words.Unique.{words-unique}
-use Rattle.words.specs.Cases.{both-true}
+use Rattle.words.specs.Cases.{both, both-true}
 use Rattle.tables.specs.Tables.{Tables}
 use Rattle.tables.specs.View.{view, Sized}
-use Rattle.tables.specs.Tests.{sizedB, sized-true, true-sized}
+use Rattle.sizes.specs.Tests.{sizedB}
+use Rattle.tables.specs.Tests.{sized-true, true-sized}
 use Rattle.decoded.specs.Rows.{map-up-length}
 use Rattle.decoded.specs.Sizes.{limits-good}
 use Rattle.decoded.specs.Shape.{Shaped}
 use Rattle.decoded.specs.Decode.Read.{poolFrom, domainsFrom, regionsFrom, sizesFrom, stateOf}
-use Rattle.decoded.specs.Settled.Tidy.{Tidy}
+use Rattle.decoded.specs.Settled.Tidy.{OutsideTidy, TrackersTidy, QueueTidy}
 use Rattle.decoded.specs.Settled.Words.{SoundWords, view-shaped, tidy-words, words-tidy}
 use Rattle.sound_pools.specs.Hold.{poolsHold}
 use Rattle.sound_tree.specs.Tree.{treeHolds}
 use Rattle.sound_capas.specs.Capas.{capasHold}
 use Rattle.sound_capas.specs.Places.{queueHolds}
 use Rattle.sound_trackers.specs.Trackers.{trackersHold}
-use Rattle.exact_pools.specs.Clauses.{PoolsClauses}
-use Rattle.exact_pools.specs.Law.{pools-hold, hold-pools}
-use Rattle.exact_tree.specs.Law.{TreeClauses, holds-tree}
+use Rattle.exact_pools.specs.Clauses.{outsidePoolsHold, recordPoolHolds}
+use Rattle.exact_pools.specs.Domains.{both-i}
+use Rattle.exact_pools.specs.Law.{pools-hold, hold-pools, record-pool-holds, hold-record-pool}
+use Rattle.exact_tree.specs.Law.{holds-tree}
 use Rattle.exact_tree.specs.Words.{words-tree}
-use Rattle.exact_capas.specs.Clauses.{Before, CapasClauses, QueueClauses}
 use Rattle.exact_capas.specs.Words.{view-stored}
 use Rattle.exact_capas.specs.Lists.{capas-hold}
 use Rattle.exact_capas.specs.Full.{hold-capas}
@@ -39,97 +40,116 @@ use Rattle.exact_trackers.specs.Law.{trackers-hold, hold-trackers}
 use Rattle.sound.specs.Test.{groupsHold, isSound}
 use Rattle.exact.specs.Gens.{domain-gens, region-gens, record-gens}
 
--- ---- the parts of the test
+-- ---- the three groups of the test
+
+-- the pools of domains and regions, the tree, the capabilities
+abbrev pub outsideHolds : Tables → Bool
+outsideHolds v = both (outsidePoolsHold v) (both (treeHolds v) (capasHold v))
+
+-- the pool of records, the trackers
+abbrev pub trackedHolds : Tables → Bool
+trackedHolds v = both (recordPoolHolds v) (trackersHold v)
+
+-- the clause of `Sound` about the ring
+abbrev pub QueueClause : Tables → Type 0
+QueueClause v = QueueSound (v .sizes .updates) (stateOf v .domainPool) (stateOf v .domains) (stateOf v .queue)
 
 record Groups (v : Tables) : Type 0 where
-  pools : poolsHold v ≡ true
-  tree : treeHolds v ≡ true
-  capas : capasHold v ≡ true
+  outside : outsideHolds v ≡ true
+  tracked : trackedHolds v ≡ true
   queue : queueHolds v ≡ true
-  trackers : trackersHold v ≡ true
 
 groups : (v : Tables) → groupsHold v ≡ true → Groups v
+unfolding poolsHold
 groups v h =
     let a = both-true (poolsHold v) _ h in
+    let p = both-true (outsidePoolsHold v) (recordPoolHolds v) (a .0) in
     let b = both-true (treeHolds v) _ (a .1) in
     let c = both-true (capasHold v) _ (b .1) in
     let d = both-true (queueHolds v) _ (c .1) in
-    record { pools = a .0; tree = b .0; capas = c .0; queue = d .0; trackers = d .1 }
+    record { outside = both-i (outsidePoolsHold v) _ (p .0) (both-i (treeHolds v) (capasHold v) (b .0) (c .0)); tracked = both-i (recordPoolHolds v) (trackersHold v) (p .1) (d .1); queue = d .0 }
 
 -- ---- words that pass
 
-module _ (t : List ℕ) (stored : Each Word t) (z : Sized t) (g : Groups (view t)) where
+module _ (t : List ℕ) (stored : Each Word t) (z : Sized t) where
   abbrev v : Tables
   v = view t
 
   shaped : Shaped v
   shaped = view-shaped t z
 
-  pools : PoolsClauses v
-  pools = pools-hold v shaped (g .pools)
-
-  tree : TreeClauses v
-  tree = words-tree t z stored (record { regionsFree = pools .regionsFree }) (g .tree)
-
-  before : Before v
-  before = record {
-    shaped = shaped;
-    domainPool = pools .domainPool;
-    regionPool = pools .regionPool;
-    domainsOnce = pools .domainOnce;
-    regionsOnce = pools .regionOnce;
-    regionsUsed = tree .regionsUsed;
-  }
-
-  capas : CapasClauses v
-  capas = capas-hold v before (view-stored t stored) (g .capas)
-
-  queue : QueueClauses v
-  queue = queue-holds v before (view-stored t stored) (g .queue)
-
-  trackers : (d : ℕ) (x : state.Domain) → In (stateOf v .domains) d x → TrackerSound (stateOf v .regions) d (x .tracker)
-  trackers = trackers-hold v (record { shaped = shaped; trackersEnd = λ d b u. pools .domainsUsed d b u .trackerEnds; regions = tree .regions; owners = capas .owners }) (g .trackers)
-
-  lists : (d : ℕ) (x : state.Domain) → In (stateOf v .domains) d x → ListSound (v .sizes .slots) (stateOf v .regionPool) (stateOf v .regions) (stateOf v .domainPool) (stateOf v .domains) (x .locals)
-  lists d x e = let l = pools .lists d x e in record { heldLength = l .0; once = l .1; revokesFit = capas .revokesFit d x e; handlesFit = capas .handlesFit d x e }
-
-  tidy : Tidy v
-  tidy = record {
-    domainPool = pools .domainPool;
-    regionPool = pools .regionPool;
-    recordPool = pools .recordPool;
-    recordMarks = pools .recordMarks;
-    domainsUsed = pools .domainsUsed;
-    domainsFree = pools .domainsFree;
-    regionsUsed = tree .regionsUsed;
-    regionsFree = pools .regionsFree;
-    recordsFree = pools .recordsFree;
-    queued = queue .queued;
-    unqueued = queue .unqueued;
-  }
-
-  sound : Sound (stateOf v)
+  pub outside-holds : outsideHolds v ≡ true → OutsideTidy v × OutsideSound (stateOf v)
   unfolding stateOf poolFrom domainsFrom regionsFrom
-  sound = record {
-    sizesGood = limits-good (sizesFrom (v .sizes)) (shaped .limits);
-    domainsLength = map-up-length _ (v .sizes .domains);
-    regionsLength = map-up-length _ (v .sizes .regions);
-    domainPool = record { gensLength = shaped .domainPool .gens; gensWords = domain-gens t stored; once = pools .domainOnce };
-    regionPool = record { gensLength = shaped .regionPool .gens; gensWords = region-gens t stored; once = pools .regionOnce };
-    recordPool = record { gensLength = shaped .recordPool .gens; gensWords = record-gens t stored; once = pools .recordOnce };
-    regions = tree .regions;
-    owners = capas .owners;
-    managers = capas .managers;
-    lists = lists;
-    trackers = trackers;
-    coresWords = capas .coresWords;
-    queue = queue .queue;
-  }
+  outside-holds h =
+      let a = both-true (outsidePoolsHold v) _ h in
+      let b = both-true (treeHolds v) (capasHold v) (a .1) in
+      let pools = pools-hold v shaped (a .0) in
+      let tree = words-tree t z stored (record { regionsFree = pools .regionsFree }) (b .0) in
+      let capas = capas-hold v (record { shaped = shaped; domainPool = pools .domainPool; regionPool = pools .regionPool; domainsOnce = pools .domainOnce; regionsOnce = pools .regionOnce; regionsUsed = tree .regionsUsed }) (view-stored t stored) (b .1) in (
+        record {
+          domainPool = pools .domainPool;
+          regionPool = pools .regionPool;
+          domainsUsed = pools .domainsUsed;
+          domainsFree = pools .domainsFree;
+          regionsUsed = tree .regionsUsed;
+          regionsFree = pools .regionsFree;
+        },
+        record {
+          sizesGood = limits-good (sizesFrom (v .sizes)) (shaped .limits);
+          domainsLength = map-up-length _ (v .sizes .domains);
+          regionsLength = map-up-length _ (v .sizes .regions);
+          domainPool = record { gensLength = shaped .domainPool .gens; gensWords = domain-gens t stored; once = pools .domainOnce };
+          regionPool = record { gensLength = shaped .regionPool .gens; gensWords = region-gens t stored; once = pools .regionOnce };
+          regions = tree .regions;
+          owners = capas .owners;
+          managers = capas .managers;
+          lists = λ d x e. let l = pools .lists d x e in record { heldLength = l .0; once = l .1; revokesFit = capas .revokesFit d x e; handlesFit = capas .handlesFit d x e };
+          coresWords = capas .coresWords;
+        },
+      )
 
-  passed-words : SoundWords t
-  passed-words = tidy-words t z tidy sound
+  pub tracked-holds : OutsideSound (stateOf v) → trackedHolds v ≡ true → TrackersTidy v × TrackersSound (stateOf v)
+  unfolding stateOf poolFrom
+  tracked-holds o h =
+      let a = both-true (recordPoolHolds v) (trackersHold v) h in
+      let pool = record-pool-holds v shaped (a .0) in (
+        pool .tidy,
+        record {
+          recordPool = record { gensLength = shaped .recordPool .gens; gensWords = record-gens t stored; once = pool .recordOnce };
+          trackers = trackers-hold v (record { shaped = shaped; trackersEnd = pool .tidy .trackersEnd; regions = o .regions; owners = o .owners }) (a .1);
+        },
+      )
 
--- ---- both ways
+  pub queued-holds : queueHolds v ≡ true → QueueTidy v × QueueClause v
+  queued-holds h = let q = queue-holds v shaped (view-stored t stored) h in (q .tidy, q .queue)
+
+  passed-words : Groups v → SoundWords t
+  unfolding stateOf
+  passed-words g =
+      let o = outside-holds (g .outside) in
+      let k = tracked-holds (o .1) (g .tracked) in
+      let q = queued-holds (g .queue) in
+      tidy-words t z (record { outside = o .0; tracked = k .0; queue = q .0 }) (record { outside = o .1; tracked = k .1; queue = q .1 })
+
+-- ---- words that are right pass
+
+pub hold-outside : (v : Tables) → Shaped v → OutsideTidy v → OutsideSound (stateOf v) → outsideHolds v ≡ true
+hold-outside v s t h = both-i (outsidePoolsHold v) _ (hold-pools v s t h) (both-i (treeHolds v) (capasHold v) (holds-tree v s t h) (hold-capas v s t h))
+
+pub hold-tracked : (v : Tables) → Shaped v → OutsideSound (stateOf v) → TrackersTidy v → TrackersSound (stateOf v) → trackedHolds v ≡ true
+hold-tracked v s o t h = both-i (recordPoolHolds v) (trackersHold v) (hold-record-pool v s t h) (hold-trackers v (record { shaped = s; trackersEnd = t .trackersEnd; regions = o .regions; owners = o .owners }) h)
+
+-- ---- both ways: each group, and the whole
+
+module _ (t : List ℕ) (stored : Each Word t) (z : Sized t) where
+  pub outside-exact : (outsideHolds (view t) ≡ true) ↔ (OutsideTidy (view t) × OutsideSound (stateOf (view t)))
+  outside-exact = (outside-holds t stored z, λ (d, h). hold-outside (view t) (view-shaped t z) d h)
+
+  pub tracked-exact : OutsideSound (stateOf (view t)) → (trackedHolds (view t) ≡ true) ↔ (TrackersTidy (view t) × TrackersSound (stateOf (view t)))
+  tracked-exact o = (tracked-holds t stored z o, λ (d, h). hold-tracked (view t) (view-shaped t z) o d h)
+
+  pub queue-exact : (queueHolds (view t) ≡ true) ↔ (QueueTidy (view t) × QueueClause (view t))
+  queue-exact = (queued-holds t stored z, λ (d, h). hold-queue (view t) (view-shaped t z) d h)
 
 pub sound-words : (t : List ℕ) → Each Word t → isSound t ≡ true → SoundWords t
 unfolding isSound
@@ -137,13 +157,21 @@ sound-words t stored h =
     let a = both-true (sizedB t) (groupsHold (view t)) h in
     passed-words t stored (sized-true t (a .0)) (groups (view t) (a .1))
 
+all-hold : (v : Tables) → outsideHolds v ≡ true → trackedHolds v ≡ true → queueHolds v ≡ true → groupsHold v ≡ true
+unfolding poolsHold
+all-hold v o k q =
+    let a = both-true (outsidePoolsHold v) _ o in
+    let b = both-true (treeHolds v) (capasHold v) (a .1) in
+    let c = both-true (recordPoolHolds v) (trackersHold v) k in
+    both-i (poolsHold v) _ (both-i (outsidePoolsHold v) (recordPoolHolds v) (a .0) (c .0)) (both-i (treeHolds v) _ (b .0) (both-i (capasHold v) _ (b .1) (both-i (queueHolds v) (trackersHold v) q (c .1))))
+
 pub words-sound : (t : List ℕ) → SoundWords t → isSound t ≡ true
-unfolding isSound
+unfolding isSound stateOf
 words-sound t x =
     let (z, d, h) = words-tidy t x in
     let v = view t in
     let s = view-shaped t z in
-    rw (true-sized t z, hold-pools v s d h, holds-tree v s d h, hold-capas v s d h, hold-queue v s d h, hold-trackers v s d h)
+    both-i (sizedB t) (groupsHold v) (true-sized t z) (all-hold v (hold-outside v s (d .outside) (h .outside)) (hold-tracked v s (h .outside) (d .tracked) (h .tracked)) (hold-queue v s (d .queue) (h .queue)))
 
 -- the state is one
 pub sound-only : (t : List ℕ) (s s′ : State) → Sound s → Sound s′ → t ≡ words s → t ≡ words s′ → s ≡ s′

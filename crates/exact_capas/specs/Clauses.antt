@@ -1,15 +1,15 @@
 -- The clauses of `Tidy` and `Sound` about capabilities and the ring, which this crate tests, and those of earlier tests that it leans on.
 use mathlib.Core.Path.{_≡_}
-use Prim.Native.Nat.{ℕ, _+_, _≤_, _<_}
+use Prim.Native.Nat.{ℕ, _+_, _<_}
 use mathlib.Core.Bool.{true}
 use Rattle.model.specs.Lists.{Each, In}
 use Rattle.model.specs.State as state
 use Rattle.model.specs.State.{Word}
-use Rattle.model.specs.Sound.{Sound, OnceEach, inUse, OwnerSound, ManagerSound, RevokeFit, HandleFit, QueueSound}
-use Rattle.tables.specs.Tables.{Tables, noUpdate}
+use Rattle.model.specs.Sound.{OutsideSound, OnceEach, inUse, OwnerSound, ManagerSound, RevokeFit, HandleFit, QueueSound}
+use Rattle.tables.specs.Tables.{Tables}
 use Rattle.decoded.specs.Shape.{Shaped}
 use Rattle.decoded.specs.Decode.Read.{taken, stateOf}
-use Rattle.decoded.specs.Settled.Tidy.{Tidy, PoolTidy, RegionTidy, UpdateTidy, domainRow, regionRow, place, behind}
+use Rattle.decoded.specs.Settled.Tidy.{OutsideTidy, QueueTidy, PoolTidy, RegionTidy, domainRow, regionRow, place}
 
 -- ---- what is known before
 
@@ -29,7 +29,7 @@ pub record Before (v : Tables) : Type 0 where
   pub regionsOnce : OnceEach (v .sizes .regions) (inUse (stateOf v .regions)) (stateOf v .regionPool .free)
   pub regionsUsed : (i : ℕ) → i < v .sizes .regions → taken (v .regionPool) i ≡ true → RegionTidy (regionRow v i)
 
-pub all-before : (v : Tables) → Shaped v → Tidy v → Sound (stateOf v) → Before v
+pub all-before : (v : Tables) → Shaped v → OutsideTidy v → OutsideSound (stateOf v) → Before v
 unfolding stateOf
 all-before v s t h =
     record { shaped = s; domainPool = t .domainPool; regionPool = t .regionPool; domainsOnce = h .domainPool .once; regionsOnce = h .regionPool .once; regionsUsed = t .regionsUsed }
@@ -45,5 +45,4 @@ pub record CapasClauses (v : Tables) : Type 0 where
 
 pub record QueueClauses (v : Tables) : Type 0 where
   pub queue : QueueSound (v .sizes .updates) (stateOf v .domainPool) (stateOf v .domains) (stateOf v .queue)
-  pub queued : (k : ℕ) → k < v .sizes .updates + 1 → behind v k < behind v (v .write) → UpdateTidy (place v k)
-  pub unqueued : (k : ℕ) → k < v .sizes .updates + 1 → behind v (v .write) ≤ behind v k → place v k ≡ noUpdate
+  pub tidy : QueueTidy v

@@ -8,7 +8,7 @@ use lib.ListN.{getD}
 use Rattle.model.specs.Lists.{oneIf, slotOf, In}
 use Rattle.model.specs.State as state
 use Rattle.model.specs.Pool.{handleOf}
-use Rattle.model.specs.Sound.{Sound, names, isRegionOf, isManagementOf}
+use Rattle.model.specs.Sound.{OutsideSound, names, isRegionOf, isManagementOf}
 use Rattle.laws.specs.Cases.{lt, ge, cmp, holds, fails, test}
 use Rattle.laws.specs.Stack.{one, one-at-most}
 use Rattle.laws.specs.Tree.Sum.{sum}
@@ -17,7 +17,7 @@ use Rattle.tables.specs.Tables.{Tables, noDomain, headAt, slotAt, regionAt}
 use Rattle.decoded.specs.Shape.{Shaped}
 use Rattle.decoded.specs.Decode.Read.{poolFrom, taken, linked, unlink, heldIn, domainFrom, domainsFrom, stateOf}
 use Rattle.decoded.specs.Settled.Pools.{table-in}
-use Rattle.decoded.specs.Settled.Tidy.{Tidy}
+use Rattle.decoded.specs.Settled.Tidy.{OutsideTidy}
 use Rattle.sound_capas.specs.Capas.{inUse, rowClaim, capaClaim, capasHold}
 use Rattle.exact_capas.specs.Fits.{FitFrom, times, By, by-times, count-sum, sum-below, out-holds}
 use Rattle.exact_capas.specs.Grid.{Rows, rows-fit, at-by, sum-twice, sum-some}
@@ -162,7 +162,7 @@ module _ (v : Tables) (k : Before v) (q : CapasClauses v) where
   clauses-pass = out-holds (capaClaim v) (R + D) items (inUse v) fit (omega (arith, used-sum v k, count-sum (capaClaim v) (R + D) 0 items (fit .within), sum-below (used v) (λ c. times (capaClaim v) (suc c) 0 items) (R + D) at-least))
 
 -- sound tables have the clauses
-pub sound-capas : (v : Tables) → Sound (stateOf v) → CapasClauses v
+pub sound-capas : (v : Tables) → OutsideSound (stateOf v) → CapasClauses v
 sound-capas v h = record {
   owners = h .owners;
   managers = h .managers;
@@ -172,5 +172,5 @@ sound-capas v h = record {
 }
 
 -- and pass the test
-pub hold-capas : (v : Tables) → Shaped v → Tidy v → Sound (stateOf v) → capasHold v ≡ true
+pub hold-capas : (v : Tables) → Shaped v → OutsideTidy v → OutsideSound (stateOf v) → capasHold v ≡ true
 hold-capas v s t h = clauses-pass v (all-before v s t h) (sound-capas v h)

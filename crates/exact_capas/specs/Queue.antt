@@ -14,7 +14,7 @@ use Rattle.model.specs.Lists.{countUp}
 use Rattle.model.specs.State as state
 use Rattle.model.specs.State.{permission}
 use Rattle.model.specs.Updates.{isPermissionOf}
-use Rattle.model.specs.Sound.{Sound, QueueSound, QueuedLive, UpdateWords}
+use Rattle.model.specs.Sound.{QueueSound, QueuedLive, UpdateWords}
 use Rattle.words.specs.Cases.{pick, both, both-true}
 use Rattle.laws.specs.Cases.{lt, ge, cmp, ltb-t, ltb-f, eqb-t, eqb-f, holds, fails, test, is-true, true-is}
 use Rattle.tables.specs.declared.Update.{Update}
@@ -25,13 +25,13 @@ use Rattle.decoded.specs.Shape.{Shaped}
 use Rattle.decoded.specs.Queue.Round.{along-at}
 use Rattle.decoded.specs.Decode.Read.{poolFrom, domainFrom, domainsFrom, updateFrom, queueFrom, stateOf}
 use Rattle.decoded.specs.Decode.Places.{along, items-are}
-use Rattle.decoded.specs.Settled.Tidy.{Tidy, UpdateTidy, place, behind}
+use Rattle.decoded.specs.Settled.Tidy.{QueueTidy, UpdateTidy, place, behind}
 use Rattle.decoded.specs.Settled.Ring.{along-back}
-use Rattle.decoded.specs.Settled.Sound.{sound-walked}
+use Rattle.decoded.specs.Settled.Sound.{queue-walked}
 use Rattle.sound_capas.specs.Claims.{claimsHold}
 use Rattle.sound_capas.specs.Places.{queuedB, clearB, handleAt, updateClaim, placeClaim, queueHolds}
 use Rattle.exact_capas.specs.Fits.{FitFrom, holds-out, out-holds}
-use Rattle.exact_capas.specs.Clauses.{Stored, Before, QueueClauses}
+use Rattle.exact_capas.specs.Clauses.{Stored, QueueClauses}
 use Rattle.exact_capas.specs.Reads.{Lives, lives, live-at, live-read}
 use Rattle.exact_capas.specs.Updates.{each-up, up-each, apart-singly, singly-apart, permission-read, cleanup-read, permission-is, names-is, is-names}
 
@@ -204,13 +204,12 @@ module _ (v : Tables) (s : Shaped v) where
       unfolding stateOf
       clauses = record {
         queue = subst (QueueSound (v .sizes .updates) (poolFrom D (v .domainPool)) (domainsFrom v)) (sym items) sound;
-        queued = λ k b q. fine-at k b q .tidy;
-        unqueued = clear-at;
+        tidy = record { queued = λ k b q. fine-at k b q .tidy; unqueued = clear-at };
       }
 
     -- ---- sound tables
 
-    module _ (t : Tidy v) (q : QueueSound (v .sizes .updates) (poolFrom D (v .domainPool)) (domainsFrom v) (record { first = v .read; items = map item (countUp 0 m) })) where
+    module _ (t : QueueTidy v) (q : QueueSound (v .sizes .updates) (poolFrom D (v .domainPool)) (domainsFrom v) (record { first = v .read; items = map item (countUp 0 m) })) where
       item-at : (k : ℕ) → k < n → item (behind v k) ≡ updateFrom (place v k)
       item-at k b = ap (λ x. updateFrom (place v x)) (along-back n (v .read) k hr b)
 
@@ -279,18 +278,18 @@ module _ (v : Tables) (s : Shaped v) where
 -- ---- both ways
 
 -- tables that pass the ring's test
-pub queue-holds : (v : Tables) → Before v → Stored v → queueHolds v ≡ true → QueueClauses v
+pub queue-holds : (v : Tables) → Shaped v → Stored v → queueHolds v ≡ true → QueueClauses v
 unfolding queueHolds
-queue-holds v k w h =
+queue-holds v s w h =
     let p = both-true (both (ltb (v .read) (v .sizes .updates + 1)) (ltb (v .write) (v .sizes .updates + 1))) (claimsHold (placeClaim v) (v .sizes .domains) (v .sizes .updates + 1) 0) h in
     let q = both-true (ltb (v .read) (v .sizes .updates + 1)) (ltb (v .write) (v .sizes .updates + 1)) (p .0) in
-    clauses v (k .shaped) (ltb-true _ _ (q .0)) (ltb-true _ _ (q .1)) w (holds-out (placeClaim v) (v .sizes .domains) (v .sizes .updates + 1) 0 (p .1) .0)
+    clauses v s (ltb-true _ _ (q .0)) (ltb-true _ _ (q .1)) w (holds-out (placeClaim v) (v .sizes .domains) (v .sizes .updates + 1) 0 (p .1) .0)
 
 -- sound tables pass it
-pub hold-queue : (v : Tables) → Shaped v → Tidy v → Sound (stateOf v) → queueHolds v ≡ true
+pub hold-queue : (v : Tables) → Shaped v → QueueTidy v → QueueSound (v .sizes .updates) (stateOf v .domainPool) (stateOf v .domains) (stateOf v .queue) → queueHolds v ≡ true
 unfolding queueHolds stateOf
 hold-queue v s t h =
-    let w = sound-walked v s t h in
-    let q = subst (QueueSound (v .sizes .updates) (poolFrom (v .sizes .domains) (v .domainPool)) (domainsFrom v)) (items v s (w .read) (w .write)) (h .queue) in
+    let w = queue-walked v h in
+    let q = subst (QueueSound (v .sizes .updates) (poolFrom (v .sizes .domains) (v .domainPool)) (domainsFrom v)) (items v s (w .read) (w .write)) h in
     rw (ltb-t (v .read) (v .sizes .updates + 1) (w .read), ltb-t (v .write) (v .sizes .updates + 1) (w .write))
     (out-holds (placeClaim v) (v .sizes .domains) (v .sizes .updates + 1) 0 (fit v s (w .read) (w .write) t q) (omega arith))

@@ -9,7 +9,8 @@ use Rattle.words.specs.Rows.{rows}
 use Rattle.words.specs.Cuts.{cuts}
 use Rattle.tables.specs.declared.Update.{Update}
 use Rattle.tables.specs.Tables.{Domain, noDomain, noUpdate}
-use Rattle.tables.specs.View.{sizesOf, updateOf, domainOf, stride, widths, ofParts, view}
+use Rattle.sizes.specs.Sizes.{sizesOf, stride, widths}
+use Rattle.tables.specs.View.{updateOf, domainOf, ofParts, view}
 use Rattle.exact_capas.specs.Clauses.{Stored}
 
 zero-word : Word 0

@@ -24,7 +24,7 @@ use Rattle.tables.specs.declared.Region.{Region}
 use Rattle.tables.specs.Tables.{Tables, Domain, noHead, noDomain, headAt}
 use Rattle.tables.specs.View.{view}
 use Rattle.arena.specs.Arena.{isFreeB}
-use Rattle.region.specs.Links.{firstLink}
+use Rattle.tracker_records.specs.Links.{firstLink}
 use Rattle.readings.specs.Readings as readings
 use Rattle.readings.specs.Readings.{recordsFrom, recordsOf}
 use Rattle.decoded.specs.Rows.{map-up-length, getD-up}
@@ -81,9 +81,9 @@ module _ (s : State) (sound : Sound s) (d : ℕ) where
     not-free : isFreeB (tablesOf s .domainPool) d ≡ false
     unfolding isFreeB poolOf tablesOf
     not-free =
-        let h : d < s .sizes .domains = omega (arith, in-below (s .domains) d x at, sound .domainsLength) in
+        let h : d < s .sizes .domains = omega (arith, in-below (s .domains) d x at, sound .outside .domainsLength) in
         ap (ltb 0) (getD-up (freeLink (s .domainPool .free)) (s .sizes .domains) d 0 h
-        ∙ link-out (s .domainPool .free) d (used-not-free (s .sizes .domains) (inUse (s .domains)) (s .domainPool .free) (sound .domainPool .once) d (ap (λ (o : Option state.Domain). oneIf (isSome o)) at)))
+        ∙ link-out (s .domainPool .free) d (used-not-free (s .sizes .domains) (inUse (s .domains)) (s .domainPool .free) (sound .outside .domainPool .once) d (ap (λ (o : Option state.Domain). oneIf (isSome o)) at)))
 
   -- ---- its records
 

@@ -1,30 +1,41 @@
 -- The clauses of `Tidy v` and of `Sound (stateOf v)` that the test of pools and slot lists settles. Document 01, **Sound**: "every pool or list slot
--- is in use or free once"; "each tracker record is on one list".
+-- is in use or free once"; "each tracker record is on one list". The test is in two parts, and so are the clauses: domains and regions; records.
 use mathlib.Core.Path.{_≡_}
 use Prim.Native.Nat.{ℕ, _<_}
-use mathlib.Core.Bool.{true, false}
+use mathlib.Core.Bool.{Bool, true, false}
 use mathlib.Core.Option.{none}
 use lib.ListN.{length}
 use Rattle.model.specs.Lists.{In}
 use Rattle.model.specs.State as state
 use Rattle.model.specs.Sound.{OnceEach, inUse, recordUses}
-use Rattle.tables.specs.Tables.{Tables, noRegion, noRecord}
+use Rattle.words.specs.Cases.{both}
+use Rattle.tables.specs.Tables.{Tables, noRegion}
 use Rattle.decoded.specs.Tables.{domainFor}
 use Rattle.decoded.specs.Decode.Read.{taken, stateOf}
-use Rattle.decoded.specs.Settled.Tidy.{PoolTidy, Marked, DomainTidy, domainRow, regionRow, recordRow}
+use Rattle.decoded.specs.Settled.Tidy.{PoolTidy, DomainTidy, TrackersTidy, domainRow, regionRow}
+use Rattle.sound_pools.specs.declared.links.Stack.the-variants.{Domains, Regions, Records}
+use Rattle.sound_pools.specs.Hold.{poolHolds, trackersHold}
+
+-- the pools of domains and regions, with their rows and the slot lists
+abbrev pub outsidePoolsHold : Tables → Bool
+outsidePoolsHold v = both (poolHolds v Domains) (poolHolds v Regions)
+
+-- the pool of records, with its rows, and the records in use along the trackers
+abbrev pub recordPoolHolds : Tables → Bool
+recordPoolHolds v = both (poolHolds v Records) (trackersHold v)
 
 pub record PoolsClauses (v : Tables) : Type 0 where
   -- the words
   pub domainPool : PoolTidy (v .sizes .domains) (v .domainPool)
   pub regionPool : PoolTidy (v .sizes .regions) (v .regionPool)
-  pub recordPool : PoolTidy (v .sizes .records) (v .recordPool)
-  pub recordMarks : Marked (v .sizes .records) (v .recordPool)
-  pub domainsUsed : (i : ℕ) → i < v .sizes .domains → taken (v .domainPool) i ≡ true → DomainTidy (v .sizes .slots) (v .sizes .records) (v .records) (domainRow v i)
+  pub domainsUsed : (i : ℕ) → i < v .sizes .domains → taken (v .domainPool) i ≡ true → DomainTidy (v .sizes .slots) (domainRow v i)
   pub domainsFree : (i : ℕ) → i < v .sizes .domains → taken (v .domainPool) i ≡ false → domainRow v i ≡ domainFor (v .sizes .slots) none
   pub regionsFree : (i : ℕ) → i < v .sizes .regions → taken (v .regionPool) i ≡ false → regionRow v i ≡ noRegion
-  pub recordsFree : (i : ℕ) → i < v .sizes .records → taken (v .recordPool) i ≡ false → recordRow v i ≡ noRecord
   -- the state that is read
   pub domainOnce : OnceEach (v .sizes .domains) (inUse (stateOf v .domains)) (stateOf v .domainPool .free)
   pub regionOnce : OnceEach (v .sizes .regions) (inUse (stateOf v .regions)) (stateOf v .regionPool .free)
-  pub recordOnce : OnceEach (v .sizes .records) (recordUses (stateOf v .domains)) (stateOf v .recordPool .free)
   pub lists : (d : ℕ) (x : state.Domain) → In (stateOf v .domains) d x → (length (x .locals .held) ≡ v .sizes .slots) × OnceEach (v .sizes .slots) (inUse (x .locals .held)) (x .locals .free)
+
+pub record RecordClauses (v : Tables) : Type 0 where
+  pub tidy : TrackersTidy v
+  pub recordOnce : OnceEach (v .sizes .records) (recordUses (stateOf v .domains)) (stateOf v .recordPool .free)

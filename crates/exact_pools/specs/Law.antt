@@ -1,4 +1,4 @@
--- Laws: the test of pools and slot lists holds exactly where its clauses do.
+-- Laws: each of the two parts of the test of pools and slot lists holds exactly where its clauses do.
 use mathlib.Core.Path.{_≡_, refl, sym, ap, subst, _∙_}
 use Prim.Native.Nat.{ℕ, _<_}
 use mathlib.Core.Bool.{Bool, true, false}
@@ -6,18 +6,18 @@ use native.Mathlib.Omega.{arith}
 use lib.ListN.{length, length-map}
 use Rattle.model.specs.Lists.{oneIf, In}
 use Rattle.model.specs.State as state
-use Rattle.model.specs.Sound.{Sound, OnceEach, inUse}
+use Rattle.model.specs.Sound.{OutsideSound, TrackersSound, OnceEach, inUse}
 use Rattle.laws.specs.Cases.{lt, ge, cmp, ltb-t, ltb-f, holds, fails, test}
 use Rattle.laws.specs.Stack.{once-at-most, none-beyond}
-use Rattle.words.specs.Cases.{both, both-true}
+use Rattle.words.specs.Cases.{both-true}
 use Rattle.tables.specs.Tables.{Tables}
 use Rattle.decoded.specs.Shape.{Shaped}
 use Rattle.decoded.specs.Decode.Read.{taken, freeFrom, heldIn, domainFrom, regionFrom, domainsFrom, regionsFrom, poolFrom, stateOf}
-use Rattle.decoded.specs.Settled.Tidy.{Tidy, DomainTidy, domainRow, regionRow, recordRow}
+use Rattle.decoded.specs.Settled.Tidy.{OutsideTidy, TrackersTidy, DomainTidy, domainRow, regionRow, recordRow}
 use Rattle.decoded.specs.Settled.Pools.{table-used, table-in}
 use Rattle.sound_pools.specs.declared.links.Stack.the-variants.{Domains, Regions, Records, Trackers}
-use Rattle.sound_pools.specs.Hold.{mayMeet, domainHolds, stackHolds, rowsHold, trackersHold, poolHolds, poolsHold}
-use Rattle.exact_pools.specs.Clauses.{PoolsClauses}
+use Rattle.sound_pools.specs.Hold.{mayMeet, domainHolds, stackHolds, rowsHold, trackersHold, poolHolds}
+use Rattle.exact_pools.specs.Clauses.{outsidePoolsHold, recordPoolHolds, PoolsClauses, RecordClauses}
 use Rattle.exact_pools.specs.Pools.{PoolGood, pool-good, good-pool, good-tidy, good-marked, good-beyond, good-used, good-free, good-once, once-good, marked-good, list-once, once-list}
 use Rattle.exact_pools.specs.Rows.{region-zero, zero-region, record-zero, zero-record}
 use Rattle.exact_pools.specs.Trackers.{uses, TrackersGood, trackers-good, good-trackers}
@@ -30,65 +30,41 @@ module _ (v : Tables) (s : Shaped v) where
   abbrev regionRead : ℕ → state.Region
   regionRead i = regionFrom (v .sizes .regions) (v .regions) (regionRow v i)
 
-  -- ---- the parts of the test
+  -- ---- domains and regions: the parts of the test
 
   record Parts : Type 0 where
     domains : PoolGood (v .sizes .domains) (v .domainPool)
     regions : PoolGood (v .sizes .regions) (v .regionPool)
-    records : PoolGood (v .sizes .records) (v .recordPool)
     domainRows : rowsHold v Domains ≡ true
     regionRows : rowsHold v Regions ≡ true
-    recordRows : rowsHold v Records ≡ true
-    trackers : TrackersGood v
 
-  parts : poolsHold v ≡ true → Parts
-  unfolding poolsHold poolHolds
+  parts : outsidePoolsHold v ≡ true → Parts
+  unfolding poolHolds
   parts h =
-      let a = both-true (both (poolHolds v Domains) (poolHolds v Regions)) (both (poolHolds v Records) (trackersHold v)) h in
-      let b = both-true (poolHolds v Domains) (poolHolds v Regions) (a .0) in
-      let c = both-true (poolHolds v Records) (trackersHold v) (a .1) in
+      let b = both-true (poolHolds v Domains) (poolHolds v Regions) h in
       let d = both-true (stackHolds v Domains) (rowsHold v Domains) (b .0) in
       let r = both-true (stackHolds v Regions) (rowsHold v Regions) (b .1) in
-      let t = both-true (stackHolds v Records) (rowsHold v Records) (c .0) in
       record {
         domains = pool-good (v .sizes .domains) (v .domainPool) (sym (domain-stack v) ∙ d .0);
         regions = pool-good (v .sizes .regions) (v .regionPool) (sym (region-stack v) ∙ r .0);
-        records = pool-good (v .sizes .records) (v .recordPool) (sym (record-stack v) ∙ t .0);
         domainRows = d .1;
         regionRows = r .1;
-        recordRows = t .1;
-        trackers = trackers-good v (c .1);
       }
 
-  whole : Parts → poolsHold v ≡ true
-  unfolding poolsHold poolHolds
+  whole : Parts → outsidePoolsHold v ≡ true
+  unfolding poolHolds
   whole p =
       let d = domain-stack v ∙ good-pool (v .sizes .domains) (v .domainPool) (omega (arith, s .limits .domains-low)) (p .domains) in
       let r = region-stack v ∙ good-pool (v .sizes .regions) (v .regionPool) (omega (arith, s .limits .regions-low)) (p .regions) in
-      let t = record-stack v ∙ good-pool (v .sizes .records) (v .recordPool) (omega (arith, s .limits .records-low)) (p .records) in
-      both-i (both (poolHolds v Domains) (poolHolds v Regions)) (both (poolHolds v Records) (trackersHold v))
-      (both-i (poolHolds v Domains) (poolHolds v Regions) (both-i (stackHolds v Domains) (rowsHold v Domains) d (p .domainRows)) (both-i (stackHolds v Regions) (rowsHold v Regions) r (p .regionRows)))
-      (both-i (poolHolds v Records) (trackersHold v) (both-i (stackHolds v Records) (rowsHold v Records) t (p .recordRows)) (good-trackers v (p .trackers)))
+      both-i (poolHolds v Domains) (poolHolds v Regions) (both-i (stackHolds v Domains) (rowsHold v Domains) d (p .domainRows)) (both-i (stackHolds v Regions) (rowsHold v Regions) r (p .regionRows))
 
   -- ---- test to clauses
 
   module _ (p : Parts) where
-    domains-used : (i : ℕ) → i < v .sizes .domains → taken (v .domainPool) i ≡ true → DomainTidy (v .sizes .slots) (v .sizes .records) (v .records) (domainRow v i)
+    domains-used : (i : ℕ) → i < v .sizes .domains → taken (v .domainPool) i ≡ true → DomainTidy (v .sizes .slots) (domainRow v i)
     domains-used i b t =
         let u = used-holds v s i b t (domains-hold v (p .domainRows) i b) in
-        record { fits = u .1 .fits; ends = u .1 .ends; slots = u .0; trackerEnds = p .trackers .ends i b t }
-
-    record-once : OnceEach (v .sizes .records) (uses v 0 (v .sizes .domains)) (freeFrom (v .sizes .records) (v .recordPool))
-    record-once i =
-        let n = v .sizes .records in
-        let a = v .recordPool in
-        elim (cmp i n) [
-          | lt b ↦ elim (test (taken a i)) [
-            | holds t ↦ omega (arith, p .trackers .once i, ap oneIf (record-used v i b ∙ t), good-used n a (p .records) i b t, ap oneIf (ltb-t i n b))
-            | fails t ↦ omega (arith, p .trackers .once i, ap oneIf (record-used v i b ∙ t), good-free n a (p .records) i b t, ap oneIf (ltb-t i n b))
-          ]
-          | ge b ↦ omega (arith, p .trackers .once i, ap oneIf (no-record v i b), good-beyond n a (p .records) i b, ap oneIf (ltb-f i n b))
-        ]
+        record { fits = u .1 .fits; ends = u .1 .ends; slots = u .0 }
 
     abbrev ListClause : state.Domain → Type 0
     ListClause x = (length (x .locals .held) ≡ v .sizes .slots) × OnceEach (v .sizes .slots) (inUse (x .locals .held)) (x .locals .free)
@@ -103,23 +79,19 @@ module _ (v : Tables) (s : Shaped v) where
     all-lists d x e = let y = table-in (v .sizes .domains) (v .domainPool) domainRead d x e in subst ListClause (y .2) (list-at d (y .0) (y .1))
 
     clauses : PoolsClauses v
-    unfolding stateOf domainsFrom regionsFrom poolFrom uses
+    unfolding stateOf domainsFrom regionsFrom poolFrom
     clauses = record {
       domainPool = good-tidy (v .sizes .domains) (v .domainPool) (p .domains);
       regionPool = good-tidy (v .sizes .regions) (v .regionPool) (p .regions);
-      recordPool = good-tidy (v .sizes .records) (v .recordPool) (p .records);
-      recordMarks = good-marked (v .sizes .records) (v .recordPool) (p .records);
       domainsUsed = domains-used;
       domainsFree = λ i b t. free-holds v s i b t (domains-hold v (p .domainRows) i b);
       regionsFree = λ i b t. region-zero (regionRow v i) (regions-hold v (p .regionRows) i b t);
-      recordsFree = λ i b t. record-zero (recordRow v i) (records-hold v (p .recordRows) i b t);
       domainOnce = good-once (v .sizes .domains) (v .domainPool) (p .domains) domainRead;
       regionOnce = good-once (v .sizes .regions) (v .regionPool) (p .regions) regionRead;
-      recordOnce = record-once;
       lists = all-lists;
     }
 
-  pub pools-hold : poolsHold v ≡ true → PoolsClauses v
+  pub pools-hold : outsidePoolsHold v ≡ true → PoolsClauses v
   pools-hold h = clauses (parts h)
 
   -- ---- clauses to test
@@ -133,13 +105,85 @@ module _ (v : Tables) (s : Shaped v) where
     unfolding stateOf poolFrom regionsFrom
     regions-good = once-good (v .sizes .regions) (v .regionPool) regionRead (c .regionPool) (c .regionOnce)
 
+    row-good : (d : ℕ) (b : d < v .sizes .domains) → taken (v .domainPool) d ≡ true → RowGood v s d b
+    unfolding stateOf domainsFrom
+    row-good d b y =
+        let l = c .lists d (domainRead d) (table-used (v .sizes .domains) (v .domainPool) domainRead d b y) in
+        let u = c .domainsUsed d b y in
+        record { fits = u .fits; ends = u .ends; once = once-list (v .sizes .slots) (domainRow v d) (slots-many v s d b) (l .1) }
+
+    domain-at : (d : ℕ) → d < v .sizes .domains → (q : Bool) → taken (v .domainPool) d ≡ q → domainHolds v d ≡ true
+    domain-at d b true y = holds-used v s d b y (c .domainsUsed d b y .slots) (row-good d b y)
+    domain-at d b false y = holds-free v s d b y (c .domainsFree d b y)
+
+    pub clauses-hold : outsidePoolsHold v ≡ true
+    clauses-hold = whole (record {
+      domains = domains-good;
+      regions = regions-good;
+      domainRows = hold-domains v (λ d b. domain-at d b (taken (v .domainPool) d) refl);
+      regionRows = hold-regions v (λ i b y. zero-region (regionRow v i) (c .regionsFree i b y));
+    })
+
+  -- ---- records
+
+  record RecordParts : Type 0 where
+    records : PoolGood (v .sizes .records) (v .recordPool)
+    recordRows : rowsHold v Records ≡ true
+    trackers : TrackersGood v
+
+  record-parts : recordPoolHolds v ≡ true → RecordParts
+  unfolding poolHolds
+  record-parts h =
+      let c = both-true (poolHolds v Records) (trackersHold v) h in
+      let t = both-true (stackHolds v Records) (rowsHold v Records) (c .0) in
+      record {
+        records = pool-good (v .sizes .records) (v .recordPool) (sym (record-stack v) ∙ t .0);
+        recordRows = t .1;
+        trackers = trackers-good v (c .1);
+      }
+
+  record-whole : RecordParts → recordPoolHolds v ≡ true
+  unfolding poolHolds
+  record-whole p =
+      let t = record-stack v ∙ good-pool (v .sizes .records) (v .recordPool) (omega (arith, s .limits .records-low)) (p .records) in
+      both-i (poolHolds v Records) (trackersHold v) (both-i (stackHolds v Records) (rowsHold v Records) t (p .recordRows)) (good-trackers v (p .trackers))
+
+  module _ (p : RecordParts) where
+    record-once : OnceEach (v .sizes .records) (uses v 0 (v .sizes .domains)) (freeFrom (v .sizes .records) (v .recordPool))
+    record-once i =
+        let n = v .sizes .records in
+        let a = v .recordPool in
+        elim (cmp i n) [
+          | lt b ↦ elim (test (taken a i)) [
+            | holds t ↦ omega (arith, p .trackers .once i, ap oneIf (record-used v i b ∙ t), good-used n a (p .records) i b t, ap oneIf (ltb-t i n b))
+            | fails t ↦ omega (arith, p .trackers .once i, ap oneIf (record-used v i b ∙ t), good-free n a (p .records) i b t, ap oneIf (ltb-t i n b))
+          ]
+          | ge b ↦ omega (arith, p .trackers .once i, ap oneIf (no-record v i b), good-beyond n a (p .records) i b, ap oneIf (ltb-f i n b))
+        ]
+
+    record-clauses : RecordClauses v
+    unfolding stateOf domainsFrom poolFrom uses
+    record-clauses = record {
+      tidy = record {
+        recordPool = good-tidy (v .sizes .records) (v .recordPool) (p .records);
+        recordMarks = good-marked (v .sizes .records) (v .recordPool) (p .records);
+        trackersEnd = p .trackers .ends;
+        recordsFree = λ i b t. record-zero (recordRow v i) (records-hold v (p .recordRows) i b t);
+      };
+      recordOnce = record-once;
+    }
+
+  pub record-pool-holds : recordPoolHolds v ≡ true → RecordClauses v
+  record-pool-holds h = record-clauses (record-parts h)
+
+  module _ (c : RecordClauses v) where
     once-records : OnceEach (v .sizes .records) (uses v 0 (v .sizes .domains)) (freeFrom (v .sizes .records) (v .recordPool))
     unfolding stateOf poolFrom domainsFrom uses
     once-records = c .recordOnce
 
     records-good : PoolGood (v .sizes .records) (v .recordPool)
     records-good =
-        marked-good (v .sizes .records) (v .recordPool) (c .recordPool) (c .recordMarks)
+        marked-good (v .sizes .records) (v .recordPool) (c .tidy .recordPool) (c .tidy .recordMarks)
         (λ i. omega (arith, once-at-most (v .sizes .records) (uses v 0 (v .sizes .domains)) (freeFrom (v .sizes .records) (v .recordPool)) once-records i))
         (λ i b. omega (arith, none-beyond (v .sizes .records) (uses v 0 (v .sizes .domains)) (freeFrom (v .sizes .records) (v .recordPool)) once-records i b))
 
@@ -155,46 +199,28 @@ module _ (v : Tables) (s : Shaped v) where
           | ge b ↦ omega (arith, once-records i, ap oneIf (no-record v i b), ap oneIf (ltb-f i n b))
         ]
 
-    row-good : (d : ℕ) (b : d < v .sizes .domains) → taken (v .domainPool) d ≡ true → RowGood v s d b
-    unfolding stateOf domainsFrom
-    row-good d b y =
-        let l = c .lists d (domainRead d) (table-used (v .sizes .domains) (v .domainPool) domainRead d b y) in
-        let u = c .domainsUsed d b y in
-        record { fits = u .fits; ends = u .ends; once = once-list (v .sizes .slots) (domainRow v d) (slots-many v s d b) (l .1) }
-
-    domain-at : (d : ℕ) → d < v .sizes .domains → (q : Bool) → taken (v .domainPool) d ≡ q → domainHolds v d ≡ true
-    domain-at d b true y = holds-used v s d b y (c .domainsUsed d b y .slots) (row-good d b y)
-    domain-at d b false y = holds-free v s d b y (c .domainsFree d b y)
-
-    pub clauses-hold : poolsHold v ≡ true
-    clauses-hold = whole (record {
-      domains = domains-good;
-      regions = regions-good;
+    pub record-clauses-hold : recordPoolHolds v ≡ true
+    record-clauses-hold = record-whole (record {
       records = records-good;
-      domainRows = hold-domains v (λ d b. domain-at d b (taken (v .domainPool) d) refl);
-      regionRows = hold-regions v (λ i b y. zero-region (regionRow v i) (c .regionsFree i b y));
-      recordRows = hold-records v (λ i b y. zero-record (recordRow v i) (c .recordsFree i b y));
-      trackers = record { once = trackers-once; ends = λ d b y. c .domainsUsed d b y .trackerEnds };
+      recordRows = hold-records v (λ i b y. zero-record (recordRow v i) (c .tidy .recordsFree i b y));
+      trackers = record { once = trackers-once; ends = c .tidy .trackersEnd };
     })
 
 -- ---- the clauses are some of those of sound tables
 
-pub pools-clauses : (v : Tables) → Tidy v → Sound (stateOf v) → PoolsClauses v
+pub hold-pools : (v : Tables) → Shaped v → OutsideTidy v → OutsideSound (stateOf v) → outsidePoolsHold v ≡ true
 unfolding stateOf
-pools-clauses v t h = record {
+hold-pools v s t h = clauses-hold v s (record {
   domainPool = t .domainPool;
   regionPool = t .regionPool;
-  recordPool = t .recordPool;
-  recordMarks = t .recordMarks;
   domainsUsed = t .domainsUsed;
   domainsFree = t .domainsFree;
   regionsFree = t .regionsFree;
-  recordsFree = t .recordsFree;
   domainOnce = h .domainPool .once;
   regionOnce = h .regionPool .once;
-  recordOnce = h .recordPool .once;
   lists = λ d x e. let l = h .lists d x e in (l .heldLength, l .once);
-}
+})
 
-pub hold-pools : (v : Tables) → Shaped v → Tidy v → Sound (stateOf v) → poolsHold v ≡ true
-hold-pools v s t h = clauses-hold v s (pools-clauses v t h)
+pub hold-record-pool : (v : Tables) → Shaped v → TrackersTidy v → TrackersSound (stateOf v) → recordPoolHolds v ≡ true
+unfolding stateOf
+hold-record-pool v s t h = record-clauses-hold v s (record { tidy = t; recordOnce = h .recordPool .once })

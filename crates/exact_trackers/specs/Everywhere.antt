@@ -2,13 +2,12 @@
 -- the last such point that is not above an address speaks for it.
 use mathlib.Core.Path.{_≡_, refl, subst, _∙_}
 use Prim.Native.Nat.{ℕ, _≤_, _<_, max}
-use mathlib.Core.Bool.{true}
 use mathlib.Core.Option.{Option}
 use mathlib.Core.List.{List, [], _∷_, _++_, map}
 use native.Mathlib.Omega.{arith}
 use Rattle.model.specs.Lists.{Each}
-use Rattle.rights.specs.Rights.{has, READ, WRITE, EXEC, SUPER}
 use Rattle.model.specs.State.{Counts, Region, Record}
+use Rattle.model.specs.Fields.{passes}
 use Rattle.model.specs.Counts.{countsAt, Agree}
 use Rattle.laws.specs.Cases.{lt, ge, cmp}
 use Rattle.laws.specs.Test.Floor.{leb-t, leb-f, floor, floor-le, Free, floor-free}
@@ -54,15 +53,7 @@ counts-same f a (q ∷ l) h s e = rw (holds-same f a (q .start) (q .end) h (s .0
 
 module _ (rs : List (Option Region)) (d : ℕ) where
   agree-moves : (ps : List ℕ) → Suffice rs d ps → (f a : ℕ) → f ≤ a → Free f a ps → (k : Counts) → Agree rs d f k → Agree rs d a k
-  agree-moves ps s f a h r k g =
-      let same = s f a h r in
-      record {
-        reach = g .reach ∙ same (λ r. true);
-        read = g .read ∙ same (λ r. has r READ);
-        write = g .write ∙ same (λ r. has r WRITE);
-        exec = g .exec ∙ same (λ r. has r EXEC);
-        super = g .super ∙ same (λ r. has r SUPER);
-      }
+  agree-moves ps s f a h r k g c = g c ∙ s f a h r (passes c)
 
   pub everywhere : (m : List Record) (ps : List ℕ) → Suffice rs d ps → Holds (Agree rs d) m 0 → Each (Holds (Agree rs d) m) ps → Each (Ends (Agree rs d) m) m → (a : ℕ) → Holds (Agree rs d) m a
   everywhere m ps s z h e a =

@@ -9,13 +9,12 @@ use lib.ListN.{getD}
 use Rattle.model.specs.Lists.{Each, In}
 use Rattle.model.specs.State as state
 use Rattle.model.specs.State.{Record}
-use Rattle.model.specs.Counts.{countsAt, Agree}
-use Rattle.model.specs.Sound.{Sound, RegionSound, OwnerSound, TrackerSound}
+use Rattle.model.specs.Fields.{Field}
+use Rattle.model.specs.Counts.{countsAt, Agree, regionCount}
+use Rattle.model.specs.Sound.{TrackersSound, RegionSound, OwnerSound, TrackerSound}
 use Rattle.laws.specs.Cases.{holds, fails, test}
 use Rattle.laws.specs.CountsLaw.{counts-law}
 use Rattle.laws.specs.Test.Points.{pointsOf, points-suffice}
-use Rattle.laws.specs.Tracker.Fields.{Field}
-use Rattle.laws.specs.Tree.Shares.{tallyOf}
 use Rattle.words.specs.Cases.{pick}
 use Rattle.tables.specs.declared.Region.{Region}
 use Rattle.tables.specs.Tables.{Tables, noDomain, headAt, recordAt}
@@ -24,7 +23,7 @@ use Rattle.decoded.specs.Shape.{Shaped}
 use Rattle.decoded.specs.Decode.Read.{taken, domainFrom, domainsFrom, regionsFrom, stateOf}
 use Rattle.decoded.specs.Settled.Ends.{chainEnd}
 use Rattle.decoded.specs.Settled.Pools.{table-in, table-used, taken-link, free-link}
-use Rattle.decoded.specs.Settled.Tidy.{Tidy, domainRow, recordRow}
+use Rattle.decoded.specs.Settled.Tidy.{domainRow, recordRow}
 use Rattle.sound_trackers.specs.Tally.{agreesB, tally}
 use Rattle.sound_trackers.specs.Trackers.{records, recordsB, pointB, edgesB, domainB, trackersHold}
 use Rattle.exact_trackers.specs.Tests.{chain-is, pick-both, pick-true, every-below, below-every}
@@ -72,7 +71,7 @@ module _ (v : Tables) (shaped : Shaped v)
   abbrev P : ℕ → state.Counts → Type 0
   P = Agree (regionsFrom v) d
 
-  tallied : (f : Field) (a : ℕ) → getS f (tally v d a) ≡ tallyOf f (regionsFrom v) d a
+  tallied : (f : Field) (a : ℕ) → getS f (tally v d a) ≡ regionCount f (regionsFrom v) d a
   tallied f a = tally-regions v shaped sound f a owners d x at
 
   so : (a : ℕ) (q : Region) → agreesB (tally v d a) q ≡ true → P a (countsFrom q)
@@ -109,7 +108,7 @@ module _ (v : Tables) (shaped : Shaped v)
         reached = good-reached P m g;
         counted = all-counted P m (good-rising P m g) h;
         uncacheable = good-uncacheable P m g;
-        covered = λ a k. reach-any a m (omega (arith, h a .reach));
+        covered = λ a k. reach-any a m (omega (arith, h a Field.Reach));
       }
 
   pub tracker-sound : domainB v d ≡ true → TrackerSound (regionsFrom v) d (x .tracker)
@@ -153,12 +152,12 @@ used-domain : (v : Tables) (d : ℕ) → d < v .sizes .domains → taken (v .dom
 unfolding domainsFrom
 used-domain v d h e = table-used (v .sizes .domains) (v .domainPool) (λ i. domainFrom (v .sizes .slots) (v .sizes .records) (v .records) (getD (v .domains) i noDomain)) d h e
 
-pub hold-trackers : (v : Tables) → Shaped v → Tidy v → Sound (stateOf v) → trackersHold v ≡ true
+pub hold-trackers : (v : Tables) → Before v → TrackersSound (stateOf v) → trackersHold v ≡ true
 unfolding stateOf trackersHold
-hold-trackers v shaped tidy s = below-every (λ d. domainB v d) (v .sizes .domains) (λ d h. elim (test (taken (v .domainPool) d)) [
+hold-trackers v b s = below-every (λ d. domainB v d) (v .sizes .domains) (λ d h. elim (test (taken (v .domainPool) d)) [
   | holds e ↦
       let x = domainFrom (v .sizes .slots) (v .sizes .records) (v .records) (domainRow v d) in
       let at = used-domain v d h e in
-      sound-domain v shaped (λ d h e. tidy .domainsUsed d h e .trackerEnds) (s .regions) (s .owners) d x at (s .trackers d x at) (counts-law (stateOf v) s d x at)
+      sound-domain v (b .shaped) (b .trackersEnd) (b .regions) (b .owners) d x at (s .trackers d x at) (counts-law (stateOf v) s d x at)
   | fails e ↦ free-domain v d e
 ])

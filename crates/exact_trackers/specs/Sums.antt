@@ -6,7 +6,7 @@ use native.Mathlib.Omega.{arith}
 use native.Mathlib.Nat.{add-mul, zero-mul, one-mul}
 use Rattle.rights.specs.Rights as rights
 use Rattle.model.specs.Lists.{if_then_else_, oneIf}
-use Rattle.laws.specs.Tracker.Fields.{Field, counter}
+use Rattle.model.specs.Fields.{Field, counter}
 use Rattle.laws.specs.Tree.Sum.{sum}
 use Rattle.tables.specs.Tables.{Tables, slotAt}
 use Rattle.sound_trackers.specs.declared.Sums.{Sums}
@@ -31,19 +31,22 @@ getS Field.Write s = s .«write_count»
 getS Field.Exec s = s .«exec_count»
 getS Field.Super s = s .«super_count»
 
+-- sums with n f in each field f
+abbrev eachS : (Field → ℕ) → Sums
+eachS n = record { «ref_count» = n Field.Reach; «read_count» = n Field.Read; «write_count» = n Field.Write; «exec_count» = n Field.Exec; «super_count» = n Field.Super }
+
+get-each : (f : Field) (n : Field → ℕ) → getS f (eachS n) ≡ n f
+get-each Field.Reach n = refl
+get-each Field.Read n = refl
+get-each Field.Write n = refl
+get-each Field.Exec n = refl
+get-each Field.Super n = refl
+
 pub get-none : (f : Field) → getS f noSums ≡ 0
-get-none Field.Reach = refl
-get-none Field.Read = refl
-get-none Field.Write = refl
-get-none Field.Exec = refl
-get-none Field.Super = refl
+get-none f = get-each f (λ g. 0)
 
 get-plus : (f : Field) (s k : Sums) → getS f (plus s k) ≡ getS f s + getS f k
-get-plus Field.Reach s k = refl
-get-plus Field.Read s k = refl
-get-plus Field.Write s k = refl
-get-plus Field.Exec s k = refl
-get-plus Field.Super s k = refl
+get-plus f s k = get-each f (λ g. getS g s + getS g k)
 
 count-one : (b : Bool) → rights.count b ≡ oneIf b
 count-one true = refl

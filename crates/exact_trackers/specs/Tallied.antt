@@ -11,13 +11,14 @@ use native.Mathlib.Decide.{ℕ-discrete}
 use lib.Dec.{eqb}
 use lib.ListN.{length, getD}
 use Rattle.model.specs.Lists.{if_then_else_, oneIf, slotOf, In}
+use Rattle.model.specs.Fields.{Field, counter}
 use Rattle.model.specs.State as state
 use Rattle.model.specs.Pool.{handleOf}
+use Rattle.model.specs.Counts.{regionCount}
 use Rattle.model.specs.Sound.{RegionSound, OwnerSound}
 use Rattle.laws.specs.Cases.{lt, ge, cmp, eqb-t, eqb-f, within, within-lo, within-in, within-hi, within-same, below, inside, above, pos, holds, fails, test}
-use Rattle.laws.specs.Tracker.Fields.{Field, counter}
 use Rattle.laws.specs.Tree.Sum.{sum, sum-same, sum-zero, sum-at, sum-swap}
-use Rattle.laws.specs.Tree.Shares.{clear, clear-zero, carved, weight, tallyOf, tally-is}
+use Rattle.laws.specs.Tree.Shares.{clear, clear-zero, carved, weight, tally-is}
 use Rattle.words.specs.Cases.{pick, both}
 use Rattle.tables.specs.declared.Slot.{Slot}
 use Rattle.tables.specs.declared.RegionCapa.{RegionCapa}
@@ -140,7 +141,7 @@ module _ (v : Tables) (shaped : Shaped v) (sound : (i : ℕ) (g : state.Region) 
         ∙ rw e (times (eqb (g .owner) d) (g .owner) (g .start) (g .end) (counter f (g .rights)) (carved (regionsFrom v) i a) refl)
 
     -- both sums
-    pub tally-regions : getS f (tally v d a) ≡ tallyOf f (regionsFrom v) d a
+    pub tally-regions : getS f (tally v d a) ≡ regionCount f (regionsFrom v) d a
     unfolding tally
     tally-regions =
         tally-sum f v d a (v .sizes .slots)

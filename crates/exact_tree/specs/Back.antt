@@ -10,7 +10,7 @@ use lib.Dec.{T, eqb}
 use Rattle.model.specs.Lists.{count}
 use Rattle.model.specs.State as state
 use Rattle.model.specs.State.{parentOf}
-use Rattle.model.specs.Sound.{RegionSound, Ordered, Sound}
+use Rattle.model.specs.Sound.{RegionSound, Ordered, OutsideSound}
 use Rattle.laws.specs.Cases.{lt, ge, cmp, ltb-t, ltb-f, is-true}
 use Rattle.laws.specs.SoundTest.{rooted}
 use Rattle.laws.specs.Test.Paths.{ok-rooted}
@@ -23,8 +23,8 @@ use Rattle.tables.specs.Tables.{Tables}
 use Rattle.decoded.specs.Shape.{Shaped}
 use Rattle.decoded.specs.Decode.Read.{kindFrom, regionsFrom, stateOf}
 use Rattle.decoded.specs.Decode.Regions.{child-once, member}
-use Rattle.decoded.specs.Settled.Tidy.{Tidy, Walked, regionRow}
-use Rattle.decoded.specs.Settled.Sound.{parent-is, sound-walked}
+use Rattle.decoded.specs.Settled.Tidy.{OutsideTidy, OutsideWalked, regionRow}
+use Rattle.decoded.specs.Settled.Sound.{parent-is, outside-walked}
 use Rattle.sound_tree.specs.Tree.{noRun, floorOf, isChild, climbFrom}
 use Rattle.exact_tree.specs.Walks.{Behind, Sorted, pairs-fit, pairs-of}
 use Rattle.exact_tree.specs.Lists.{kids, many, Listed, uses, many-uses, tells, one-t, one-f}
@@ -44,7 +44,7 @@ floor-none r = same (eqb (r .kind) 3)
 first : (a b c d : ℕ) → a ≤ c → c < d → (c < b → d ≤ a) → b ≤ c
 first a b c d o n f = elim (cmp c b) [ lt u ↦ absurd (omega (arith, f u)) | ge u ↦ u ]
 
-module _ (v : Tables) (s : Shaped v) (t : Tidy v) (h : Sound (stateOf v)) where
+module _ (v : Tables) (s : Shaped v) (t : OutsideTidy v) (h : OutsideSound (stateOf v)) where
   abbrev row : ℕ → RegionCapa
   row = regionRow v
 
@@ -61,8 +61,8 @@ module _ (v : Tables) (s : Shaped v) (t : Tidy v) (h : Sound (stateOf v)) where
   at : (i : ℕ) → Used v i → RegionSound rs i (regionRead v i)
   at i u = sound i (regionRead v i) (read-in v i u)
 
-  walks : Walked v
-  walks = sound-walked v s t h
+  walks : OutsideWalked v
+  walks = outside-walked v s h
 
   pools : PoolClauses v
   pools = record { regionsFree = t .regionsFree }

@@ -11,16 +11,16 @@ use lib.ListN.{getD, replicate}
 use Rattle.model.specs.Lists.{In, slotOf}
 use Rattle.model.specs.State as state
 use Rattle.model.specs.State.{parentOf}
-use Rattle.model.specs.Sound.{Rooted, RegionSound, Sound}
+use Rattle.model.specs.Sound.{Rooted, RegionSound, OutsideSound}
 use Rattle.laws.specs.Tree.Sum.{sum}
 use Rattle.laws.specs.Tree.Slots.{none-some, some-same}
 use Rattle.words.specs.Cases.{both-true}
 use Rattle.tables.specs.declared.RegionCapa.{RegionCapa}
 use Rattle.tables.specs.Tables.{Tables, regionAt}
-use Rattle.tables.specs.View.{total}
+use Rattle.sizes.specs.Sizes.{total}
 use Rattle.decoded.specs.Shape.{Shaped}
 use Rattle.decoded.specs.Decode.Read.{kindFrom, taken, regionsFrom, stateOf}
-use Rattle.decoded.specs.Settled.Tidy.{Tidy, RegionTidy, regionRow}
+use Rattle.decoded.specs.Settled.Tidy.{OutsideTidy, RegionTidy, regionRow}
 use Rattle.decoded.specs.Settled.Sound.{parent-is}
 use Rattle.sound_tree.specs.Tree.{oneIf, tallyFrom, isChild, childCount, rowsHold, listsHold, rootsHold, treeHolds}
 use Rattle.sound_tree.specs.Turns.{one-few}
@@ -108,7 +108,7 @@ module _ (v : Tables) (s : Shaped v) (pools : PoolClauses v) (t : treeHolds v �
     regions = λ i g m. let r = in-read v i g m in subst (RegionSound rs i) (r .1) (region-sound v s pools rows below all words lead i (r .0));
   }
 
-module _ (v : Tables) (s : Shaped v) (t : Tidy v) (h : Sound (stateOf v)) where
+module _ (v : Tables) (s : Shaped v) (t : OutsideTidy v) (h : OutsideSound (stateOf v)) where
   lists-hold : listsHold v ≡ true
   unfolding listsHold regionAt
   lists-hold = facts-lists (regionRow v) (v .sizes .regions) (v .sizes .regions) 0 (childCount (regionRow v) (v .sizes .regions)) (λ j b. listed v s t h j) (omega (arith, child-sum (regionRow v) (v .sizes .regions), members v s t h)) (omega arith)

@@ -7,7 +7,7 @@ use native.Mathlib.Omega.{arith}
 use lib.ListN.{length, getD}
 use Rattle.model.specs.Lists.{Each}
 use Rattle.model.specs.State.{Word}
-use Rattle.model.specs.Sound.{Sound}
+use Rattle.model.specs.Sound.{OutsideSound}
 use Rattle.laws.specs.Cases.{lt, ge, cmp}
 use Rattle.words.specs.Runs.{part-at, fetched, fetched-in, fetched-out}
 use Rattle.tables.specs.declared.RegionCapa.{RegionCapa}
@@ -15,7 +15,7 @@ use Rattle.tables.specs.Tables.{regionAt}
 use Rattle.tables.specs.View.{view, Sized}
 use Rattle.tables.specs.Accessors.{regionPlace, region-loaded}
 use Rattle.decoded.specs.Decode.Read.{stateOf}
-use Rattle.decoded.specs.Settled.Tidy.{Tidy}
+use Rattle.decoded.specs.Settled.Tidy.{OutsideTidy}
 use Rattle.decoded.specs.Settled.Words.{view-shaped}
 use Rattle.sound_tree.specs.Tree.{treeHolds}
 use Rattle.exact_tree.specs.Rows.{PoolClauses, RegionWords}
@@ -48,5 +48,5 @@ region-words t s h i =
 pub words-tree : (t : List ℕ) → Sized t → Each Word t → PoolClauses (view t) → treeHolds (view t) ≡ true → TreeClauses (view t)
 words-tree t s h p e = tree-holds (view t) (view-shaped t s) p e (region-words t s h)
 
-pub tree-words : (t : List ℕ) → Sized t → Tidy (view t) → Sound (stateOf (view t)) → treeHolds (view t) ≡ true
+pub tree-words : (t : List ℕ) → Sized t → OutsideTidy (view t) → OutsideSound (stateOf (view t)) → treeHolds (view t) ≡ true
 tree-words t s d h = holds-tree (view t) (view-shaped t s) d h

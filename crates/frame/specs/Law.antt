@@ -1,36 +1,36 @@
 -- The exported calls do what the model's `After` says. Lent memory that is not admitted is not that of a sound state; where it is admitted, the tables
--- are the words of one sound state, on which the code's step does what the model's call does (`call-refines`).
+-- are the words of one sound state, on which the code's step does what the model's step does (`call-refines`).
 use mathlib.Core.Path.{_≡_, refl, sym, ap, subst, _∙_}
-use mathlib.Core.Logic.{_≢_}
 use Prim.Native.Nat.{ℕ}
 use mathlib.Core.Bool.{Bool, true, false}
 use mathlib.Core.Option.{none, some}
 use mathlib.Core.List.{List}
 use lib.Dec.{eqb}
-use lib.ListN.{length, getD, replicate}
+use lib.ListN.{length, replicate}
 use borrow.Author.Tests.{eq-eqb, eqb-true}
 use Rattle.model.specs.Lists.{Each}
 use Rattle.model.specs.Outcome as outcome
 use Rattle.model.specs.Outcome.{Outcome, ok, refuse, _>>=_}
-use Rattle.model.specs.State.{State, Sizes, Word}
-use Rattle.model.specs.Perform.{Call, Reply, Answer, perform, step, values, after as outcome-after}
-use Rattle.model.specs.CallWords.{CallWords}
+use Rattle.model.specs.State.{State, Word}
+use Rattle.model.specs.Perform as model
+use Rattle.model.specs.Perform.{Call, Reply, Answer, performStep, perform, step, after as outcome-after}
+use Rattle.model.specs.CallWords.{StepWords}
 use Rattle.model.specs.Sound.{Sound}
 use Rattle.model.specs.Layout.{words}
-use Rattle.model.specs.Memory.{Lent, After, zeroed}
-use Rattle.laws.specs.Accepted.{All, accepted, bind-any, all-ok}
+use Rattle.model.specs.Memory.{Lent, NotMake, Settled, After, zeroed}
 use Rattle.laws.specs.Cases.{holds, fails, test, true-is, false-is}
 use Rattle.words.specs.Cases.{both-true}
 use Rattle.tables.specs.Tables.{Tables}
 use Rattle.tables.specs.View.{view, Sized, Left}
-use Rattle.tables.specs.Tests.{sizedB, sized-true}
+use Rattle.sizes.specs.Tests.{sizedB}
+use Rattle.tables.specs.Tests.{sized-true}
 use Rattle.answers.specs.declared.Answer as code
 use Rattle.answers.specs.declared.Answer.the-variants.{Done, Refused}
 use Rattle.answers.specs.Answers.{Step}
 use Rattle.decoded.specs.Tables.{tablesOf}
 use Rattle.decoded.specs.Words.{words-held, held-words}
 use Rattle.refine.specs.Agrees.{Agrees, refusalFor, same-number}
-use Rattle.refine.specs.Calls.Performs.{Stepped, stepFor, slotFrom, call-refines}
+use Rattle.refine.specs.Calls.Performs.{stepFor, slotFrom, call-refines}
 use Rattle.sound.specs.Test.{isSound}
 use Rattle.exact.specs.Law.{sound-words, words-sound}
 use Rattle.frame.specs.declared.replies.Reply as replies
@@ -45,7 +45,7 @@ module _ (t w : List ℕ) where
   lent-admitted s l = rw (eq-eqb (length w) (length t) (l .work)) (words-sound t (s, l .sound, l .tables))
 
   -- "1 Memory, either length wrong or tables not sound"
-  pub not-admitted : (c : Call) → ((z : Sizes) → c ≢ Call.Make z) → admitted t w ≡ false → After t w c (Answer.no outcome.memory) t (zeroed w)
+  pub not-admitted : (c : Call) → NotMake c → admitted t w ≡ false → After t w c (Answer.no outcome.memory) t (zeroed w)
   not-admitted c n e = After.notSound c n (λ s l. false-is e (true-is (lent-admitted s l)))
 
   parts : admitted t w ≡ true → (length w ≡ length t) × (isSound t ≡ true)
@@ -60,71 +60,46 @@ module _ (t w : List ℕ) where
 
 -- ---- a call that the code runs as a step
 
--- the number that a step answers is the reply's value
-value-is : (c : Call) → Stepped c → (s : State) → All (λ y. slotFrom (y .0) ≡ getD (values (y .0)) 0 0) (perform s c)
-unfolding perform
-value-is (Call.Make z) q s = absurd q
-value-is (Call.Open m cores) q s = bind-any _ (λ y. accepted refl)
-value-is (Call.Channel h to) q s = bind-any _ (λ y. accepted refl)
-value-is (Call.SetCores h cores) q s = bind-any _ (λ y. accepted refl)
-value-is (Call.Root h a) q s = bind-any _ (λ y. accepted refl)
-value-is (Call.Alias h l a) q s = bind-any _ (λ y. accepted refl)
-value-is (Call.Carve h l a) q s = bind-any _ (λ y. accepted refl)
-value-is (Call.Send h l target) q s = bind-any _ (λ y. accepted refl)
-value-is (Call.Revoke h l) q s = bind-any _ (λ y. accepted refl)
-value-is (Call.MakeRevoke h l) q s = bind-any _ (λ y. accepted refl)
-value-is Call.Pop q s = absurd q
-value-is (Call.Permissions h) q s = absurd q
-value-is (Call.Refcount h from to) q s = absurd q
-value-is (Call.CoreMap h) q s = absurd q
-value-is (Call.Holders a) q s = absurd q
-
-pub not-make : (c : Call) → Stepped c → (z : Sizes) → c ≢ Call.Make z
-not-make c q z e = subst Stepped e q
-
-not-holders : (c : Call) → Stepped c → (a : ℕ) → c ≢ Call.Holders a
-not-holders c q a e = subst Stepped e q
-
 -- what a finished call returned and left, on the sound state whose words were lent
-pub record Ran (t w : List ℕ) (c : Call) (r : replies.Reply) (t₂ w₂ : List ℕ) : Type 0 where
+pub record Ran (t w : List ℕ) (c : model.Step) (r : replies.Reply) (t₂ w₂ : List ℕ) : Type 0 where
   pub state : State
   pub lent : Lent t w state
-  pub reply : r ≡ replyOf (step state c .0)
-  pub tables : t₂ ≡ words (step state c .1)
+  pub reply : r ≡ replyOf (step state (Call.Do c) .0)
+  pub tables : t₂ ≡ words (step state (Call.Do c) .1)
   pub work : w₂ ≡ zeroed w
 
-module _ (t w : List ℕ) (s : State) (l : Lent t w s) (c : Call) (q : Stepped c) (a : code.Answer) (u : List ℕ) (long : length u ≡ length t) where
+module _ (t w : List ℕ) (s : State) (l : Lent t w s) (c : model.Step) (a : code.Answer) (u : List ℕ) (long : length u ≡ length t) where
   Ends : Answer × State → Type 0
   Ends y = (replyFor a ≡ replyOf (y .0)) × (finished a u t ≡ words (y .1))
 
-  by-outcome : (x : Step) → a ≡ x .answer → Left u (x .tables) → (o : Outcome (Reply × State)) → perform s c ≡ o → Agrees x (o >>= λ y. ok (slotFrom (y .0), y .1)) → Ends (step s c)
-  unfolding step _>>=_ Ends
+  by-outcome : (x : Step) → a ≡ x .answer → Left u (x .tables) → (o : Outcome (Reply × State)) → performStep s c ≡ o → Agrees x (o >>= λ y. ok (slotFrom (y .0), y .1)) → Ends (step s (Call.Do c))
+  unfolding step perform _>>=_ Ends
   by-outcome x e v (ok y) p g =
       let b : a ≡ Done (slotFrom (y .0)) = e ∙ g .0 in
       subst Ends (sym (ap (outcome-after s) p))
-      (ap replyFor b ∙ ap (λ n. record { refusal = 0; value = n }) (all-ok _ (perform s c) y (value-is c q s) p), ap (λ z. finished z u t) b ∙ held-words (y .1) u (subst (Left u) (g .1) v))
+      (ap replyFor b, ap (λ z. finished z u t) b ∙ held-words (y .1) u (subst (Left u) (g .1) v))
   by-outcome x e v (refuse r) p g =
       let b : a ≡ Refused (refusalFor r) = e ∙ g in
       subst Ends (sym (ap (outcome-after s) p))
       (ap replyFor b ∙ ap (λ n. record { refusal = n; value = 0 }) (same-number r), ap (λ z. finished z u t) b ∙ copy-back t u long ∙ l .tables)
 
-  ends : CallWords c → a ≡ stepFor c q (view t) .answer → Left u (stepFor c q (view t) .tables) → (replyFor a ≡ replyOf (step s c .0)) × (finished a u t ≡ words (step s c .1))
+  ends : StepWords c → a ≡ stepFor c (view t) .answer → Left u (stepFor c (view t) .tables) → (replyFor a ≡ replyOf (step s (Call.Do c) .0)) × (finished a u t ≡ words (step s (Call.Do c) .1))
   unfolding Ends
   ends k e v =
       let see : view t ≡ tablesOf s = words-held s (l .sound) t (l .tables) .seen in
-      by-outcome (stepFor c q (tablesOf s)) (e ∙ ap (λ z. stepFor c q z .answer) see) (subst (λ z. Left u (stepFor c q z .tables)) see v) (perform s c) refl (call-refines s (l .sound) c q k)
+      by-outcome (stepFor c (tablesOf s)) (e ∙ ap (λ z. stepFor c z .answer) see) (subst (λ z. Left u (stepFor c z .tables)) see v) (performStep s c) refl (call-refines s (l .sound) c k)
 
 -- ---- as the exported functions cite it
 
 -- b is what the test said; w₁ is the work area behind it; a and u are what the step answered and left; r, t₂ and w₂ what the end of the call gave
 pub ran : (t w : List ℕ) → Each Word t → (b : Bool) → b ≡ admitted t w → b ≡ true → (w₁ : List ℕ) → w₁ ≡ kept t w
-    → (c : Call) (q : Stepped c) → CallWords c → (a : code.Answer) (u : List ℕ) → a ≡ stepFor c q (view t) .answer → Left u (stepFor c q (view t) .tables) → length u ≡ length t
+    → (c : model.Step) → StepWords c → (a : code.Answer) (u : List ℕ) → a ≡ stepFor c (view t) .answer → Left u (stepFor c (view t) .tables) → length u ≡ length t
     → (r : replies.Reply) (t₂ w₂ : List ℕ) → r ≡ replyFor a → t₂ ≡ finished a u w₁ → w₂ ≡ zeroed w₁ → Ran t w c r t₂ w₂
-ran t w known b e h w₁ k c q x a u f v long r t₂ w₂ er et ew =
+ran t w known b e h w₁ k c x a u f v long r t₂ w₂ er et ew =
     let d = sym e ∙ h in
     let l = lent t w known d in
     let m : w₁ ≡ t = k ∙ kept-copy t w d in
-    let y = ends t w (l .0) (l .1) c q a u long x f v in
+    let y = ends t w (l .0) (l .1) c a u long x f v in
     record {
       state = l .0;
       lent = l .1;
@@ -134,21 +109,21 @@ ran t w known b e h w₁ k c q x a u f v long r t₂ w₂ er et ew =
     }
 
 -- what a call on a sound state returns by f, where its answer is that of the model
-pub step-returns : {R : Type 0} (f : Answer → R) (t w : List ℕ) (c : Call) → ((z : Sizes) → c ≢ Call.Make z) → ((a : ℕ) → c ≢ Call.Holders a)
+pub step-returns : {R : Type 0} (f : Answer → R) (t w : List ℕ) (c : Call) → Settled c
     → (s : State) → Lent t w s → (r : R) (t₂ w₂ : List ℕ) → r ≡ f (step s c .0) → t₂ ≡ words (step s c .1) → w₂ ≡ zeroed w → Returns f t w c r t₂ w₂
-step-returns f t w c m n s l r t₂ w₂ er et ew = record {
+step-returns f t w c q s l r t₂ w₂ er et ew = record {
   answer = step s c .0;
-  after = subst (λ v. After t w c (step s c .0) t₂ v) (sym ew) (subst (λ v. After t w c (step s c .0) v (zeroed w)) (sym et) (After.performed c s m n l));
+  after = subst (λ v. After t w c (step s c .0) t₂ v) (sym ew) (subst (λ v. After t w c (step s c .0) v (zeroed w)) (sym et) (After.performed c s q l));
   reply = er;
 }
 
-pub ran-returns : (t w : List ℕ) (c : Call) → Stepped c → (r : replies.Reply) (t₂ w₂ : List ℕ) → Ran t w c r t₂ w₂ → Returns replyOf t w c r t₂ w₂
-ran-returns t w c q r t₂ w₂ x = step-returns replyOf t w c (not-make c q) (not-holders c q) (x .state) (x .lent) r t₂ w₂ (x .reply) (x .tables) (x .work)
+pub ran-returns : (t w : List ℕ) (c : model.Step) (r : replies.Reply) (t₂ w₂ : List ℕ) → Ran t w c r t₂ w₂ → Returns replyOf t w (Call.Do c) r t₂ w₂
+ran-returns t w c r t₂ w₂ x = step-returns replyOf t w (Call.Do c) tt (x .state) (x .lent) r t₂ w₂ (x .reply) (x .tables) (x .work)
 
 pub call-returns : (t w : List ℕ) → Each Word t → (b : Bool) → b ≡ admitted t w → b ≡ true → (w₁ : List ℕ) → w₁ ≡ kept t w
-    → (c : Call) (q : Stepped c) → CallWords c → (a : code.Answer) (u : List ℕ) → a ≡ stepFor c q (view t) .answer → Left u (stepFor c q (view t) .tables) → length u ≡ length t
-    → (r : replies.Reply) (t₂ w₂ : List ℕ) → r ≡ replyFor a → t₂ ≡ finished a u w₁ → w₂ ≡ zeroed w₁ → Returns replyOf t w c r t₂ w₂
-call-returns t w known b e h w₁ k c q x a u f v long r t₂ w₂ er et ew = ran-returns t w c q r t₂ w₂ (ran t w known b e h w₁ k c q x a u f v long r t₂ w₂ er et ew)
+    → (c : model.Step) → StepWords c → (a : code.Answer) (u : List ℕ) → a ≡ stepFor c (view t) .answer → Left u (stepFor c (view t) .tables) → length u ≡ length t
+    → (r : replies.Reply) (t₂ w₂ : List ℕ) → r ≡ replyFor a → t₂ ≡ finished a u w₁ → w₂ ≡ zeroed w₁ → Returns replyOf t w (Call.Do c) r t₂ w₂
+call-returns t w known b e h w₁ k c x a u f v long r t₂ w₂ er et ew = ran-returns t w c r t₂ w₂ (ran t w known b e h w₁ k c x a u f v long r t₂ w₂ er et ew)
 
 -- the tables that a call may run on are as long as their sizes ask
 pub admitted-sized : (t w : List ℕ) → (b : Bool) → b ≡ admitted t w → b ≡ true → Sized t
@@ -156,7 +131,7 @@ unfolding isSound
 admitted-sized t w b e h = sized-true t (both-true (sizedB t) _ (parts t w (sym e ∙ h) .1) .0)
 
 -- the lent memory is refused
-pub memory-returns : {R : Type 0} (f : Answer → R) (t w : List ℕ) (c : Call) → ((z : Sizes) → c ≢ Call.Make z) → (b : Bool) → b ≡ admitted t w → b ≡ false
+pub memory-returns : {R : Type 0} (f : Answer → R) (t w : List ℕ) (c : Call) → NotMake c → (b : Bool) → b ≡ admitted t w → b ≡ false
     → (r : R) (w₂ : List ℕ) → r ≡ f (Answer.no outcome.memory) → w₂ ≡ kept t w → Returns f t w c r t w₂
 memory-returns f t w c n b e h r w₂ er ew =
     let d = sym e ∙ h in

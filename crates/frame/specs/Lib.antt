@@ -1,3 +1,4 @@
 pub mod Replies
 pub mod Finish
 pub mod Law
+pub mod Steps

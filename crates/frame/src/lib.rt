@@ -1,8 +1,13 @@
 // What every call does before and after its own work: test the lent memory, keep a copy of the tables, put it back, clear the work area.
 ghost use mathlib.Core.Path.{_≡_};
+ghost use Rattle.model.specs.Perform.{Call};
+ghost use Rattle.model.specs.CallWords.{StepWords};
 ghost use Rattle.model.specs.Memory.{zeroed};
 ghost use Rattle.frame.specs.Finish.{admitted, kept, finished, replyFor};
+ghost use Rattle.frame.specs.Replies.{replyOf, Returns};
+ghost use Rattle.frame.specs.Steps.{stepNamed};
 use answers::Answer;
+use answers::Refusal;
 
 pub mod replies;
 
@@ -47,4 +52,16 @@ pub fn finish(t: &mut [u64], w: &mut [u64], a: Answer) -> Reply
             replies::refused(r)
         }
     }
+}
+
+// A call that is one step, on lent memory: all that the exported functions of such calls do.
+pub fn run(t: &mut [u64], w: &mut [u64], call: calls::Call) -> Reply
+    requires { ⌜ StepWords (stepNamed call) ⌝ }
+    ensures { λ r. ⌜ Returns replyOf (now (t .entry)) (now (w .entry)) (Call.Do (stepNamed call)) r (now (t .exit)) (now (w .exit)) ⌝ }
+{
+    if begin(t, w) {
+        let a = calls::step(t, call);
+        return finish(t, w, a);
+    }
+    replies::refused(Refusal::Memory)
 }

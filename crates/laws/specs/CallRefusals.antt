@@ -15,28 +15,34 @@ use Rattle.model.specs.Regions.{newRegion}
 use Rattle.model.specs.Making.{makeTables}
 use Rattle.model.specs.Calls.{liveDomain, liveRegion, asRegion, asTarget, regionHeld, roomForRegion, newDomain, openDomain, openChannel, setCores, createRootRegion, addChild, aliasRegion, carveRegion, sendCapa, send, revokeUnlessRoot, revokeCapa, revoke, createRevokeCapa}
 use Rattle.model.specs.Readings.{permissions, getRefcount, coreMap}
-use Rattle.model.specs.Perform.{Call, Make, Open, Channel, SetCores, Root, Alias, Carve, Send, Revoke, MakeRevoke, Pop, Permissions, Refcount, CoreMap, Holders, makeAnew, perform}
+use Rattle.model.specs.Perform.{Step, Open, Channel, SetCores, Root, Alias, Carve, Send, Revoke, MakeRevoke, Reading, Permissions, Refcount, CoreMap, Holders, Call, Make, Do, Pop, Read, makeAnew, performStep, readTables, perform}
 use Rattle.laws.specs.Answers.{Gives, gives, refuses, gives-then, gives-branch, gives-checked, refusal}
 use Rattle.laws.specs.Keep.Refusals.{MayStop, activate-stops, exchange-stops, send-stops, revoke-stops, allocate-stops, new-stops}
 
 -- Document 01's numbers for each call, in its order of checks, those of the steps afterwards last. Bad memory (1) is refused before
 -- `perform`, save for a making with another length.
+abbrev pub stepRefusals : Step → List ℕ
+stepRefusals (Open m cores) = 3 ∷ 15 ∷ 12 ∷ []
+stepRefusals (Channel h to) = 3 ∷ 12 ∷ []
+stepRefusals (SetCores h cores) = 3 ∷ []
+stepRefusals (Root h a) = 3 ∷ 11 ∷ 12 ∷ 7 ∷ 13 ∷ 14 ∷ 16 ∷ []
+stepRefusals (Alias h l a) = 3 ∷ 4 ∷ 5 ∷ 6 ∷ 11 ∷ 12 ∷ 7 ∷ 8 ∷ 13 ∷ 14 ∷ 16 ∷ []
+stepRefusals (Carve h l a) = 3 ∷ 4 ∷ 5 ∷ 6 ∷ 11 ∷ 12 ∷ 7 ∷ 8 ∷ 13 ∷ 14 ∷ 16 ∷ []
+stepRefusals (Send h l target) = 3 ∷ 4 ∷ 5 ∷ 12 ∷ 10 ∷ 6 ∷ 13 ∷ 14 ∷ 16 ∷ []
+stepRefusals (Revoke h l) = 3 ∷ 4 ∷ 10 ∷ 6 ∷ 9 ∷ 13 ∷ 14 ∷ 16 ∷ []
+stepRefusals (MakeRevoke h l) = 3 ∷ 4 ∷ 5 ∷ 6 ∷ 9 ∷ 12 ∷ []
+
+abbrev pub readingRefusals : Reading → List ℕ
+readingRefusals (Permissions h) = 3 ∷ []
+readingRefusals (Refcount h from to) = 3 ∷ []
+readingRefusals (CoreMap h) = 3 ∷ []
+readingRefusals (Holders a) = []
+
 abbrev pub refusals : Call → List ℕ
 refusals (Make z) = 2 ∷ 1 ∷ []
-refusals (Open m cores) = 3 ∷ 15 ∷ 12 ∷ []
-refusals (Channel h to) = 3 ∷ 12 ∷ []
-refusals (SetCores h cores) = 3 ∷ []
-refusals (Root h a) = 3 ∷ 11 ∷ 12 ∷ 7 ∷ 13 ∷ 14 ∷ 16 ∷ []
-refusals (Alias h l a) = 3 ∷ 4 ∷ 5 ∷ 6 ∷ 11 ∷ 12 ∷ 7 ∷ 8 ∷ 13 ∷ 14 ∷ 16 ∷ []
-refusals (Carve h l a) = 3 ∷ 4 ∷ 5 ∷ 6 ∷ 11 ∷ 12 ∷ 7 ∷ 8 ∷ 13 ∷ 14 ∷ 16 ∷ []
-refusals (Send h l target) = 3 ∷ 4 ∷ 5 ∷ 12 ∷ 10 ∷ 6 ∷ 13 ∷ 14 ∷ 16 ∷ []
-refusals (Revoke h l) = 3 ∷ 4 ∷ 10 ∷ 6 ∷ 9 ∷ 13 ∷ 14 ∷ 16 ∷ []
-refusals (MakeRevoke h l) = 3 ∷ 4 ∷ 5 ∷ 6 ∷ 9 ∷ 12 ∷ []
+refusals (Do c) = stepRefusals c
 refusals Pop = []
-refusals (Permissions h) = 3 ∷ []
-refusals (Refcount h from to) = 3 ∷ []
-refusals (CoreMap h) = 3 ∷ []
-refusals (Holders a) = []
+refusals (Read r) = readingRefusals r
 
 -- The refusal is one of a call's.
 abbrev Of : Call → Refusal → Type 0
@@ -127,20 +133,20 @@ make-within : (z : Sizes) (s : State) → Within (Of (Make z)) (makeAnew z s)
 unfolding makeAnew makeTables
 make-within z s = gives-checked {P = λ a. Unit {0}} _ _ tt (λ t. gives tt) andThen (λ u. gives-checked _ _ tt (λ t. gives tt))
 
-open-within : (m : Option Handle) (cores : ℕ) (s : State) → Within (Of (Open m cores)) (openDomain m cores s)
+open-within : (m : Option Handle) (cores : ℕ) (s : State) → Within (Of (Do (Open m cores))) (openDomain m cores s)
 unfolding openDomain
 open-within none cores s = opened-within tt _ _ s andThen (λ x. gives tt)
 open-within (some h) cores s = domain-within tt s h andThen (λ m. opened-within tt _ _ s andThen (λ x. capacity-within tt m _ andThen (λ t. insert-within tt m _ t andThen (λ y. gives tt))))
 
-channel-within : (h to : Handle) (s : State) → Within (Of (Channel h to)) (openChannel h to s)
+channel-within : (h to : Handle) (s : State) → Within (Of (Do (Channel h to))) (openChannel h to s)
 unfolding openChannel
 channel-within h to s = domain-within tt s h andThen (λ d. domain-within tt s to andThen (λ t. capacity-within tt d s andThen (λ u. insert-within tt d _ u)))
 
-cores-within : (h : Handle) (cores : ℕ) (s : State) → Within (Of (SetCores h cores)) (setCores h cores s)
+cores-within : (h : Handle) (cores : ℕ) (s : State) → Within (Of (Do (SetCores h cores))) (setCores h cores s)
 unfolding setCores
 cores-within h cores s = domain-within tt s h andThen (λ d. gives tt)
 
-root-within : (h : Handle) (a : Access) (s : State) → Within (Of (Root h a)) (createRootRegion h a s)
+root-within : (h : Handle) (a : Access) (s : State) → Within (Of (Do (Root h a))) (createRootRegion h a s)
 unfolding createRootRegion
 root-within h a s =
     domain-within tt s h andThen (λ d.
@@ -149,7 +155,7 @@ root-within h a s =
     insert-within tt d _ _ andThen (λ y.
     late (tt, tt, tt) (activate-stops d a _) andThen (λ u. gives tt)))))
 
-alias-within : (h : Handle) (l : ℕ) (a : Access) (s : State) → Within (Of (Alias h l a)) (aliasRegion h l a s)
+alias-within : (h : Handle) (l : ℕ) (a : Access) (s : State) → Within (Of (Do (Alias h l a))) (aliasRegion h l a s)
 unfolding aliasRegion
 alias-within h l a s =
     domain-within tt s h andThen (λ d.
@@ -159,7 +165,7 @@ alias-within h l a s =
     child-within (tt, tt) d p _ a t andThen (λ x.
     late (tt, tt, tt) (activate-stops d a _) andThen (λ u. gives tt))))))
 
-carve-within : (h : Handle) (l : ℕ) (a : Access) (s : State) → Within (Of (Carve h l a)) (carveRegion h l a s)
+carve-within : (h : Handle) (l : ℕ) (a : Access) (s : State) → Within (Of (Do (Carve h l a))) (carveRegion h l a s)
 unfolding carveRegion
 carve-within h l a s =
     domain-within tt s h andThen (λ d.
@@ -199,7 +205,7 @@ module _ {R : Refusal → Type 0} where
   revoked-within i j (management h) s = refuses (i .0)
   revoked-within i j (channel h) s = gives tt
 
-send-within : (h : Handle) (l target : ℕ) (s : State) → Within (Of (Send h l target)) (send h l target s)
+send-within : (h : Handle) (l target : ℕ) (s : State) → Within (Of (Do (Send h l target))) (send h l target s)
 unfolding send
 send-within h l target s =
     domain-within tt s h andThen (λ d.
@@ -211,14 +217,14 @@ send-within h l target s =
     moved-within (tt, tt) (tt, tt, tt) c to u andThen (λ v.
     insert-within tt to c _)))))))
 
-revoke-within : (h : Handle) (l : ℕ) (s : State) → Within (Of (Revoke h l)) (revoke h l s)
+revoke-within : (h : Handle) (l : ℕ) (s : State) → Within (Of (Do (Revoke h l))) (revoke h l s)
 unfolding revoke
 revoke-within h l s =
     domain-within tt s h andThen (λ d.
     slot-within tt s d l andThen (λ c.
     revoked-within (tt, tt, tt) (tt, tt, tt) c s andThen (λ t. gives tt)))
 
-make-revoke-within : (h : Handle) (l : ℕ) (s : State) → Within (Of (MakeRevoke h l)) (createRevokeCapa h l s)
+make-revoke-within : (h : Handle) (l : ℕ) (s : State) → Within (Of (Do (MakeRevoke h l))) (createRevokeCapa h l s)
 unfolding createRevokeCapa
 make-revoke-within h l s =
     domain-within tt s h andThen (λ d.
@@ -228,23 +234,31 @@ make-revoke-within h l s =
 
 -- ---- all calls
 
+step-within : (s : State) (c : Step) → Within (Of (Do c)) (performStep s c)
+unfolding performStep
+step-within s (Open m cores) = open-within m cores s andThen (λ x. gives tt)
+step-within s (Channel h to) = channel-within h to s andThen (λ x. gives tt)
+step-within s (SetCores h cores) = cores-within h cores s andThen (λ x. gives tt)
+step-within s (Root h a) = root-within h a s andThen (λ x. gives tt)
+step-within s (Alias h l a) = alias-within h l a s andThen (λ x. gives tt)
+step-within s (Carve h l a) = carve-within h l a s andThen (λ x. gives tt)
+step-within s (Send h l target) = send-within h l target s andThen (λ x. gives tt)
+step-within s (Revoke h l) = revoke-within h l s andThen (λ x. gives tt)
+step-within s (MakeRevoke h l) = make-revoke-within h l s andThen (λ x. gives tt)
+
+reading-within : (s : State) (r : Reading) → Within (Of (Read r)) (readTables s r)
+unfolding readTables permissions getRefcount coreMap
+reading-within s (Permissions h) = domain-within tt s h andThen (λ d. gives tt) andThen (λ x. gives tt)
+reading-within s (Refcount h from to) = domain-within tt s h andThen (λ d. gives tt) andThen (λ x. gives tt)
+reading-within s (CoreMap h) = domain-within tt s h andThen (λ d. gives tt) andThen (λ x. gives tt)
+reading-within s (Holders a) = gives tt
+
 perform-within : (s : State) (c : Call) → Within (Of c) (perform s c)
-unfolding perform permissions getRefcount coreMap
+unfolding perform
 perform-within s (Make z) = make-within z s andThen (λ x. gives tt)
-perform-within s (Open m cores) = open-within m cores s andThen (λ x. gives tt)
-perform-within s (Channel h to) = channel-within h to s andThen (λ x. gives tt)
-perform-within s (SetCores h cores) = cores-within h cores s andThen (λ x. gives tt)
-perform-within s (Root h a) = root-within h a s andThen (λ x. gives tt)
-perform-within s (Alias h l a) = alias-within h l a s andThen (λ x. gives tt)
-perform-within s (Carve h l a) = carve-within h l a s andThen (λ x. gives tt)
-perform-within s (Send h l target) = send-within h l target s andThen (λ x. gives tt)
-perform-within s (Revoke h l) = revoke-within h l s andThen (λ x. gives tt)
-perform-within s (MakeRevoke h l) = make-revoke-within h l s andThen (λ x. gives tt)
+perform-within s (Do c) = step-within s c
 perform-within s Pop = gives tt andThen (λ x. gives tt)
-perform-within s (Permissions h) = domain-within tt s h andThen (λ d. gives tt) andThen (λ x. gives tt)
-perform-within s (Refcount h from to) = domain-within tt s h andThen (λ d. gives tt) andThen (λ x. gives tt)
-perform-within s (CoreMap h) = domain-within tt s h andThen (λ d. gives tt) andThen (λ x. gives tt)
-perform-within s (Holders a) = gives tt
+perform-within s (Read r) = reading-within s r andThen (λ x. gives tt)
 
 -- A refused call's number is one of those that document 01 lists for the call.
 pub call-refusals : (s : State) (c : Call) (r : Refusal) → perform s c ≡ refuse r → T (any (eqb (number r)) (refusals c))

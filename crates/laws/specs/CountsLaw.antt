@@ -1,5 +1,5 @@
 -- A law: in sound tables the stored counts are the regions', at every address (the claim of demand 3 about counts).
-use mathlib.Core.Path.{_≡_, refl, sym}
+use mathlib.Core.Path.{_≡_, refl}
 use Prim.Native.Nat.{ℕ, suc, _≤_, _<_}
 use mathlib.Core.Bool.{Bool, true, false, _&&_}
 use mathlib.Core.Option.{Option, none, some}
@@ -8,10 +8,11 @@ use native.Mathlib.Omega.{arith}
 use lib.Dec.{T, leb→le, ltb→lt}
 use lib.Ieee.Fits.{and-l, and-r}
 use Rattle.model.specs.Lists.{oneIf, any, Each, In}
-use Rattle.rights.specs.Rights.{has, READ, WRITE, EXEC, SUPER}
 use Rattle.model.specs.State.{State, Domain, Region, Record}
-use Rattle.model.specs.Counts.{holds, noCounts, countsAt, countsFor, tally, regionReach, Agree}
-use Rattle.model.specs.Sound.{Sound}
+use Rattle.model.specs.Fields.{Field, passes}
+use Rattle.model.specs.Counts.{holds, noCounts, countsAt, countsFor, tally, regionCount, Agree}
+use Rattle.model.specs.Sound.{TrackersSound}
+use Rattle.laws.specs.Fields.{get-none}
 use Rattle.laws.specs.Cases.{lt, ge, cmp, true-is}
 
 fewer : (b c : Bool) → oneIf (b && c) ≤ oneIf (b && true)
@@ -26,23 +27,17 @@ tally-le rs d a t i [] = omega arith
 tally-le rs d a t i (none ∷ l) = tally-le rs d a t (suc i) l
 tally-le rs d a t i (some g ∷ l) = omega (arith, fewer (countsFor rs d a i g) (t (g .rights)), tally-le rs d a t (suc i) l)
 
-nothing-there : (rs : List (Option Region)) (d a : ℕ) → regionReach rs d a ≡ 0 → Agree rs d a noCounts
-nothing-there rs d a h = record {
-  reach = sym h;
-  read = omega (arith, tally-le rs d a (λ r. has r READ) 0 rs);
-  write = omega (arith, tally-le rs d a (λ r. has r WRITE) 0 rs);
-  exec = omega (arith, tally-le rs d a (λ r. has r EXEC) 0 rs);
-  super = omega (arith, tally-le rs d a (λ r. has r SUPER) 0 rs);
-}
+nothing-there : (rs : List (Option Region)) (d a : ℕ) → regionCount Field.Reach rs d a ≡ 0 → Agree rs d a noCounts
+nothing-there rs d a h f = omega (arith, get-none f, tally-le rs d a (passes f) 0 rs)
 
 -- the first record that holds a agrees; if none does, no region counts there
-read-off : (rs : List (Option Region)) (d a : ℕ) (l : List Record) → Each (λ q. (b : ℕ) → q .start ≤ b → b < q .end → Agree rs d b (q .counts)) l → (0 < regionReach rs d a → T (any (λ q. holds (q .start) (q .end) a) l)) → Agree rs d a (countsAt l a)
-read-off rs d a [] h c = elim (cmp 0 (regionReach rs d a)) [ lt i ↦ absurd (c i) | ge i ↦ nothing-there rs d a (omega arith) ]
+read-off : (rs : List (Option Region)) (d a : ℕ) (l : List Record) → Each (λ q. (b : ℕ) → q .start ≤ b → b < q .end → Agree rs d b (q .counts)) l → (0 < regionCount Field.Reach rs d a → T (any (λ q. holds (q .start) (q .end) a) l)) → Agree rs d a (countsAt l a)
+read-off rs d a [] h c = elim (cmp 0 (regionCount Field.Reach rs d a)) [ lt i ↦ absurd (c i) | ge i ↦ nothing-there rs d a (omega arith) ]
 read-off rs d a (q ∷ l) h c = go (holds (q .start) (q .end) a) refl (λ k. read-off rs d a l (h .1) k)
   where
-    go : (b : Bool) → holds (q .start) (q .end) a ≡ b → ((0 < regionReach rs d a → T (any (λ n. holds (n .start) (n .end) a) l)) → Agree rs d a (countsAt l a)) → Agree rs d a (countsAt (q ∷ l) a)
+    go : (b : Bool) → holds (q .start) (q .end) a ≡ b → ((0 < regionCount Field.Reach rs d a → T (any (λ n. holds (n .start) (n .end) a) l)) → Agree rs d a (countsAt l a)) → Agree rs d a (countsAt (q ∷ l) a)
     go true e ih = rw e (let t = true-is e in h .0 a (leb→le _ _ (search and-l)) (ltb→lt _ _ (search and-r)))
     go false e ih = rw e (ih (λ k. rw e at (c k)))
 
-pub counts-law : (s : State) → Sound s → (d : ℕ) (x : Domain) → In (s .domains) d x → (a : ℕ) → Agree (s .regions) d a (countsAt (x .tracker) a)
+pub counts-law : (s : State) → TrackersSound s → (d : ℕ) (x : Domain) → In (s .domains) d x → (a : ℕ) → Agree (s .regions) d a (countsAt (x .tracker) a)
 counts-law s h d x i a = let k = h .trackers d x i in read-off (s .regions) d a (x .tracker) (k .counted) (k .covered a)

@@ -64,17 +64,18 @@ fresh-pool n used h = record { gensLength = length-replicate n 0; gensWords = ea
 pub empty-sound : (z : Sizes) → All Sound (makeTables z)
 unfolding makeTables
 empty-sound z = checked (goodSizes z) _ (λ t. accepted (record {
-  sizesGood = t;
-  domainsLength = length-replicate (z .domains) none;
-  regionsLength = length-replicate (z .regions) none;
-  domainPool = fresh-pool (z .domains) _ (unused Domain (z .domains));
-  regionPool = fresh-pool (z .regions) _ (unused Region (z .regions));
-  recordPool = fresh-pool (z .records) _ (no-uses (z .domains));
-  regions = λ i g h. absurd (nothing-in (z .regions) i g h);
-  owners = λ i g h. absurd (nothing-in (z .regions) i g h);
-  managers = λ d x h. absurd (nothing-in (z .domains) d x h);
-  lists = λ d x h. absurd (nothing-in (z .domains) d x h);
-  trackers = λ d x h. absurd (nothing-in (z .domains) d x h);
-  coresWords = λ d x h. absurd (nothing-in (z .domains) d x h);
+  outside = record {
+    sizesGood = t;
+    domainsLength = length-replicate (z .domains) none;
+    regionsLength = length-replicate (z .regions) none;
+    domainPool = fresh-pool (z .domains) _ (unused Domain (z .domains));
+    regionPool = fresh-pool (z .regions) _ (unused Region (z .regions));
+    regions = λ i g h. absurd (nothing-in (z .regions) i g h);
+    owners = λ i g h. absurd (nothing-in (z .regions) i g h);
+    managers = λ d x h. absurd (nothing-in (z .domains) d x h);
+    lists = λ d x h. absurd (nothing-in (z .domains) d x h);
+    coresWords = λ d x h. absurd (nothing-in (z .domains) d x h);
+  };
+  tracked = record { recordPool = fresh-pool (z .records) _ (no-uses (z .domains)); trackers = λ d x h. absurd (nothing-in (z .domains) d x h) };
   queue = record { readPlace = omega arith; fits = omega arith; live = tt; singly = tt; queuedWords = tt };
 }))

@@ -1,6 +1,7 @@
 -- The trackers, the pools and the update ring through the calls: the stored counts stay those of the regions, and the ring and the pools stay sound.
 pub mod Slots
 pub mod Aside
+pub mod Outside
 pub mod Tracked
 pub mod Coupled
 pub mod Settle

@@ -1,6 +1,5 @@
 -- A law: no call but making changes the sizes or the length of a table.
 use mathlib.Core.Path.{_≡_, refl, ap, _∙_}
-use mathlib.Core.Logic.{_≢_}
 use Prim.Native.Nat.{ℕ}
 use mathlib.Core.Option.{Option, none, some}
 use mathlib.Core.List.{List, [], _∷_}
@@ -14,8 +13,9 @@ use Rattle.model.specs.Pool.{free, isLive}
 use Rattle.model.specs.Updates.{pop}
 use Rattle.model.specs.Tree.{insertChild}
 use Rattle.model.specs.Calls.{roomForRegion, newDomain, openDomain, openChannel, setCores, createRootRegion, addChild, aliasRegion, exchangeRights, carveRegion, sendCapa, send, revokeUnlessRoot, revokeCapa, revoke, createRevokeCapa}
-use Rattle.model.specs.Perform.{Call, Reply, makeAnew, perform, after, step, run}
+use Rattle.model.specs.Perform.{Step, Call, Reply, makeAnew, performStep, perform, after, step, run}
 use Rattle.model.specs.Making.{makeTables}
+use Rattle.model.specs.Memory.{NotMake}
 use Rattle.model.specs.Layout.{lengthFor}
 use Rattle.laws.specs.Kept.{Kept, allocate-same, same, trans, Kept₁, put-domain, put-region, capacity-kept, insert-kept, remove-kept, empty-kept, activate-kept, deactivate-kept, and-so, and-so₁, new-region-kept, send-region-kept, revoke-region-kept}
 
@@ -124,28 +124,25 @@ unfolding pop
 pop-kept s [] e = rw (e, pop) (record { sizes = refl; domains = refl; regions = refl; domainGens = refl; regionGens = refl; recordGens = refl })
 pop-kept s (u ∷ us) e = rw (e, pop) (record { sizes = refl; domains = refl; regions = refl; domainGens = refl; regionGens = refl; recordGens = refl })
 
--- a call that is no making
-abbrev pub NotMake : Call → Type 0
-NotMake c = (z : Sizes) → c ≢ Call.Make z
+perform-step-kept : (s : State) (c : Step) → All (Kept₁ s) (performStep s c)
+unfolding performStep
+perform-step-kept s (Step.Open m c) = bind (open-kept m c s) (λ x k. accepted k)
+perform-step-kept s (Step.Channel h to) = bind (channel-kept h to s) (λ x k. accepted k)
+perform-step-kept s (Step.SetCores h c) = bind (cores-kept h c s) (λ x k. accepted k)
+perform-step-kept s (Step.Root h a) = bind (root-kept h a s) (λ x k. accepted k)
+perform-step-kept s (Step.Alias h l a) = bind (alias-kept h l a s) (λ x k. accepted k)
+perform-step-kept s (Step.Carve h l a) = bind (carve-kept h l a s) (λ x k. accepted k)
+perform-step-kept s (Step.Send h l t) = bind (send-kept h l t s) (λ x k. accepted k)
+perform-step-kept s (Step.Revoke h l) = bind (revoke-kept h l s) (λ x k. accepted k)
+perform-step-kept s (Step.MakeRevoke h l) = bind (make-revoke-kept h l s) (λ x k. accepted k)
 
 -- No call but making changes the sizes or the length of a table.
 pub perform-kept : (s : State) (c : Call) → NotMake c → All (Kept₁ s) (perform s c)
 unfolding perform
-perform-kept s (Call.Make z) n = absurd (n z refl)
-perform-kept s (Call.Open m c) n = bind (open-kept m c s) (λ x k. accepted k)
-perform-kept s (Call.Channel h to) n = bind (channel-kept h to s) (λ x k. accepted k)
-perform-kept s (Call.SetCores h c) n = bind (cores-kept h c s) (λ x k. accepted k)
-perform-kept s (Call.Root h a) n = bind (root-kept h a s) (λ x k. accepted k)
-perform-kept s (Call.Alias h l a) n = bind (alias-kept h l a s) (λ x k. accepted k)
-perform-kept s (Call.Carve h l a) n = bind (carve-kept h l a s) (λ x k. accepted k)
-perform-kept s (Call.Send h l t) n = bind (send-kept h l t s) (λ x k. accepted k)
-perform-kept s (Call.Revoke h l) n = bind (revoke-kept h l s) (λ x k. accepted k)
-perform-kept s (Call.MakeRevoke h l) n = bind (make-revoke-kept h l s) (λ x k. accepted k)
+perform-kept s (Call.Make z) n = absurd n
+perform-kept s (Call.Do c) n = perform-step-kept s c
 perform-kept s Call.Pop n = bind {P = Kept₁ s} (accepted (pop-kept s _ refl)) (λ x k. accepted k)
-perform-kept s (Call.Permissions h) n = bind-any _ (λ x. accepted (same s))
-perform-kept s (Call.Refcount h a b) n = bind-any _ (λ x. accepted (same s))
-perform-kept s (Call.CoreMap h) n = bind-any _ (λ x. accepted (same s))
-perform-kept s (Call.Holders a) n = accepted (same s)
+perform-kept s (Call.Read r) n = bind-any _ (λ x. accepted (same s))
 
 after-kept : (s : State) (m : Outcome (Reply × State)) → All (Kept₁ s) m → Kept s (after s m .1)
 after-kept s (ok x) (accepted h) = h

@@ -4,6 +4,7 @@ pub mod Answers
 pub mod Cases
 pub mod Parts
 pub mod Stack
+pub mod Fields
 pub mod Tracker
 pub mod Tree
 pub mod Kept
@@ -17,7 +18,6 @@ pub mod PopSound
 pub mod CountsLaw
 pub mod SoundTest
 pub mod Test
-pub mod TestLaw
 pub mod RingFull
 pub mod Words
 pub mod AfterUnique

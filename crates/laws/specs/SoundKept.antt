@@ -16,9 +16,8 @@ use Rattle.laws.specs.Keep.Performed.{perform-keeps}
 -- The capability clauses are kept by themselves (`Capas`); the others are part of what `Keep` shows.
 pub sound-kept : (s : State) (c : Call) → Sound s → CallWords c → All (λ x. Sound (x .1)) (perform s c)
 sound-kept s c h w = perform-sound s c h w (weaken (perform-keeps s h c w) (λ (a, t) (good, base). record {
-  recordPool = good .tracked .pool;
   regions = good .regions;
-  trackers = coupled-tracker t (good .tracked);
+  tracked = record { recordPool = good .tracked .pool; trackers = coupled-tracker t (good .tracked) };
 }))
 
 -- a refused call leaves the state

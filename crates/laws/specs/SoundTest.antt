@@ -6,25 +6,22 @@ use mathlib.Core.Option.{Option, none, some}
 use mathlib.Core.List.{List, [], _∷_, _++_, map}
 use lib.Dec.{eqb, ltb, leb}
 use lib.ListN.{length, getD}
-use Rattle.model.specs.Lists.{oneIf, any, count, countUp, isSome, slotOf}
-use Rattle.rights.specs.Rights.{allowed, READ, WRITE, EXEC, SUPER}
+use Rattle.model.specs.Lists.{oneIf, any, every, count, countUp, isSome, slotOf}
+use Rattle.rights.specs.Rights.{allowed}
 use Rattle.model.specs.State.{parentOf, State, Pool, Handle, Capa, noCapa, region, regionRevoke, management, channel, LocalList, Domain, Region, Record, Counts, Update, permission, cleanup, Queue}
+use Rattle.model.specs.Fields.{Field, fields, get}
 use Rattle.model.specs.Pool.{handleOf, isLive}
 use Rattle.model.specs.Updates.{isPermissionOf}
 use Rattle.model.specs.Tracker.{mergeable}
 use Rattle.model.specs.Tree.{isCarve, isRootKind, accessOf, overlaps, childrenOf}
 use Rattle.model.specs.Making.{goodSizes}
-use Rattle.model.specs.Counts.{holds, regionReach, regionCount}
+use Rattle.model.specs.Counts.{holds, regionCount}
 use Rattle.model.specs.Sound.{inUse, recordUses, names, isRegionOf, isManagementOf}
 
 -- all of them
 abbrev pub conj : List Bool → Bool
 conj [] = true
 conj (b ∷ l) = b && conj l
-
-abbrev pub every : {A : Type 0} → (A → Bool) → List A → Bool
-every p [] = true
-every p (x ∷ l) = p x && every p l
 
 -- the live entries with their slots
 abbrev pub live : {A : Type 0} → ℕ → List (Option A) → List (ℕ × A)
@@ -141,11 +138,8 @@ edgesOf [] = []
 edgesOf (none ∷ l) = edgesOf l
 edgesOf (some g ∷ l) = g .start ∷ g .end ∷ edgesOf l
 
-abbrev pub agreeTests : List (Option Region) → ℕ → ℕ → Counts → List Bool
-agreeTests rs d a k = eqb (k .reach) (regionReach rs d a) ∷ eqb (k .read) (regionCount rs READ d a) ∷ eqb (k .write) (regionCount rs WRITE d a) ∷ eqb (k .exec) (regionCount rs EXEC d a) ∷ eqb (k .super) (regionCount rs SUPER d a) ∷ []
-
 abbrev pub agree : List (Option Region) → ℕ → ℕ → Counts → Bool
-agree rs d a k = conj (agreeTests rs d a k)
+agree rs d a k = every (λ f. eqb (get f k) (regionCount f rs d a)) fields
 
 -- at the first address of the record, and at each edge in it
 abbrev pub countedTest : List (Option Region) → ℕ → Record → Bool
@@ -153,7 +147,7 @@ countedTest rs d q = every (λ a. not (holds (q .start) (q .end) a) || agree rs 
 
 -- at 0, at each edge, and where a record ends
 abbrev pub coveredTest : List (Option Region) → ℕ → List Record → Bool
-coveredTest rs d l = every (λ a. eqb (regionReach rs d a) 0 || any (λ q. holds (q .start) (q .end) a) l) (0 ∷ edgesOf rs ++ map (λ (q : Record). q .end) l)
+coveredTest rs d l = every (λ a. eqb (regionCount Field.Reach rs d a) 0 || any (λ q. holds (q .start) (q .end) a) l) (0 ∷ edgesOf rs ++ map (λ (q : Record). q .end) l)
 
 -- of a domain among the domains
 abbrev pub managerTests : Pool → List (Option Domain) → ℕ → Domain → List Bool

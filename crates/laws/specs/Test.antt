@@ -1,9 +1,6 @@
--- The computed test of soundness, clause by clause: what passes it is sound, and what is sound passes it.
+-- Clauses of the computed test of soundness: paths up a tree, and the points at which a tracker is tested.
 pub mod Lists
 pub mod Paths
-pub mod Regions
 pub mod Floor
 pub mod Points
 pub mod Edges
-pub mod Domains
-pub mod Queue

@@ -12,7 +12,7 @@ use Rattle.tables.specs.declared.Region.{Region}
 use Rattle.tables.specs.Tables.{Tables}
 use Rattle.tables.specs.View.{view}
 use Rattle.arena.specs.Arena.{isFreeB}
-use Rattle.region.specs.Links.{firstLink}
+use Rattle.tracker_records.specs.Links.{firstLink}
 use Rattle.readings.specs.Readings.{recordsFrom, fillRun}
 use Rattle.readings.proofs.Runs.{fillFrom, fill-none, fill-put}
 use Rattle.readings.proofs.Reading.{records-start}

@@ -11,7 +11,8 @@ use Rattle.words.specs.Rows.{flat}
 use Rattle.tables.specs.declared.Region.{Region}
 use Rattle.tables.specs.Tables.{Tables, recordAt}
 use Rattle.arena.specs.Arena.{isFreeB}
-use Rattle.region.specs.Links.{slotTo, firstLink}
+use Rattle.tables.specs.Links.{slotTo}
+use Rattle.tracker_records.specs.Links.{firstLink}
 use Rattle.readings.specs.Readings.{recordsFrom, recordsOf, fillRun}
 use Rattle.listing.specs.Listed.{lineOf, listedOf}
 

@@ -6,8 +6,8 @@ ghost use Rattle.words.specs.Rows.{flat};
 ghost use Rattle.tables.specs.View.{view, Sized};
 ghost use Rattle.readings.specs.Readings.{fillRun};
 ghost use Rattle.listing.specs.Listed.{lineOf, listedOf, withLine};
-use region::links;
 use tables::Region;
+use tracker_records::links;
 
 // A record's line into five places of a lent run, from `at` on.
 fn put_line(run: &mut [u64], at: usize, d: u64, q: Region)
@@ -37,7 +37,7 @@ pub fn fill_lines(t: &[u64], d: usize, run: &mut [u64]) -> usize
         if k == 0 {
             return n;
         }
-        let q = tables::load_record(t, links::slot_to(k));
+        let q = tables::load_record(t, tables::slot_to(k));
         put_line(run, 5 * n, d as u64, q);
         k = q.next;
         n += 1;

@@ -3,9 +3,10 @@ use mathlib.Core.Path.{_≡_}
 use mathlib.Core.List.{List}
 use Prim.Native.Nat.{ℕ, _+_}
 use lib.ListN.{replicate}
-use Rattle.tables.specs.declared.sizes.Sizes.{Sizes}
+use Rattle.sizes.specs.declared.Sizes.{Sizes}
 use Rattle.tables.specs.Tables.{Tables, Domain, noHead, noSlot, noRegion, noRecord, noUpdate}
-use Rattle.tables.specs.View.{view, sizesOf, Sized}
+use Rattle.tables.specs.View.{view, Sized}
+use Rattle.sizes.specs.Sizes.{sizesOf}
 use Rattle.arena.specs.Arena.{newArena}
 
 -- the record of a domain that is not open

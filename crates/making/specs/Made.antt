@@ -8,10 +8,11 @@ use lib.Seq.{sets, sets-eq, length-sets, getD-append-add}
 use Rattle.words.specs.Runs.{stored, stored-in, drop-sets-lt}
 use Rattle.words.specs.Cuts.{cuts, offset}
 use Rattle.words.specs.Zeros.{zeros, take-zeros, drop-zeros, rows-zeros, cuts-zeros}
-use Rattle.tables.specs.declared.sizes.Sizes.{Sizes}
+use Rattle.sizes.specs.declared.Sizes.{Sizes}
 use Rattle.tables.specs.Tables.{Tables, withDomainPool, withRegionPool, withRecordPool}
-use Rattle.tables.specs.Limits.{Limits}
-use Rattle.tables.specs.View.{sizesOf, view, widths, stride, total, ofParts, Left, layout, domainOf, slotOf, regionOf, recordOf, updateOf}
+use Rattle.sizes.specs.Limits.{Limits}
+use Rattle.sizes.specs.Sizes.{sizesOf, widths, stride, total}
+use Rattle.tables.specs.View.{view, ofParts, Left, layout, domainOf, slotOf, regionOf, recordOf, updateOf}
 use Rattle.tables.specs.Header.{read-is, write-is}
 use Rattle.tables.specs.Layout.{words-are}
 use Rattle.arena.specs.Arena.{newArena}

@@ -1,11 +1,12 @@
 // Making empty tables (document 01, "The call, from the entry down": make empty tables of given sizes).
 ghost use mathlib.Core.Path.{_≡_};
 ghost use lib.ListN.{length};
-ghost use Rattle.tables.specs.Limits.{Limits};
-ghost use Rattle.tables.specs.View.{total, layout};
+ghost use Rattle.sizes.specs.Limits.{Limits};
+ghost use Rattle.sizes.specs.Sizes.{total};
+ghost use Rattle.tables.specs.View.{layout};
 ghost use Rattle.making.specs.Empty.{empty, Blank};
 use pools::Pool;
-use tables::Sizes;
+use sizes::Sizes;
 
 // The sizes alone: every other word is 0.
 fn blank(t: &mut [u64], z: Sizes)

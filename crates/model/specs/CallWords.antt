@@ -2,7 +2,7 @@
 use Prim.Native.Nat.{_<_}
 use mathlib.Core.Option.{none, some}
 use Rattle.model.specs.State.{Word, Sizes, Handle, Access}
-use Rattle.model.specs.Perform.{Call}
+use Rattle.model.specs.Perform.{Step, Reading, Call}
 
 -- a handle, a range with rights, sizes
 abbrev pub HandleWords : Handle → Type 0
@@ -15,20 +15,26 @@ abbrev pub SizesWords : Sizes → Type 0
 SizesWords z = Word (z .domains) × Word (z .slots) × Word (z .regions) × Word (z .records) × Word (z .updates)
 
 -- All arguments of a call are words, its rights below 256.
+abbrev pub StepWords : Step → Type 0
+StepWords (Step.Open none cores) = Word cores
+StepWords (Step.Open (some m) cores) = HandleWords m × Word cores
+StepWords (Step.Channel h to) = HandleWords h × HandleWords to
+StepWords (Step.SetCores h cores) = HandleWords h × Word cores
+StepWords (Step.Root h a) = HandleWords h × AccessWords a
+StepWords (Step.Alias h l a) = HandleWords h × Word l × AccessWords a
+StepWords (Step.Carve h l a) = HandleWords h × Word l × AccessWords a
+StepWords (Step.Send h l target) = HandleWords h × Word l × Word target
+StepWords (Step.Revoke h l) = HandleWords h × Word l
+StepWords (Step.MakeRevoke h l) = HandleWords h × Word l
+
+abbrev pub ReadingWords : Reading → Type 0
+ReadingWords (Reading.Permissions h) = HandleWords h
+ReadingWords (Reading.Refcount h from to) = HandleWords h × Word from × Word to
+ReadingWords (Reading.CoreMap h) = HandleWords h
+ReadingWords (Reading.Holders a) = Word a
+
 abbrev pub CallWords : Call → Type 0
 CallWords (Call.Make z) = SizesWords z
-CallWords (Call.Open none cores) = Word cores
-CallWords (Call.Open (some m) cores) = HandleWords m × Word cores
-CallWords (Call.Channel h to) = HandleWords h × HandleWords to
-CallWords (Call.SetCores h cores) = HandleWords h × Word cores
-CallWords (Call.Root h a) = HandleWords h × AccessWords a
-CallWords (Call.Alias h l a) = HandleWords h × Word l × AccessWords a
-CallWords (Call.Carve h l a) = HandleWords h × Word l × AccessWords a
-CallWords (Call.Send h l target) = HandleWords h × Word l × Word target
-CallWords (Call.Revoke h l) = HandleWords h × Word l
-CallWords (Call.MakeRevoke h l) = HandleWords h × Word l
+CallWords (Call.Do c) = StepWords c
 CallWords Call.Pop = Unit {0}
-CallWords (Call.Permissions h) = HandleWords h
-CallWords (Call.Refcount h from to) = HandleWords h × Word from × Word to
-CallWords (Call.CoreMap h) = HandleWords h
-CallWords (Call.Holders a) = Word a
+CallWords (Call.Read r) = ReadingWords r

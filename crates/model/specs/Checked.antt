@@ -3,6 +3,4 @@ pub mod Compute
 pub mod Script
 pub mod Edges
 pub mod OurCases
-pub mod Judged
-pub mod WrongPorts
 pub mod Example

@@ -1,13 +1,13 @@
 -- Stored reach and counts at an address, and the counts over the regions that demand 3 compares them with (document 01, **Book**).
 use mathlib.Core.Path.{_≡_}
 use Prim.Native.Nat.{ℕ, suc, _+_}
-use mathlib.Core.Bool.{Bool, true, false, not, _&&_}
+use mathlib.Core.Bool.{Bool, false, not, _&&_}
 use mathlib.Core.Option.{Option, none, some}
 use mathlib.Core.List.{List, [], _∷_}
 use lib.Dec.{eqb, ltb, leb}
-use Rattle.rights.specs.Rights.{has, READ, WRITE, EXEC, SUPER}
 use Rattle.model.specs.Lists.{if_then_else_, oneIf, any}
 use Rattle.model.specs.State.{State, Region, Root, Alias, Carve, Counts, Record, domainAt}
+use Rattle.model.specs.Fields.{Field, get, passes, each}
 
 -- ---- what is stored
 
@@ -16,7 +16,7 @@ abbrev pub holds : ℕ → ℕ → ℕ → Bool
 holds s e a = leb s a && ltb a e
 
 abbrev pub noCounts : Counts
-noCounts = record { reach = 0; read = 0; write = 0; exec = 0; super = 0; uncacheable = 0 }
+noCounts = each (λ f. 0) 0
 
 -- "Stored reach and counts at an address are those of the domain's record there, else 0."
 abbrev pub countsAt : List Record → ℕ → Counts
@@ -44,17 +44,10 @@ tally rs d a t i [] = 0
 tally rs d a t i (none ∷ l) = tally rs d a t (suc i) l
 tally rs d a t i (some g ∷ l) = oneIf (countsFor rs d a i g && t (g .rights)) + tally rs d a t (suc i) l
 
--- the number of live regions that count for domain d at address a, and of those that have a right
-abbrev pub regionReach : List (Option Region) → ℕ → ℕ → ℕ
-regionReach rs d a = tally rs d a (λ r. true) 0 rs
-
-abbrev pub regionCount : List (Option Region) → ℕ → ℕ → ℕ → ℕ
-regionCount rs flag d a = tally rs d a (λ r. has r flag) 0 rs
+-- the number of live regions that count for domain d at address a; for a right, of those that have it
+abbrev pub regionCount : Field → List (Option Region) → ℕ → ℕ → ℕ
+regionCount f rs d a = tally rs d a (passes f) 0 rs
 
 -- Stored counts agree with the regions in the five numbers that demand 3 defines; the uncacheable count is not among them.
-pub record Agree (rs : List (Option Region)) (d a : ℕ) (k : Counts) : Type 0 where
-  pub reach : k .reach ≡ regionReach rs d a
-  pub read : k .read ≡ regionCount rs READ d a
-  pub write : k .write ≡ regionCount rs WRITE d a
-  pub exec : k .exec ≡ regionCount rs EXEC d a
-  pub super : k .super ≡ regionCount rs SUPER d a
+abbrev pub Agree : List (Option Region) → ℕ → ℕ → Counts → Type 0
+Agree rs d a k = (f : Field) → get f k ≡ regionCount f rs d a

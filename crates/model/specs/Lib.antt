@@ -2,6 +2,7 @@
 pub mod Lists
 pub mod Outcome
 pub mod State
+pub mod Fields
 pub mod Pool
 pub mod Locals
 pub mod Updates

@@ -1,7 +1,7 @@
 -- Functions on lists and tests that the definitions share. Lists are counted from 0.
 use mathlib.Core.Path.{_≡_}
 use Prim.Native.Nat.{ℕ, zero, suc, _+_}
-use mathlib.Core.Bool.{Bool, true, false, _||_}
+use mathlib.Core.Bool.{Bool, true, false, _&&_, _||_}
 use mathlib.Core.Option.{Option, none, some}
 use mathlib.Core.List.{List, [], _∷_}
 use lib.Dec.{eqb}
@@ -32,6 +32,11 @@ isEmpty (x ∷ l) = false
 abbrev pub any {ℓ} : {A : Type ℓ} → (A → Bool) → List A → Bool
 any p [] = false
 any p (x ∷ l) = p x || any p l
+
+-- Do all pass the test?
+abbrev pub every {ℓ} : {A : Type ℓ} → (A → Bool) → List A → Bool
+every p [] = true
+every p (x ∷ l) = p x && every p l
 
 -- how many pass the test
 abbrev pub count {ℓ} : {A : Type ℓ} → (A → Bool) → List A → ℕ

@@ -1,6 +1,5 @@
 -- What a call does to lent tables and a lent work area, whatever they hold (document 01, "Memory and who can be refused"). Contracts cite this.
 use mathlib.Core.Path.{_≡_}
-use mathlib.Core.Logic.{_≢_}
 use Prim.Native.Nat.{ℕ}
 use mathlib.Core.Bool.{not}
 use mathlib.Core.List.{List}
@@ -11,7 +10,7 @@ use Rattle.model.specs.State.{Sizes, Handle, Access, State}
 use Rattle.model.specs.Making.{goodSizes, emptyTables}
 use Rattle.model.specs.Readings.{IsHolders, fillRun}
 use Rattle.model.specs.Layout.{words, lengthFor}
-use Rattle.model.specs.Perform.{Call, Reply, Answer, step}
+use Rattle.model.specs.Perform.{Reading, Call, Reply, Answer, step}
 use Rattle.model.specs.Sound.{Sound}
 
 -- The tables t are the words of the sound state s, and "The work area has the tables' length."
@@ -29,6 +28,23 @@ pub record Fit (t w : List ℕ) (z : Sizes) : Type 0 where
 abbrev pub zeroed : List ℕ → List ℕ
 zeroed w = replicate (length w) 0
 
+-- Every call but making is on tables that are there.
+abbrev pub NotMake : Call → Type 0
+NotMake (Call.Make z) = ⊥
+NotMake (Call.Do c) = Unit {0}
+NotMake Call.Pop = Unit {0}
+NotMake (Call.Read r) = Unit {0}
+
+-- The calls that the definitions settle: not making, of which the first three cases speak, and not the holders, whose order is left open.
+abbrev pub Settled : Call → Type 0
+Settled (Call.Make z) = ⊥
+Settled (Call.Do c) = Unit {0}
+Settled Call.Pop = Unit {0}
+Settled (Call.Read (Reading.Permissions h)) = Unit {0}
+Settled (Call.Read (Reading.Refcount h from to)) = Unit {0}
+Settled (Call.Read (Reading.CoreMap h)) = Unit {0}
+Settled (Call.Read (Reading.Holders a)) = ⊥
+
 -- `After t w c a t′ w′`: the call c on tables t and work area w is answered a, and leaves t′ and w′.
 pub data After (t w : List ℕ) : Call → Answer → List ℕ → List ℕ → Type 0 where
   -- making: "2 Sizes, one outside its limits (empty tables only, before 1 ..)"
@@ -37,11 +53,11 @@ pub data After (t w : List ℕ) : Call → Answer → List ℕ → List ℕ → 
   badLengths : (z : Sizes) → T (goodSizes z) → ¬ Fit t w z → After t w (Call.Make z) (Answer.no memory) t (zeroed w)
   made : (z : Sizes) → T (goodSizes z) → Fit t w z → After t w (Call.Make z) (Answer.yes Reply.done) (words (emptyTables z)) (zeroed w)
   -- any other call: "1 Memory, either length wrong or tables not sound"
-  notSound : (c : Call) → ((z : Sizes) → c ≢ Call.Make z) → ((s : State) → ¬ Lent t w s) → After t w c (Answer.no memory) t (zeroed w)
+  notSound : (c : Call) → NotMake c → ((s : State) → ¬ Lent t w s) → After t w c (Answer.no memory) t (zeroed w)
   -- on sound tables what the model says: on refusal the state, and so the tables, are as found
-  performed : (c : Call) (s : State) → ((z : Sizes) → c ≢ Call.Make z) → ((a : ℕ) → c ≢ Call.Holders a) → Lent t w s → After t w c (step s c .0) (words (step s c .1)) (zeroed w)
+  performed : (c : Call) (s : State) → Settled c → Lent t w s → After t w c (step s c .0) (words (step s c .1)) (zeroed w)
   -- the holders' order is left open
-  held : (a : ℕ) (s : State) (l : List ℕ) → Lent t w s → IsHolders a s l → After t w (Call.Holders a) (Answer.yes (Reply.domainList l)) t (zeroed w)
+  held : (a : ℕ) (s : State) (l : List ℕ) → Lent t w s → IsHolders a s l → After t w (Call.Read (Reading.Holders a)) (Answer.yes (Reply.domainList l)) t (zeroed w)
 
 -- A reading whose list l is written into a lent run (**Reading**): "the answer is the whole number of records"; refused, the run is as found.
 pub data Filled {A : Type 0} (t w : List ℕ) (c : Call) (reply : List A → Reply) (run : List A) : Answer → List ℕ → List ℕ → List A → Type 0 where
@@ -50,7 +66,7 @@ pub data Filled {A : Type 0} (t w : List ℕ) (c : Call) (reply : List A → Rep
 
 -- "The permission list is filled into a lent run of records"; "Holders fill a run of domain slots likewise".
 abbrev pub AfterPermissions : List ℕ → List ℕ → Handle → List Access → Answer → List ℕ → List ℕ → List Access → Type 0
-AfterPermissions t w h run = Filled t w (Call.Permissions h) Reply.permissionList run
+AfterPermissions t w h run = Filled t w (Call.Read (Reading.Permissions h)) Reply.permissionList run
 
 abbrev pub AfterHolders : List ℕ → List ℕ → ℕ → List ℕ → Answer → List ℕ → List ℕ → List ℕ → Type 0
-AfterHolders t w a run = Filled t w (Call.Holders a) Reply.domainList run
+AfterHolders t w a run = Filled t w (Call.Read (Reading.Holders a)) Reply.domainList run

@@ -16,22 +16,32 @@ use Rattle.model.specs.Layout.{updateWords, lengthFor}
 -- ---- calls and answers
 
 -- The calls, with what the caller names. All numbers are plain; `CallWords` says which of them a program can give.
+
+-- A step changes the tables, or is refused.
+pub data Step : Type 0 where
+  Open : Option Handle → ℕ → Step
+  Channel : Handle → Handle → Step
+  SetCores : Handle → ℕ → Step
+  Root : Handle → Access → Step
+  Alias : Handle → ℕ → Access → Step
+  Carve : Handle → ℕ → Access → Step
+  Send : Handle → ℕ → ℕ → Step
+  Revoke : Handle → ℕ → Step
+  MakeRevoke : Handle → ℕ → Step
+
+-- A reading leaves the tables.
+pub data Reading : Type 0 where
+  Permissions : Handle → Reading
+  Refcount : Handle → ℕ → ℕ → Reading
+  CoreMap : Handle → Reading
+  Holders : ℕ → Reading
+
+-- A call: making, a step, the pop of the oldest update, or a reading.
 pub data Call : Type 0 where
   Make : Sizes → Call
-  Open : Option Handle → ℕ → Call
-  Channel : Handle → Handle → Call
-  SetCores : Handle → ℕ → Call
-  Root : Handle → Access → Call
-  Alias : Handle → ℕ → Access → Call
-  Carve : Handle → ℕ → Access → Call
-  Send : Handle → ℕ → ℕ → Call
-  Revoke : Handle → ℕ → Call
-  MakeRevoke : Handle → ℕ → Call
+  Do : Step → Call
   Pop : Call
-  Permissions : Handle → Call
-  Refcount : Handle → ℕ → ℕ → Call
-  CoreMap : Handle → Call
-  Holders : ℕ → Call
+  Read : Reading → Call
 
 -- What an accepted call answers: nothing, the new domain, the local slot, the update popped, or what was read.
 pub data Reply : Type 0 where
@@ -80,27 +90,31 @@ answer f m = m >>= λ (a, s). ok (f a, s)
 abbrev silent : Outcome State → Outcome (Reply × State)
 silent m = m >>= λ s. ok (done, s)
 
--- a reading: the state is as it was
-abbrev read : {A : Type 0} → (A → Reply) → State → Outcome A → Outcome (Reply × State)
-read f s m = m >>= λ a. ok (f a, s)
+-- What a step does: the reply and the new state, or the refusal.
+unfoldable pub performStep : State → Step → Outcome (Reply × State)
+performStep s (Open m cores) = answer domain (openDomain m cores s)
+performStep s (Channel h to) = answer local (openChannel h to s)
+performStep s (SetCores h cores) = silent (setCores h cores s)
+performStep s (Root h a) = answer local (createRootRegion h a s)
+performStep s (Alias h l a) = answer local (aliasRegion h l a s)
+performStep s (Carve h l a) = answer local (carveRegion h l a s)
+performStep s (Send h l target) = answer local (send h l target s)
+performStep s (Revoke h l) = silent (revoke h l s)
+performStep s (MakeRevoke h l) = answer local (createRevokeCapa h l s)
 
--- What a call does: the reply and the new state, or the refusal.
+-- What is read, or the refusal.
+unfoldable pub readTables : State → Reading → Outcome Reply
+readTables s (Permissions h) = permissions h s >>= λ l. ok (permissionList l)
+readTables s (Refcount h from to) = getRefcount h from to s >>= λ n. ok (number n)
+readTables s (CoreMap h) = coreMap h s >>= λ n. ok (number n)
+readTables s (Holders a) = ok (domainList (holders a s))
+
+-- What a call does: the reply and the new state, or the refusal. After a reading the state is as it was.
 unfoldable pub perform : State → Call → Outcome (Reply × State)
 perform s (Make z) = silent (makeAnew z s)
-perform s (Open m cores) = answer domain (openDomain m cores s)
-perform s (Channel h to) = answer local (openChannel h to s)
-perform s (SetCores h cores) = silent (setCores h cores s)
-perform s (Root h a) = answer local (createRootRegion h a s)
-perform s (Alias h l a) = answer local (aliasRegion h l a s)
-perform s (Carve h l a) = answer local (carveRegion h l a s)
-perform s (Send h l target) = answer local (send h l target s)
-perform s (Revoke h l) = silent (revoke h l s)
-perform s (MakeRevoke h l) = answer local (createRevokeCapa h l s)
+perform s (Do c) = performStep s c
 perform s Pop = answer popped (ok (pop s))
-perform s (Permissions h) = read permissionList s (permissions h s)
-perform s (Refcount h from to) = read number s (getRefcount h from to s)
-perform s (CoreMap h) = read number s (coreMap h s)
-perform s (Holders a) = ok (domainList (holders a s), s)
+perform s (Read r) = readTables s r >>= λ a. ok (a, s)
 
 -- ---- a list of calls
 

@@ -11,12 +11,13 @@ use lib.ListN.{length, getD}
 use Rattle.rights.specs.Rights.{allowed}
 use Rattle.model.specs.Lists.{oneIf, isSome, any, count, Each, slotOf, In}
 use Rattle.model.specs.State.{Word, Handle, Pool, Capa, noCapa, region, regionRevoke, management, channel, LocalList, Record, Domain, parentOf, Region, Update, permission, cleanup, Queue, State}
+use Rattle.model.specs.Fields.{Field}
 use Rattle.model.specs.Pool.{handleOf, sameHandle, isLive}
 use Rattle.model.specs.Updates.{isPermissionOf}
 use Rattle.model.specs.Tracker.{mergeable}
 use Rattle.model.specs.Tree.{isCarve, isRootKind, accessOf, overlaps, childrenOf}
 use Rattle.model.specs.Making.{goodSizes}
-use Rattle.model.specs.Counts.{holds, regionReach, Agree}
+use Rattle.model.specs.Counts.{holds, regionCount, Agree}
 
 -- ---- pools
 
@@ -168,7 +169,7 @@ pub record TrackerSound (regions : List (Option Region)) (d : ℕ) (l : List Rec
   -- "and an uncacheable count of 0 or 1"
   pub uncacheable : Each (λ q. q .counts .uncacheable ≤ 1) l
   -- "each address where a live region counts for a domain lies in a record of that domain"
-  pub covered : (a : ℕ) → 0 < regionReach regions d a → T (any (λ q. holds (q .start) (q .end) a) l)
+  pub covered : (a : ℕ) → 0 < regionCount Field.Reach regions d a → T (any (λ q. holds (q .start) (q .end) a) l)
 
 -- ---- the update ring
 
@@ -199,22 +200,31 @@ pub record QueueSound (n : ℕ) (domainPool : Pool) (domains : List (Option Doma
 
 -- ---- the whole paragraph
 
-pub record Sound (s : State) : Type 0 where
+-- Everything outside the trackers, their pool and the ring: no field looks at these.
+pub record OutsideSound (s : State) : Type 0 where
   -- "(a stored size outside its limits included)"
   pub sizesGood : T (goodSizes (s .sizes))
-  -- "every pool .. slot is in use or free once"; for records also "on one list"
+  -- "every pool .. slot is in use or free once"
   pub domainsLength : length (s .domains) ≡ s .sizes .domains
   pub regionsLength : length (s .regions) ≡ s .sizes .regions
   pub domainPool : PoolSound (s .sizes .domains) (inUse (s .domains)) (s .domainPool)
   pub regionPool : PoolSound (s .sizes .regions) (inUse (s .regions)) (s .regionPool)
-  pub recordPool : PoolSound (s .sizes .records) (recordUses (s .domains)) (s .recordPool)
   -- every live region
   pub regions : (i : ℕ) (g : Region) → In (s .regions) i g → RegionSound (s .regions) i g
   pub owners : (i : ℕ) (g : Region) → In (s .regions) i g → OwnerSound (s .regionPool) (s .domains) i g
   -- every live domain
   pub managers : (d : ℕ) (x : Domain) → In (s .domains) d x → ManagerSound (s .domainPool) (s .domains) d x
   pub lists : (d : ℕ) (x : Domain) → In (s .domains) d x → ListSound (s .sizes .slots) (s .regionPool) (s .regions) (s .domainPool) (s .domains) (x .locals)
-  pub trackers : (d : ℕ) (x : Domain) → In (s .domains) d x → TrackerSound (s .regions) d (x .tracker)
   pub coresWords : (d : ℕ) (x : Domain) → In (s .domains) d x → Word (x .cores)
-  -- the ring
+
+-- The trackers with their pool.
+pub record TrackersSound (s : State) : Type 0 where
+  -- "every pool .. slot is in use or free once", and "each tracker record is on one list"
+  pub recordPool : PoolSound (s .sizes .records) (recordUses (s .domains)) (s .recordPool)
+  -- every live domain
+  pub trackers : (d : ℕ) (x : Domain) → In (s .domains) d x → TrackerSound (s .regions) d (x .tracker)
+
+pub record Sound (s : State) : Type 0 where
+  pub outside : OutsideSound s
+  pub tracked : TrackersSound s
   pub queue : QueueSound (s .sizes .updates) (s .domainPool) (s .domains) (s .queue)

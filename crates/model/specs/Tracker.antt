@@ -3,26 +3,23 @@ use Prim.Native.Nat.{ℕ, _+_, _-_, min, max}
 use mathlib.Core.Bool.{Bool, false, not, _&&_, _||_}
 use mathlib.Core.List.{List, [], _∷_, _++_}
 use lib.Dec.{eqb, ltb}
-use Rattle.model.specs.Lists.{if_then_else_, oneIf, isEmpty}
+use Rattle.model.specs.Lists.{if_then_else_, oneIf, isEmpty, any, every}
 use Rattle.model.specs.Outcome.{Outcome, ok, _>>=_, noTracker}
-use Rattle.rights.specs.Rights.{has, READ, WRITE, EXEC, SUPER, UNCACHEABLE}
+use Rattle.rights.specs.Rights.{has, UNCACHEABLE}
 use Rattle.model.specs.State.{Counts, Record, Pool}
+use Rattle.model.specs.Fields.{fields, get, counter, each}
 use Rattle.model.specs.Pool.{allocate, free}
-
--- 1 for a right that the word has, else 0 (`as_counters`)
-abbrev pub one : ℕ → ℕ → ℕ
-one rights flag = oneIf (has rights flag)
 
 -- The counts of a new record: "the uncacheable count is 1 or 0 by the rights that made the record".
 abbrev pub newCounts : ℕ → Counts
-newCounts r = record { reach = 1; read = one r READ; write = one r WRITE; exec = one r EXEC; super = one r SUPER; uncacheable = one r UNCACHEABLE }
+newCounts r = each (λ f. counter f r) (oneIf (has r UNCACHEABLE))
 
 -- Gain "adds one", loss "subtracts one"; "later gains and losses don't change" the uncacheable count.
 abbrev pub raise : ℕ → Counts → Counts
-raise r k = record { reach = k .reach + 1; read = k .read + one r READ; write = k .write + one r WRITE; exec = k .exec + one r EXEC; super = k .super + one r SUPER; uncacheable = k .uncacheable }
+raise r k = each (λ f. get f k + counter f r) (k .uncacheable)
 
 abbrev pub lower : ℕ → Counts → Counts
-lower r k = record { reach = k .reach - 1; read = k .read - one r READ; write = k .write - one r WRITE; exec = k .exec - one r EXEC; super = k .super - one r SUPER; uncacheable = k .uncacheable }
+lower r k = each (λ f. get f k - counter f r) (k .uncacheable)
 
 -- "A change means a count left or came to 0."
 abbrev pub crosses : ℕ → ℕ → Bool
@@ -30,11 +27,11 @@ crosses a b = if eqb a 0 then not (eqb b 0) else eqb b 0
 
 -- the uncacheable count is never a change
 abbrev pub changes : Counts → Counts → Bool
-changes j k = crosses (j .reach) (k .reach) || crosses (j .read) (k .read) || crosses (j .write) (k .write) || crosses (j .exec) (k .exec) || crosses (j .super) (k .super)
+changes j k = any (λ f. crosses (get f j) (get f k)) fields
 
 -- "six equal counts" (`same_counts`)
 abbrev pub sameCounts : Counts → Counts → Bool
-sameCounts j k = eqb (j .reach) (k .reach) && eqb (j .read) (k .read) && eqb (j .write) (k .write) && eqb (j .exec) (k .exec) && eqb (j .super) (k .super) && eqb (j .uncacheable) (k .uncacheable)
+sameCounts j k = every (λ f. eqb (get f j) (get f k)) fields && eqb (j .uncacheable) (k .uncacheable)
 
 -- another end; other counts
 abbrev pub withEnd : ℕ → Record → Record

@@ -6,9 +6,10 @@ use native.Mathlib.Omega.{arith}
 use borrow.Rule.Slice.PartMut.{putMid}
 use lib.ListN.{length, getD, set, take, drop}
 use Rattle.words.specs.Cuts.{cuts, offset}
-use Rattle.tables.specs.declared.sizes.Sizes.{Sizes}
+use Rattle.sizes.specs.declared.Sizes.{Sizes}
 use Rattle.tables.specs.Tables.{Tables, Arena, withDomainPool, withRegionPool, withRecordPool}
-use Rattle.tables.specs.View.{sizesOf, view, widths, poolWidth, ofParts, Sized, Left, arenaOf}
+use Rattle.sizes.specs.Sizes.{sizesOf, widths, poolWidth}
+use Rattle.tables.specs.View.{view, ofParts, Sized, Left, arenaOf}
 use Rattle.tables.specs.Sections.{section, section-inside, section-lent, section-back, only-left}
 use Rattle.pools.specs.declared.Pool.{Pool}
 use Rattle.pools.specs.declared.Pool.the-variants.{Domains, Regions, Records}

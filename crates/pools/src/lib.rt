@@ -3,7 +3,8 @@ ghost use mathlib.Core.Path.{_≡_};
 ghost use lib.ListN.{getD};
 ghost use Rattle.words.specs.Cuts.{offset};
 ghost use Rattle.tables.specs.Tables.{withDomainPool, withRegionPool, withRecordPool};
-ghost use Rattle.tables.specs.View.{sizesOf, widths, view, Sized, Left};
+ghost use Rattle.sizes.specs.Sizes.{sizesOf, widths};
+ghost use Rattle.tables.specs.View.{view, Sized, Left};
 ghost use Rattle.arena.specs.Arena.{given, allocated, answerTo, freed, isFreeB, liveB, capacityOf, newArena};
 ghost use Rattle.pools.specs.Pools.{poolSection, poolSlots, poolOf, withPool, PoolAt};
 ghost use Rattle.pools.specs.Wiping.{wiped, slotFreed};
@@ -250,13 +251,6 @@ pub fn region_capacity(t: &[u64]) -> usize
     ensures { λ r. ⌜ r ≡ capacityOf (view (now (t .entry)) .regionPool) ⌝ }
 {
     capacity_in(t, Pool::Regions)
-}
-
-pub fn record_capacity(t: &[u64]) -> usize
-    requires { ⌜ Sized (now t) ⌝ }
-    ensures { λ r. ⌜ r ≡ capacityOf (view (now (t .entry)) .recordPool) ⌝ }
-{
-    capacity_in(t, Pool::Records)
 }
 
 pub fn domain_generation(t: &[u64], i: usize) -> u64

@@ -11,8 +11,10 @@ use lib.ListN.{length, getD, length-map}
 use Rattle.words.specs.Cases.{pick, both}
 use Rattle.tables.specs.declared.Region.{Region}
 use Rattle.tables.specs.Tables.{Tables, recordAt}
-use Rattle.tables.specs.View.{sizesOf, view, ofParts}
-use Rattle.region.specs.Links.{slotTo, firstLink}
+use Rattle.sizes.specs.Sizes.{sizesOf}
+use Rattle.tables.specs.View.{view, ofParts}
+use Rattle.tables.specs.Links.{slotTo}
+use Rattle.tracker_records.specs.Links.{firstLink}
 use Rattle.readings.specs.Readings.{recordsFrom, recordsOf, meets, largestReach, permissionOf, permissionList}
 
 pub records-end : (n : ℕ) (s : Tables) (k : ℕ) → n ≤ 0 → recordsFrom n s k ≡ []

@@ -7,7 +7,8 @@ use native.Mathlib.Numerals.{add-one}
 use native.Mathlib.Omega.{arith}
 use lib.ListN.{length, getD, set}
 use Rattle.tables.specs.Tables.{Tables}
-use Rattle.tables.specs.View.{sizesOf, view, ofParts}
+use Rattle.sizes.specs.Sizes.{sizesOf}
+use Rattle.tables.specs.View.{view, ofParts}
 use Rattle.readings.specs.Readings.{isHolder, holdersFrom, holdersOf, fillRun}
 
 -- the list from place n on

@@ -11,7 +11,8 @@ use lib.ListN.{length, set, length-set}
 use Rattle.words.specs.Cases.{pick}
 use Rattle.tables.specs.Tables.{Tables, recordAt}
 use Rattle.readings.specs.declared.Permission.{Permission}
-use Rattle.region.specs.Links.{slotTo, firstLink}
+use Rattle.tables.specs.Links.{slotTo}
+use Rattle.tracker_records.specs.Links.{firstLink}
 use Rattle.readings.specs.Readings.{recordsFrom, recordsOf, permissionOf, permissionList, foundAt, planOf, fillRun}
 
 abbrev listFrom : Tables → ℕ → ℕ → List Permission

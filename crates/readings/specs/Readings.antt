@@ -12,7 +12,8 @@ use Rattle.arena.specs.Arena.{isFreeB}
 use Rattle.readings.specs.declared.Permission.{Permission}
 use Rattle.readings.specs.declared.Found.{Found}
 use Rattle.readings.specs.declared.Plan.{Plan}
-use Rattle.region.specs.Links.{slotTo, firstLink}
+use Rattle.tables.specs.Links.{slotTo}
+use Rattle.tracker_records.specs.Links.{firstLink}
 
 -- ---- a domain's records, in the order of their links (`tracker` of the model's Domain)
 

@@ -6,9 +6,9 @@ ghost use Rattle.words.specs.Cases.{pick};
 ghost use Rattle.tables.specs.View.{view, Sized};
 ghost use Rattle.arena.specs.Arena.{isFreeB};
 ghost use Rattle.readings.specs.Readings.{recordsOf, flagIf, rightsOf, meets, largestReach, permissionList, foundAt, planOf, isHolder, holdersOf, fillRun};
-use region::counts;
-use region::links;
 use tables::Region;
+use tracker_records::counts;
+use tracker_records::links;
 
 // A record of the permission list. Its three words leave no byte unsettled.
 #[repr(C)]
@@ -79,7 +79,7 @@ fn largest_reach(t: &[u64], d: usize, start: u64, last: u64) -> u64
         if k == 0 {
             return most;
         }
-        let q = tables::load_record(t, links::slot_to(k));
+        let q = tables::load_record(t, tables::slot_to(k));
         most = larger(most, reach_in(q, start, last));
         k = q.next;
         left -= 1;
@@ -113,7 +113,7 @@ fn count(t: &[u64], d: usize) -> u64
         if k == 0 {
             return n;
         }
-        let q = tables::load_record(t, links::slot_to(k));
+        let q = tables::load_record(t, tables::slot_to(k));
         k = q.next;
         n += 1;
         left -= 1;
@@ -139,7 +139,7 @@ pub fn found_at(t: &[u64], k: u64) -> Found
     requires { ⌜ Sized (now t) ⌝ }
     ensures { λ r. ⌜ r ≡ foundAt (view (now (t .entry))) k ⌝ }
 {
-    let q = tables::load_record(t, links::slot_to(k));
+    let q = tables::load_record(t, tables::slot_to(k));
     let p = Permission {
         start: q.start,
         end: q.end,

@@ -1,4 +1,3 @@
 -- Pools in the tables.
 pub mod Pools
-pub mod ThreePools
 pub mod PoolSlots

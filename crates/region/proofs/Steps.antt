@@ -8,7 +8,8 @@ use borrow.Author.Tests.{eq-eqb, ne-eqb}
 use lib.ListN.{getD}
 use Rattle.tables.specs.declared.Region.{Region}
 use Rattle.tables.specs.Tables.{Tables, withRecord}
-use Rattle.tables.specs.View.{sizesOf, view, ofParts, Sized, Left}
+use Rattle.sizes.specs.Sizes.{sizesOf}
+use Rattle.tables.specs.View.{view, ofParts, Sized, Left}
 use Rattle.answers.specs.declared.Answer.{Answer}
 use Rattle.answers.specs.declared.Answer.the-variants.{Done, Refused}
 use Rattle.answers.specs.declared.Refusal.{Refusal}
@@ -20,8 +21,9 @@ use Rattle.region.specs.declared.Progress.{Progress}
 use Rattle.region.specs.declared.Progress.the-variants.{Going, Over}
 use Rattle.region.specs.declared.Way.{Way}
 use Rattle.region.specs.declared.Way.the-variants.{Merge}
-use Rattle.region.specs.Counts.{lowered, changesB}
-use Rattle.region.specs.Links.{slotTo, withNext, firstLink, freedRecord}
+use Rattle.tracker_records.specs.Counts.{lowered, changesB}
+use Rattle.tables.specs.Links.{slotTo}
+use Rattle.tracker_records.specs.Links.{withNext, firstLink, freedRecord}
 use Rattle.region.specs.Turns.{onward, nextOf, droppedOf, lowerTurn, turn, walk, walked}
 
 -- the memory as it was found

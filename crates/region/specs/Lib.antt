@@ -1,3 +1,1 @@
-pub mod Counts
-pub mod Links
 pub mod Turns

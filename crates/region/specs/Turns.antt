@@ -15,8 +15,9 @@ use Rattle.region.specs.declared.Progress.{Progress}
 use Rattle.region.specs.declared.Progress.the-variants.{Going, Over}
 use Rattle.region.specs.declared.Way.{Way}
 use Rattle.region.specs.declared.Way.the-variants.{Add, Remove, Merge}
-use Rattle.region.specs.Counts.{made, raised, lowered, changesB, mergeableB}
-use Rattle.region.specs.Links.{slotTo, withEnd, withNext, firstLink, inserted, split, freedRecord}
+use Rattle.tracker_records.specs.Counts.{made, raised, lowered, changesB, mergeableB}
+use Rattle.tables.specs.Links.{slotTo}
+use Rattle.tracker_records.specs.Links.{withEnd, withNext, firstLink, inserted, split, freedRecord}
 
 -- what a turn comes to, and the tables that it leaves
 pub record Turn : Type 0 where

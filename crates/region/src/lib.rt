@@ -1,7 +1,5 @@
 // The tracker (region.rs; document 01, **Tracker**): a domain's records, linked in rising order.
 // A link is a record's slot + 1, or 0 for none; the record before the first one is the domain itself, link 0.
-pub mod counts;
-pub mod links;
 pub mod tracker;
 pub mod turns;
 

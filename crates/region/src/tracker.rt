@@ -6,10 +6,10 @@ use crate::AccessRights;
 use crate::Cursor;
 use crate::Progress;
 use crate::Way;
-use crate::links;
 use crate::turns;
 use answers::Answer;
 use answers::Refusal;
+use tracker_records::links;
 
 // A walk from the first record on. The bound on its turns is met only where links go round.
 fn walk(t: &mut [u64], d: usize, way: Way, a: AccessRights, changed: u64) -> Answer

@@ -7,11 +7,11 @@ use crate::AccessRights;
 use crate::Cursor;
 use crate::Progress;
 use crate::Way;
-use crate::counts;
-use crate::links;
 use answers::Answer;
 use answers::Refusal;
 use tables::Region;
+use tracker_records::counts;
+use tracker_records::links;
 
 // On to the record behind the one at hand, with the range done up to `start`.
 fn going(c: Cursor, next: u64, start: u64, change: bool) -> Progress
@@ -49,7 +49,7 @@ fn cut_start(t: &mut [u64], c: Cursor) -> Progress
     ensures { λ r. ⌜ r ≡ cutStart (view (now (t .entry))) c .answer ⌝ }
     ensures { λ _. ⌜ Left (now (t .exit)) (cutStart (view (now (t .entry))) c .tables) ⌝ }
 {
-    match links::split_region_at(t, links::slot_to(c.at), c.start) {
+    match links::split_region_at(t, tables::slot_to(c.at), c.start) {
         Answer::Done(link) => Progress::Going(Cursor {
             prev: c.at,
             at: link,
@@ -66,7 +66,7 @@ fn cut_end(t: &mut [u64], c: Cursor, end: u64) -> Progress
     ensures { λ r. ⌜ r ≡ cutEnd (view (now (t .entry))) c end .answer ⌝ }
     ensures { λ _. ⌜ Left (now (t .exit)) (cutEnd (view (now (t .entry))) c end .tables) ⌝ }
 {
-    match links::split_region_at(t, links::slot_to(c.at), end) {
+    match links::split_region_at(t, tables::slot_to(c.at), end) {
         Answer::Done(link) => Progress::Going(c),
         Answer::Refused(r) => Progress::Over(Answer::Refused(r)),
     }
@@ -79,7 +79,7 @@ fn raise(t: &mut [u64], a: AccessRights, c: Cursor, q: Region) -> Progress
     ensures { λ _. ⌜ Left (now (t .exit)) (raiseTurn (view (now (t .entry))) a c q .tables) ⌝ }
 {
     let p = counts::increase(q, a.ops);
-    tables::store_record(t, links::slot_to(c.at), p);
+    tables::store_record(t, tables::slot_to(c.at), p);
     going(c, q.next, q.end, counts::change(q, p))
 }
 
@@ -90,7 +90,7 @@ fn lower(t: &mut [u64], d: usize, a: AccessRights, c: Cursor, q: Region) -> Prog
     ensures { λ _. ⌜ Left (now (t .exit)) (lowerTurn (view (now (t .entry))) d a c q .tables) ⌝ }
 {
     let p = counts::decrease(q, a.ops);
-    let i = links::slot_to(c.at);
+    let i = tables::slot_to(c.at);
     let change = counts::change(q, p);
     if p.ref_count != 0 {
         tables::store_record(t, i, p);
@@ -148,7 +148,7 @@ fn add(t: &mut [u64], d: usize, a: AccessRights, c: Cursor) -> Progress
     if c.at == 0 {
         return fill(t, d, a, c, a.end);
     }
-    let q = tables::load_record(t, links::slot_to(c.at));
+    let q = tables::load_record(t, tables::slot_to(c.at));
     add_at(t, d, a, c, q)
 }
 
@@ -182,7 +182,7 @@ fn remove(t: &mut [u64], d: usize, a: AccessRights, c: Cursor) -> Progress
     if c.at == 0 {
         return Progress::Over(Answer::Done(c.changed));
     }
-    let q = tables::load_record(t, links::slot_to(c.at));
+    let q = tables::load_record(t, tables::slot_to(c.at));
     remove_at(t, d, a, c, q)
 }
 
@@ -195,8 +195,8 @@ fn merge_at(t: &mut [u64], c: Cursor, q: Region, n: Region) -> Progress
     if !counts::mergeable(q, n) {
         return going(c, q.next, c.start, false);
     }
-    tables::store_record(t, links::slot_to(c.at), links::bounded(q, n.end, n.next));
-    match links::free(t, links::slot_to(q.next)) {
+    tables::store_record(t, tables::slot_to(c.at), links::bounded(q, n.end, n.next));
+    match links::free(t, tables::slot_to(q.next)) {
         Answer::Done(v) => Progress::Going(c),
         Answer::Refused(r) => Progress::Over(Answer::Refused(r)),
     }
@@ -211,11 +211,11 @@ fn merge(t: &mut [u64], c: Cursor) -> Progress
     if c.at == 0 {
         return Progress::Over(Answer::Done(c.changed));
     }
-    let q = tables::load_record(t, links::slot_to(c.at));
+    let q = tables::load_record(t, tables::slot_to(c.at));
     if q.next == 0 {
         return Progress::Over(Answer::Done(c.changed));
     }
-    let n = tables::load_record(t, links::slot_to(q.next));
+    let n = tables::load_record(t, tables::slot_to(q.next));
     merge_at(t, c, q, n)
 }
 

@@ -1,5 +1,5 @@
 // Calls as they come in: eight words of eight bytes each, the lowest byte first.
-use crate::Call;
+use crate::Request;
 use libc::STDIN_FILENO;
 
 fn wide(x: u8) -> u64 {
@@ -21,8 +21,8 @@ fn word(b: &[u8], k: usize) -> u64 {
     low | high << 32
 }
 
-fn call_of(b: &[u8]) -> Call {
-    Call {
+fn call_of(b: &[u8]) -> Request {
+    Request {
         kind: word(b, 0),
         a: word(b, 1),
         b: word(b, 2),
@@ -34,7 +34,7 @@ fn call_of(b: &[u8]) -> Call {
 }
 
 // The next call; kind `END` where the input ends.
-pub fn next() -> Call {
+pub fn next() -> Request {
     let mut b = [0u8; 64];
     let n = io::read_full(STDIN_FILENO, &mut b);
     let mut c = call_of(&b);

@@ -3,10 +3,12 @@
 ghost use Rattle.tables.specs.View.{Sized};
 use answers::Answer;
 use answers::Refusal;
+use calls::Call;
+use calls::Child;
 use region::AccessRights;
 use rights::Rights;
+use sizes::Sizes;
 use tables::Handle;
-use tables::Sizes;
 
 pub mod input;
 pub mod output;
@@ -18,8 +20,8 @@ pub const MAKE: u64 = 16;
 
 pub const END: u64 = 17;
 
-// A call: its kind and its arguments.
-pub struct Call {
+// A call as it is read: its kind and its arguments.
+pub struct Request {
     pub kind: u64,
     pub a: u64,
     pub b: u64,
@@ -38,23 +40,30 @@ fn access(start: u64, end: u64, rights: u64) -> AccessRights {
     AccessRights { start, end, ops }
 }
 
-// The calls that change the tables.
-fn change(t: &mut [u64], c: Call) -> Answer
-    requires { ⌜ Sized (now t) ⌝ }
-{
+// The part of the region in local slot c of the domain.
+fn child(domain: Handle, c: Request) -> Child {
+    Child {
+        domain,
+        local: c.c as usize,
+        access: access(c.d, c.e, c.f),
+    }
+}
+
+// The calls that are one step on the tables, by their kinds 0 to 9.
+fn call_of(c: Request) -> Call {
     let h = handle(c.a, c.b);
     let kind = c.kind;
     match kind {
-        0 => calls::open_domain(t, c.a),
-        1 => calls::open_under(t, h, c.c),
-        2 => calls::create_root_region(t, h, access(c.c, c.d, c.e)),
-        3 => calls::alias_region(t, h, c.c as usize, access(c.d, c.e, c.f)),
-        4 => calls::carve_region(t, h, c.c as usize, access(c.d, c.e, c.f)),
-        5 => calls::send(t, h, c.c as usize, c.d as usize),
-        6 => calls::revoke(t, h, c.c as usize),
-        7 => calls::create_revoke_capa(t, h, c.c as usize),
-        8 => calls::open_channel(t, h, handle(c.c, c.d)),
-        _ => calls::set_cores(t, h, c.c),
+        0 => Call::Open(c.a),
+        1 => Call::OpenUnder(h, c.c),
+        2 => Call::Root(h, access(c.c, c.d, c.e)),
+        3 => Call::Alias(child(h, c)),
+        4 => Call::Carve(child(h, c)),
+        5 => Call::Send(h, c.c as usize, c.d as usize),
+        6 => Call::Revoke(h, c.c as usize),
+        7 => Call::MakeRevoke(h, c.c as usize),
+        8 => Call::Channel(h, handle(c.c, c.d)),
+        _ => Call::SetCores(h, c.c),
     }
 }
 
@@ -83,7 +92,7 @@ fn number_of(r: Refusal) -> u64 {
 
 // The generation of domain d; 0 in memory of a wrong length.
 fn generation_of(t: &[u64], d: usize) -> u64 {
-    if tables::is_sized(t) {
+    if sizes::is_sized(t) {
         pools::domain_generation(t, d)
     } else {
         0
@@ -91,11 +100,11 @@ fn generation_of(t: &[u64], d: usize) -> u64 {
 }
 
 // A call that changes the tables, which are put back where it is refused.
-fn run_change(t: &mut [u64], w: &mut [u64], c: Call)
+fn run_change(t: &mut [u64], w: &mut [u64], c: Request)
     requires { ⌜ Sized (now t) ⌝ }
 {
     words::copy(t, w);
-    match change(t, c) {
+    match calls::step(t, call_of(c)) {
         Answer::Done(v) => {
             output::number(0);
             output::number(v);
@@ -123,7 +132,7 @@ fn run_pop(t: &mut [u64])
 }
 
 // The readings of a domain.
-fn run_reading(t: &[u64], c: Call)
+fn run_reading(t: &[u64], c: Request)
     requires { ⌜ Sized (now t) ⌝ }
 {
     if !pools::domain_is_live(t, handle(c.a, c.b)) {
@@ -175,7 +184,7 @@ fn raise(t: &mut [u64], i: usize, v: u64) {
     }
 }
 
-fn run(t: &mut [u64], w: &mut [u64], c: Call)
+fn run(t: &mut [u64], w: &mut [u64], c: Request)
     requires { ⌜ Sized (now t) ⌝ }
 {
     if c.kind <= 9 {
@@ -194,22 +203,22 @@ fn run(t: &mut [u64], w: &mut [u64], c: Call)
 
 // The words that tables of these sizes have; 0 for none.
 fn length_for(z: Sizes) -> usize {
-    if tables::limits_hold(z) {
-        tables::total_of(z)
+    if sizes::limits_hold(z) {
+        sizes::total_of(z)
     } else {
         0
     }
 }
 
 fn make(t: &mut [u64], z: Sizes) {
-    if tables::limits_hold(z) {
-        if tables::total_of(z) == t.len() {
+    if sizes::limits_hold(z) {
+        if sizes::total_of(z) == t.len() {
             making::make_empty(t, z);
         }
     }
 }
 
-fn sizes_of(c: Call) -> Sizes {
+fn sizes_of(c: Request) -> Sizes {
     Sizes {
         domains: c.a as usize,
         slots: c.b as usize,
@@ -219,13 +228,13 @@ fn sizes_of(c: Call) -> Sizes {
     }
 }
 
-fn run_sized(t: &mut [u64], w: &mut [u64], c: Call) {
-    if tables::is_sized(t) {
+fn run_sized(t: &mut [u64], w: &mut [u64], c: Request) {
+    if sizes::is_sized(t) {
         run(t, w, c);
     }
 }
 
-fn answer(t: &mut [u64], w: &mut [u64], c: Call) {
+fn answer(t: &mut [u64], w: &mut [u64], c: Request) {
     if c.kind == MAKE {
         make(t, sizes_of(c));
         output::number(0);
@@ -235,14 +244,14 @@ fn answer(t: &mut [u64], w: &mut [u64], c: Call) {
 }
 
 // A line of the output.
-fn line(t: &mut [u64], w: &mut [u64], c: Call) {
+fn line(t: &mut [u64], w: &mut [u64], c: Request) {
     answer(t, w, c);
     output::number(output::hash(t));
     output::line_end();
 }
 
 // The words that the tables have after a call, n before it.
-fn length_after(n: usize, c: Call) -> usize {
+fn length_after(n: usize, c: Request) -> usize {
     if c.kind == MAKE {
         length_for(sizes_of(c))
     } else {
@@ -251,7 +260,7 @@ fn length_after(n: usize, c: Call) -> usize {
 }
 
 // One call on tables of n words; answers how many words they have after it.
-fn turn(t: &mut [u64], w: &mut [u64], n: usize, c: Call) -> usize {
+fn turn(t: &mut [u64], w: &mut [u64], n: usize, c: Request) -> usize {
     let m = length_after(n, c);
     if t.len() < m {
         return n;

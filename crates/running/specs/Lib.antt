@@ -1,6 +1,5 @@
 pub mod Given
-pub mod Kinds
-pub mod Openings
+pub mod Named
 pub mod Takes
 pub mod Outcomes
 pub mod Chains

@@ -36,8 +36,8 @@ makes : (t w : List ℕ) (z : Sizes) (y : Answer) (t₁ w₁ : List ℕ) → T (
 makes t w z y t₁ w₁ g (badSizes v p) = absurd (both-ways (goodSizes z) g p)
 makes t w z y t₁ w₁ g (badLengths v p f) = Makes.unfit f
 makes t w z y t₁ w₁ g (made v p f) = Makes.fits f
-makes t w z y t₁ w₁ g (notSound d m n) = absurd (m z refl)
-makes t w z y t₁ w₁ g (performed d s m n l) = absurd (m z refl)
+makes t w z y t₁ w₁ g (notSound d q n) = absurd q
+makes t w z y t₁ w₁ g (performed d s q l) = absurd q
 
 -- ---- the promise: r is what making replied, which left t₁ and w₁
 

@@ -41,8 +41,8 @@ after-clear : (t w : List ℕ) (c : Call) (y : Answer) (t₂ w₂ : List ℕ) �
 after-clear t w c y t₂ w₂ (badSizes z p) = refl
 after-clear t w c y t₂ w₂ (badLengths z p f) = refl
 after-clear t w c y t₂ w₂ (made z p f) = refl
-after-clear t w c y t₂ w₂ (notSound d m n) = refl
-after-clear t w c y t₂ w₂ (performed d s m n l) = refl
+after-clear t w c y t₂ w₂ (notSound d q n) = refl
+after-clear t w c y t₂ w₂ (performed d s q l) = refl
 after-clear t w c y t₂ w₂ (held a s l k i) = refl
 
 zeroed-twice : (w : List ℕ) → zeroed (zeroed w) ≡ zeroed w

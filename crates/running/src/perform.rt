@@ -1,68 +1,74 @@
-// The call that a record names, on lent tables, by the exported functions of crate engine.
+// The call that a record names, on lent tables, by the one function that runs every such call.
 ghost use mathlib.Core.Path.{_≡_};
-ghost use Prim.Native.Nat.{_≤_};
-ghost use Rattle.model.specs.Perform.{Call};
+ghost use Prim.Native.Nat.{_<_};
+ghost use Rattle.model.specs.Perform.{Step, Call};
+ghost use Rattle.model.specs.CallWords.{StepWords};
 ghost use Rattle.frame.specs.Replies.{replyOf, Returns};
+ghost use Rattle.frame.specs.Steps.{stepNamed};
 ghost use Rattle.script_records.specs.Script.{managerOf};
 ghost use Rattle.script_records.specs.Parsed.{callIn};
 ghost use Rattle.running.specs.Given.{Given};
-ghost use Rattle.running.specs.Openings.{slotReply};
-use engine::capas;
-use engine::domains;
-use engine::regions;
-use frame::DomainReply;
+ghost use Rattle.running.specs.Named.{Names, accessNamed};
 use frame::Reply;
+use region::AccessRights;
+use rights::Rights;
 use script_records::Record;
+use tables::Handle;
 
 // "slot 2^64 − 1 is no manager".
 const NO_MANAGER: u64 = 18446744073709551615;
 
-// An opening's line shows the new domain's slot.
-fn slot_reply(x: DomainReply) -> Reply
-    ensures { λ r. ⌜ r ≡ slotReply x ⌝ }
+// A range with rights, which were tested.
+fn access(start: u64, end: u64, rights: u64) -> AccessRights
+    requires { ⌜ rights < 256 ⌝ }
+    ensures { λ x. ⌜ x ≡ accessNamed start end rights ⌝ }
 {
-    Reply {
-        refusal: x.refusal,
-        value: x.slot,
-    }
+    let ops = Rights(rights as u8);
+    AccessRights { start, end, ops }
 }
 
 // Kind 1: open.
-fn run_open(t: &mut [u64], w: &mut [u64], r: Record) -> Reply
-    ensures { λ x. ⌜ Returns replyOf (now (t .entry)) (now (w .entry)) (Call.Open (managerOf (r .a) (r .b)) (r .c)) x (now (t .exit)) (now (w .exit)) ⌝ }
+fn opening(r: Record) -> calls::Call
+    ensures { λ x. ⌜ (stepNamed x ≡ Step.Open (managerOf (r .a) (r .b)) (r .c)) × StepWords (stepNamed x) ⌝ }
 {
     if r.a == NO_MANAGER {
-        return slot_reply(domains::mityvurno_open_domain(t, w, r.c));
+        return calls::Call::Open(r.c);
     }
-    slot_reply(domains::mityvurno_open_under(t, w, r.a, r.b, r.c))
+    let manager = Handle {
+        slot: r.a,
+        generation: r.b,
+    };
+    calls::Call::OpenUnder(manager, r.c)
 }
 
-// Kinds 2, 3 and 4: root, alias and carve.
-fn run_region(t: &mut [u64], w: &mut [u64], r: Record) -> Reply
-    requires { ⌜ Given r × 2 ≤ r .kind × r .kind ≤ 4 ⌝ }
-    ensures { λ x. ⌜ Returns replyOf (now (t .entry)) (now (w .entry)) (callIn r) x (now (t .exit)) (now (w .exit)) ⌝ }
+// Root, alias, carve, send, revoke and RegionRevoke are kinds 2 to 7.
+fn call_of(r: Record) -> calls::Call
+    requires { ⌜ Given r ⌝ }
+    ensures { λ x. ⌜ Names r x ⌝ }
 {
-    if r.kind == 2 {
-        return regions::mityvurno_create_root_region(t, w, r.a, r.b, r.c, r.d, r.e as u8);
+    let domain = Handle {
+        slot: r.a,
+        generation: r.b,
+    };
+    let local = r.c as usize;
+    let kind = r.kind;
+    match kind {
+        1 => opening(r),
+        2 => calls::Call::Root(domain, access(r.c, r.d, r.e)),
+        3 => calls::Call::Alias(calls::Child {
+            domain,
+            local,
+            access: access(r.d, r.e, r.f),
+        }),
+        4 => calls::Call::Carve(calls::Child {
+            domain,
+            local,
+            access: access(r.d, r.e, r.f),
+        }),
+        5 => calls::Call::Send(domain, local, r.d as usize),
+        6 => calls::Call::Revoke(domain, local),
+        _ => calls::Call::MakeRevoke(domain, local),
     }
-    if r.kind == 3 {
-        return regions::mityvurno_alias_region(t, w, r.a, r.b, r.c, r.d, r.e, r.f as u8);
-    }
-    regions::mityvurno_carve_region(t, w, r.a, r.b, r.c, r.d, r.e, r.f as u8)
-}
-
-// Kinds 5, 6 and 7: send, revoke and RegionRevoke.
-fn run_capa(t: &mut [u64], w: &mut [u64], r: Record) -> Reply
-    requires { ⌜ 5 ≤ r .kind × r .kind ≤ 7 ⌝ }
-    ensures { λ x. ⌜ Returns replyOf (now (t .entry)) (now (w .entry)) (callIn r) x (now (t .exit)) (now (w .exit)) ⌝ }
-{
-    if r.kind == 5 {
-        return capas::mityvurno_send(t, w, r.a, r.b, r.c, r.d);
-    }
-    if r.kind == 6 {
-        return capas::mityvurno_revoke(t, w, r.a, r.b, r.c);
-    }
-    capas::mityvurno_create_revoke_capa(t, w, r.a, r.b, r.c)
 }
 
 // The call that a record names.
@@ -70,11 +76,5 @@ pub fn run(t: &mut [u64], w: &mut [u64], r: Record) -> Reply
     requires { ⌜ Given r ⌝ }
     ensures { λ x. ⌜ Returns replyOf (now (t .entry)) (now (w .entry)) (callIn r) x (now (t .exit)) (now (w .exit)) ⌝ }
 {
-    if r.kind == 1 {
-        return run_open(t, w, r);
-    }
-    if r.kind <= 4 {
-        return run_region(t, w, r);
-    }
-    run_capa(t, w, r)
+    frame::run(t, w, call_of(r))
 }

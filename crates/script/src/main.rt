@@ -1,17 +1,16 @@
 // The script program (document 01, "The script program"): runs the records of standard input on tables of its own and prints a line for
 // each, then what the domains reach, and then the queue. No contract can say what is read or printed: the calls' contracts are those of crate
-// running, the lists' of crates listing and engine. Here it is proved that every byte of a line has its place, and that reading on loses none.
+// running, the lists' of crates listing and engine. That every byte of a line has its place, and that reading on loses none, is proved in crate byte_io.
 ghost use Prim.Native.Nat.{_+_, _≤_};
 ghost use lib.ListN.{length};
 ghost use Rattle.tables.specs.View.{Sized};
+use byte_io::input;
+use byte_io::input::Hand;
+use byte_io::output;
 use engine::make;
 use engine::queue;
 use frame::Reply;
-use input::Hand;
 use running::Taken;
-
-pub mod input;
-pub mod output;
 
 // The words of tables of 8 domains, 16 slots, 128 regions, 128 records and 32 updates.
 const WORDS: usize = 3273;
@@ -115,7 +114,7 @@ fn list_domains(text: &mut [u8], n: usize, t: &[u64]) -> usize
     ensures { λ r. ⌜ r ≤ length (now (text .entry)) ⌝ }
 {
     let mut m = n;
-    if tables::is_sized(t) {
+    if sizes::is_sized(t) {
         let mut d = 0;
         while d < 8 {
             m = list_domain(text, m, t, d);

@@ -4,7 +4,7 @@ use Prim.Native.Nat.{ℕ}
 use mathlib.Core.Bool.{true, false}
 use mathlib.Core.Option.{none}
 use mathlib.Core.List.{List, [], _∷_, _++_}
-use Rattle.model.specs.Perform.{Call}
+use Rattle.model.specs.Perform.{Step, Call}
 use Rattle.model.specs.Checked.Script.{dom, access, example}
 use Rattle.script_records.specs.Script.{number, kindOf, frontOf, callsFrom, scriptCalls}
 
@@ -42,12 +42,12 @@ two-bytes : number (1 ∷ 2 ∷ []) ≡ 513
 two-bytes = refl
 
 -- "slot 2^64 − 1 is no manager", whatever the generation
-no-manager : scriptCalls (head 26 1 ++ ones ++ small 5 ++ small 9) ≡ (Call.Open none 9 ∷ [], false)
+no-manager : scriptCalls (head 26 1 ++ ones ++ small 5 ++ small 9) ≡ (Call.Do (Step.Open none 9) ∷ [], false)
 unfolding scriptCalls callsFrom frontOf kindOf
 no-manager = refl
 
 -- rights of 255, and of 256
-most-rights : scriptCalls (head 42 2 ++ caller 0 ++ small 0 ++ small 1 ++ small 255) ≡ (Call.Root (dom 0) (access 0 1 255) ∷ [], false)
+most-rights : scriptCalls (head 42 2 ++ caller 0 ++ small 0 ++ small 1 ++ small 255) ≡ (Call.Do (Step.Root (dom 0) (access 0 1 255)) ∷ [], false)
 unfolding scriptCalls callsFrom frontOf kindOf
 most-rights = refl
 
@@ -59,19 +59,19 @@ more-rights = refl
 abbrev revoked : List ℕ
 revoked = head 26 6 ++ caller 0 ++ small 1
 
-other-kind : scriptCalls (revoked ++ head 26 8 ++ caller 0 ++ small 1 ++ revoked) ≡ (Call.Revoke (dom 0) 1 ∷ [], true)
+other-kind : scriptCalls (revoked ++ head 26 8 ++ caller 0 ++ small 1 ++ revoked) ≡ (Call.Do (Step.Revoke (dom 0) 1) ∷ [], true)
 unfolding scriptCalls callsFrom frontOf kindOf
 other-kind = refl
 
-other-length : scriptCalls (revoked ++ head 34 6 ++ caller 0 ++ small 1 ++ small 0 ++ revoked) ≡ (Call.Revoke (dom 0) 1 ∷ [], true)
+other-length : scriptCalls (revoked ++ head 34 6 ++ caller 0 ++ small 1 ++ small 0 ++ revoked) ≡ (Call.Do (Step.Revoke (dom 0) 1) ∷ [], true)
 unfolding scriptCalls callsFrom frontOf kindOf
 other-length = refl
 
-cut-length : scriptCalls (revoked ++ 26 ∷ []) ≡ (Call.Revoke (dom 0) 1 ∷ [], true)
+cut-length : scriptCalls (revoked ++ 26 ∷ []) ≡ (Call.Do (Step.Revoke (dom 0) 1) ∷ [], true)
 unfolding scriptCalls callsFrom frontOf kindOf
 cut-length = refl
 
-cut-record : scriptCalls (revoked ++ head 26 7 ++ caller 0) ≡ (Call.Revoke (dom 0) 1 ∷ [], true)
+cut-record : scriptCalls (revoked ++ head 26 7 ++ caller 0) ≡ (Call.Do (Step.Revoke (dom 0) 1) ∷ [], true)
 unfolding scriptCalls callsFrom frontOf kindOf
 cut-record = refl
 

@@ -6,7 +6,7 @@ use lib.Dec.{eqb, ltb}
 use lib.ListN.{length, take, drop}
 use Rattle.model.specs.Lists.{if_then_else_}
 use Rattle.model.specs.State.{Handle, Access}
-use Rattle.model.specs.Perform.{Call}
+use Rattle.model.specs.Perform.{Step, Call}
 use Rattle.script_records.specs.declared.Record.{Record}
 use Rattle.script_records.specs.declared.Parsed.{Parsed}
 use Rattle.script_records.specs.declared.Parsed.the-variants.{Short, Bad, Call as Whole}
@@ -51,13 +51,13 @@ accessIn start end rights = record { start = start; end = end; rights = rights }
 -- the call of a record of a kind; a record that is parsed has one
 abbrev pub callFor : Option Kind → Record → Call
 callFor none r = Call.Pop
-callFor (some opening) r = Call.Open (managerOf (r .a) (r .b)) (r .c)
-callFor (some root) r = Call.Root (handleIn r) (accessIn (r .c) (r .d) (r .e))
-callFor (some alias) r = Call.Alias (handleIn r) (r .c) (accessIn (r .d) (r .e) (r .f))
-callFor (some carve) r = Call.Carve (handleIn r) (r .c) (accessIn (r .d) (r .e) (r .f))
-callFor (some send) r = Call.Send (handleIn r) (r .c) (r .d)
-callFor (some revoke) r = Call.Revoke (handleIn r) (r .c)
-callFor (some makeRevoke) r = Call.MakeRevoke (handleIn r) (r .c)
+callFor (some opening) r = Call.Do (Step.Open (managerOf (r .a) (r .b)) (r .c))
+callFor (some root) r = Call.Do (Step.Root (handleIn r) (accessIn (r .c) (r .d) (r .e)))
+callFor (some alias) r = Call.Do (Step.Alias (handleIn r) (r .c) (accessIn (r .d) (r .e) (r .f)))
+callFor (some carve) r = Call.Do (Step.Carve (handleIn r) (r .c) (accessIn (r .d) (r .e) (r .f)))
+callFor (some send) r = Call.Do (Step.Send (handleIn r) (r .c) (r .d))
+callFor (some revoke) r = Call.Do (Step.Revoke (handleIn r) (r .c))
+callFor (some makeRevoke) r = Call.Do (Step.MakeRevoke (handleIn r) (r .c))
 
 unfoldable pub callIn : Record → Call
 callIn r = callFor (kindOf (r .kind)) r

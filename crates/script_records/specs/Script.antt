@@ -7,7 +7,7 @@ use lib.Dec.{eqb, ltb}
 use lib.ListN.{length, take, drop}
 use Rattle.model.specs.Lists.{if_then_else_}
 use Rattle.model.specs.State.{Handle, Access}
-use Rattle.model.specs.Perform.{Call}
+use Rattle.model.specs.Perform.{Step, Call}
 
 -- ---- numbers and fields
 
@@ -60,21 +60,21 @@ handle slot gen = record { slot = slot; gen = gen }
 abbrev pub managerOf : ℕ → ℕ → Option Handle
 managerOf slot gen = if eqb slot (2 ^ 64 - 1) then none else some (handle slot gen)
 
--- A call that names rights; none for "rights above 255".
-abbrev pub withRights : (Access → Call) → ℕ → ℕ → ℕ → Option Call
-withRights f start end rights = if ltb 255 rights then none else some (f (record { start = start; end = end; rights = rights }))
+-- A step that names rights; none for "rights above 255".
+abbrev pub withRights : (Access → Step) → ℕ → ℕ → ℕ → Option Call
+withRights f start end rights = if ltb 255 rights then none else some (Call.Do (f (record { start = start; end = end; rights = rights })))
 
 -- The call of a record, f i its field i: "1 open (manager slot, generation, cores ..), 2 root (domain slot, generation, start, end, rights), 3 alias and
 -- 4 carve (domain slot, generation, local, start, end, rights), 5 send (domain slot, generation, local, target local), 6 revoke and 7 RegionRevoke (domain
 -- slot, generation, local)".
 abbrev pub callOf : Kind → (ℕ → ℕ) → Option Call
-callOf opening f = some (Call.Open (managerOf (f 0) (f 1)) (f 2))
-callOf root f = withRights (Call.Root (handle (f 0) (f 1))) (f 2) (f 3) (f 4)
-callOf alias f = withRights (Call.Alias (handle (f 0) (f 1)) (f 2)) (f 3) (f 4) (f 5)
-callOf carve f = withRights (Call.Carve (handle (f 0) (f 1)) (f 2)) (f 3) (f 4) (f 5)
-callOf send f = some (Call.Send (handle (f 0) (f 1)) (f 2) (f 3))
-callOf revoke f = some (Call.Revoke (handle (f 0) (f 1)) (f 2))
-callOf makeRevoke f = some (Call.MakeRevoke (handle (f 0) (f 1)) (f 2))
+callOf opening f = some (Call.Do (Step.Open (managerOf (f 0) (f 1)) (f 2)))
+callOf root f = withRights (Step.Root (handle (f 0) (f 1))) (f 2) (f 3) (f 4)
+callOf alias f = withRights (Step.Alias (handle (f 0) (f 1)) (f 2)) (f 3) (f 4) (f 5)
+callOf carve f = withRights (Step.Carve (handle (f 0) (f 1)) (f 2)) (f 3) (f 4) (f 5)
+callOf send f = some (Call.Do (Step.Send (handle (f 0) (f 1)) (f 2) (f 3)))
+callOf revoke f = some (Call.Do (Step.Revoke (handle (f 0) (f 1)) (f 2)))
+callOf makeRevoke f = some (Call.Do (Step.MakeRevoke (handle (f 0) (f 1)) (f 2)))
 
 -- ---- one record
 

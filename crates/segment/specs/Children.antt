@@ -7,7 +7,7 @@ use Rattle.tables.specs.declared.RegionCapa.{RegionCapa}
 use Rattle.tables.specs.Tables.{Tables, regionAt, withRegion}
 use Rattle.rights.specs.Rights.{allowed}
 use Rattle.region.specs.declared.AccessRights.{AccessRights}
-use Rattle.region.specs.Links.{linkTo, slotTo}
+use Rattle.tables.specs.Links.{linkTo, slotTo}
 use Rattle.segment.specs.declared.Place.{Place}
 use Rattle.segment.specs.declared.Overlap.{Overlap}
 use Rattle.segment.specs.declared.Search.{Search}

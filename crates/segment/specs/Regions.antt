@@ -1,5 +1,4 @@
--- Regions made, sent and revoked (document 01, **Send**, **Revoke**; segment.rs).
-use mathlib.Core.Bool.{Bool}
+-- Regions made and sent (document 01, **Send**; segment.rs).
 use Prim.Native.Nat.{ℕ, zero, suc, _%_}
 use lib.Dec.{eqb, ltb}
 use Rattle.words.specs.Cases.{pick}
@@ -10,13 +9,13 @@ use Rattle.arena.specs.declared.Given.the-variants.{At, Full}
 use Rattle.arena.specs.Arena.{given, allocated, answerTo}
 use Rattle.pools.specs.declared.Pool.the-variants as pool
 use Rattle.pools.specs.Wiping.{slotFreed}
-use Rattle.rights.specs.Rights.{has, CLEANUP}
 use Rattle.answers.specs.declared.Refusal.the-variants.{Memory, NoRegion}
 use Rattle.answers.specs.Answers.{Step, done, refused, andThen}
 use Rattle.region.specs.declared.AccessRights.{AccessRights}
-use Rattle.region.specs.Links.{linkTo, slotTo, freedAnswer}
-use Rattle.domain.specs.Activate.{activate, deactivate, cleanup}
-use Rattle.segment.specs.Children.{withOwner, removeChild}
+use Rattle.tables.specs.Links.{linkTo, slotTo}
+use Rattle.tracker_records.specs.Links.{freedAnswer}
+use Rattle.domain.specs.Activate.{activate, deactivate}
+use Rattle.segment.specs.Children.{withOwner}
 
 -- a range with the rights of a stored word
 abbrev pub access : ℕ → ℕ → ℕ → AccessRights
@@ -63,37 +62,3 @@ unfoldable pub sendRegion : ℕ → ℕ → Tables → Step
 sendRegion i new s =
     let g = regionAt s i in
     sendFrom (slotTo (g .owner)) new (g .rights) (g .end) (suc (s .sizes .regions)) (g .start) (g .child) (withRegion s i (withOwner g (linkTo new)))
-
--- ---- revoke
-
--- a root, kind 1, is in no list (the model's leaveParent)
-unfoldable pub leaveParent : ℕ → Tables → Tables
-leaveParent i s = pick (eqb (regionAt s i .kind) 1) s (removeChild s (slotTo (regionAt s i .parent)) i)
-
--- what a carve, kind 3, held goes back to its parent's domain with the parent's rights (the model's giveBack)
-unfoldable pub giveBack : RegionCapa → Tables → Step
-giveBack g s =
-    let p = regionAt s (slotTo (g .parent)) in
-    pick (eqb (g .kind) 3) (activate (slotTo (p .owner)) (access (g .start) (g .end) (p .rights)) s) (done 0 s)
-
-unfoldable pub cleanupIf : RegionCapa → Tables → Step
-cleanupIf g s = pick (has (g .rights % 256) CLEANUP) (cleanup (g .start) (g .end) s) (done 0 s)
-
--- a region without children (the model's revokeLeaf)
-unfoldable pub revokeLeaf : ℕ → Tables → Step
-revokeLeaf i s =
-    let g = regionAt s i in
-    andThen (deactivate (slotTo (g .owner)) (access (g .start) (g .end) (g .rights)) (leaveParent i s)) (λ u s₁.
-    andThen (giveBack g s₁) (λ v s₂.
-    andThen (freedRegion i s₂) (λ w. cleanupIf g)))
-
--- head child by head child; n falls with each region above and each region freed (the model's revokeRegion)
-unfoldable pub revokeRegion : ℕ → ℕ → Tables → Step
-revokeRegion zero i s = refused Memory s
-revokeRegion (suc n) i s =
-    let k = regionAt s i .child in
-    pick (eqb k 0) (revokeLeaf i s) (andThen (revokeRegion n (slotTo k) s) (λ v. revokeRegion n i))
-
--- as many as there are live regions
-unfoldable pub revoke : ℕ → Tables → Step
-revoke i s = revokeRegion (s .regionPool .count) i s

@@ -8,7 +8,6 @@ use crate::Overlap;
 use crate::Place;
 use crate::Search;
 use region::AccessRights;
-use region::links;
 use rights::Rights;
 use tables::RegionCapa;
 
@@ -50,7 +49,7 @@ fn find(t: &[u64], p: usize, search: Search) -> Place
         if at == 0 {
             return Place { prev, at };
         }
-        let r = tables::load_region(t, links::slot_to(at));
+        let r = tables::load_region(t, tables::slot_to(at));
         if ends(search, at, r) {
             return Place { prev, at };
         }
@@ -73,7 +72,7 @@ fn link_child(t: &mut [u64], p: usize, prev: u64, link: u64)
         r.child = link;
         tables::store_region(t, p, r);
     } else {
-        let i = links::slot_to(prev);
+        let i = tables::slot_to(prev);
         let mut r = tables::load_region(t, i);
         r.next = link;
         tables::store_region(t, i, r);
@@ -89,7 +88,7 @@ pub fn insert_child(t: &mut [u64], p: usize, i: usize)
     let c = find(t, p, Search::After(r.start));
     r.next = c.at;
     tables::store_region(t, i, r);
-    link_child(t, p, c.prev, links::link_to(i as u64));
+    link_child(t, p, c.prev, tables::link_to(i as u64));
 }
 
 // Region i leaves the children of region p.
@@ -99,7 +98,7 @@ pub fn remove_child(t: &mut [u64], p: usize, i: usize)
 {
     let mut r = tables::load_region(t, i);
     let next = r.next;
-    let c = find(t, p, Search::Link(links::link_to(i as u64)));
+    let c = find(t, p, Search::Link(tables::link_to(i as u64)));
     r.next = 0;
     tables::store_region(t, i, r);
     link_child(t, p, c.prev, next);

@@ -1,8 +1,7 @@
-// The region tree (segment.rs; document 01, **Alias** to **Child lists**): child lists, checks, effective ranges, revoke.
+// The region tree (segment.rs; document 01, **Alias** to **Child lists**): child lists, checks, effective ranges.
 // A link is a region's slot + 1, or 0 for none.
 pub mod children;
 pub mod regions;
-pub mod revocation;
 pub mod send;
 
 pub use children::check_alias;
@@ -13,7 +12,6 @@ pub use regions::access;
 pub use regions::capa_for;
 pub use regions::free_region;
 pub use regions::new_region;
-pub use revocation::revoke;
 pub use send::send_region;
 
 // Where a search of a child list stands: the links of the child before and of the child at hand.

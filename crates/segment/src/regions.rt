@@ -8,7 +8,6 @@ use answers::Refusal;
 use arena::Freed;
 use arena::Given;
 use region::AccessRights;
-use region::links;
 use tables::RegionCapa;
 
 // A range with the rights of a stored word.
@@ -26,7 +25,7 @@ pub fn capa_for(d: usize, kind: u64, parent: u64, a: AccessRights) -> RegionCapa
     let ops = a.ops;
     RegionCapa {
         kind,
-        owner: links::link_to(d as u64),
+        owner: tables::link_to(d as u64),
         parent,
         start: a.start,
         end: a.end,

@@ -5,7 +5,6 @@ ghost use Rattle.segment.specs.Regions.{sendFrom, sendRegion};
 use crate::regions;
 use answers::Answer;
 use answers::Refusal;
-use region::links;
 use tables::RegionCapa;
 
 // The range from `start` up to `end` less the carved children from `first` on; at most `limit` children.
@@ -31,7 +30,7 @@ fn send_from(
         if k == 0 {
             return regions::move_piece(t, old, new, rights, x, end);
         }
-        let c = tables::load_region(t, links::slot_to(k));
+        let c = tables::load_region(t, tables::slot_to(k));
         k = c.next;
         if c.kind != RegionCapa::CARVE {
             continue;
@@ -55,11 +54,11 @@ pub fn send_region(t: &mut [u64], i: usize, new: usize) -> Answer
     let limit = words::size(t, 2) + 1;
     let g = tables::load_region(t, i);
     let mut h = g;
-    h.owner = links::link_to(new as u64);
+    h.owner = tables::link_to(new as u64);
     tables::store_region(t, i, h);
     send_from(
         t,
-        links::slot_to(g.owner),
+        tables::slot_to(g.owner),
         new,
         g.rights,
         g.end,

@@ -8,11 +8,12 @@ use Rattle.words.specs.Cases.{pick}
 use Rattle.tables.specs.declared.Slot.{Slot}
 use Rattle.tables.specs.Tables.{Tables}
 use Rattle.arena.specs.Arena.{liveB}
-use Rattle.slots.specs.declared.SlotList.{SlotList}
-use Rattle.slots.specs.declared.Inserted.{Inserted}
-use Rattle.slots.specs.declared.Inserted.the-variants.{At, Full}
-use Rattle.slots.specs.Lists.{freeSlot, putIn, emptySlot, giveSlot, takeSlot, sweep}
-use Rattle.slots.specs.Record.{domainOr, listAt, withList}
+use Rattle.slot_list.specs.declared.SlotList.{SlotList}
+use Rattle.slot_list.specs.declared.Inserted.{Inserted}
+use Rattle.slot_list.specs.declared.Inserted.the-variants.{At, Full}
+use Rattle.slot_list.specs.Lists.{freeSlot, putIn, emptySlot, giveSlot, takeSlot}
+use Rattle.slots.specs.Sweep.{sweep}
+use Rattle.stored_slots.specs.Record.{domainOr, listAt, withList}
 
 -- by the kinds 0 to 5: None; free; Region and RegionRevoke; Management and Channel
 abbrev pub byKind : Bool → Bool → ℕ → Bool

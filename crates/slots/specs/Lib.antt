@@ -1,11 +1,3 @@
-pub mod Lists
-pub mod Record
-pub mod Rows
+pub mod Sweep
 pub mod Capas
 pub mod Steps
-pub mod Stacks
-pub mod Counting
-pub mod StackLaws
-pub mod SweepLaws
-pub mod Stored
-pub mod Calls

@@ -2,63 +2,26 @@
 use mathlib.Core.Path.{_≡_, refl, sym, ap, _∙_}
 use mathlib.Core.Bool.{Bool, true, false}
 use mathlib.Core.List.{List, [], _∷_}
-use Prim.Native.Nat.{ℕ, zero, suc, _+_, _-_, _≤_, _<_}
+use Prim.Native.Nat.{ℕ, suc, _+_, _-_, _≤_, _<_}
 use native.Mathlib.Numerals.{add-one}
 use native.Mathlib.Omega.{arith}
 use borrow.Author.Tests.{lt-ltb, le-ltb, ltb-true}
 use lib.Dec.{ltb}
-use lib.ListN.{length, getD, set, take, List·getD-eq-default}
-use lib.Seq.{getD-take, set-out}
+use lib.ListN.{getD, List·getD-eq-default}
 use Rattle.words.specs.Cases.{both, both-true, cmp, lt, ge}
-use Rattle.words.specs.Rows.{length-rows}
 use Rattle.tables.specs.declared.Slot.{Slot}
-use Rattle.tables.specs.Tables.{noSlot, headAt, slotAt, withDomains}
-use Rattle.tables.specs.View.{sizesOf, view, ofParts, Sized, Left}
-use Rattle.slots.specs.declared.SlotList.{SlotList}
-use Rattle.slots.specs.declared.Given.{Given}
-use Rattle.slots.specs.declared.Inserted.the-variants.{At, Full}
-use Rattle.slots.specs.Lists.{noList, freeSlot, isFreeB, slotIn, putIn, givesB, giveSlot, freed, sweepSlot, sweepFrom}
-use Rattle.slots.specs.Record.{domainOr, listOf, putList, listAt, withList}
-use Rattle.slots.specs.Rows.{domain-slots, no-domain}
+use Rattle.tables.specs.Tables.{noSlot, headAt, slotAt}
+use Rattle.sizes.specs.Sizes.{sizesOf}
+use Rattle.tables.specs.View.{view, Sized, Left}
+use Rattle.slot_list.specs.declared.SlotList.{SlotList}
+use Rattle.slot_list.specs.declared.Given.{Given}
+use Rattle.slot_list.specs.declared.Inserted.the-variants.{At, Full}
+use Rattle.slot_list.specs.Lists.{freeSlot, putIn, giveSlot, freed}
+use Rattle.slot_list.specs.Steps.{getD-any}
+use Rattle.slots.specs.Sweep.{sweepSlot, sweepFrom}
+use Rattle.stored_slots.specs.Record.{domainOr, listOf, listAt, withList}
+use Rattle.stored_slots.specs.Rows.{domain-slots, no-domain}
 use Rattle.slots.specs.Capas.{byKind, roomB, swept, withCapacity, withCapa, capaAt}
-
--- inside a list the default does not matter
-pub getD-any : {A : Type 0} (l : List A) (i : ℕ) (d e : A) → i < length l → getD l i d ≡ getD l i e
-getD-any [] i d e h = absurd (omega arith)
-getD-any (x ∷ l) zero d e h = refl
-getD-any (x ∷ l) (suc i) d e h = getD-any l i d e (omega arith)
-
--- ---- a list by value
-
-module _ (l : SlotList) (i : ℕ) where
-  pub slot-here : i < l .size → i < length (l .slots) → getD (l .slots) i noSlot ≡ slotIn l i
-  unfolding slotIn
-  slot-here h hl = getD-any (l .slots) i noSlot (freeSlot 0) hl ∙ sym (getD-take (l .size) (l .slots) i (freeSlot 0) h)
-
-  pub slot-past : length (take (l .size) (l .slots)) ≤ i → freeSlot 0 ≡ slotIn l i
-  unfolding slotIn
-  slot-past h = sym (List·getD-eq-default (take (l .size) (l .slots)) (freeSlot 0) h)
-
--- what giving reads and tests
-module _ (l : SlotList) (x : Slot) (room free b : Bool) (ex : x ≡ slotIn l (l .head)) (er : room ≡ both (ltb (l .head) (l .size)) (ltb (l .count) (l .size))) (ef : free ≡ isFreeB x) (eb : b ≡ both room free) where
-  gives-is : b ≡ givesB l
-  unfolding givesB
-  gives-is = rw (eb, ef, er, ex)
-
-  pub give-some : (m : SlotList) (z : Slot) → b ≡ true → z ≡ noSlot → m ≡ putIn l (l .head) z
-      → record { at = At (l .head); list = record { slots = m .slots; head = x .handle .slot; count = l .count + 1; size = m .size } } ≡ giveSlot l
-  unfolding giveSlot
-  give-some m z h ez em = rw (← gives-is, h, em, ez, ex)
-
-  pub give-room : b ≡ true → l .count < l .size
-  give-room h =
-      let f = both-true room free (sym eb ∙ h) in
-      let g = both-true (ltb (l .head) (l .size)) (ltb (l .count) (l .size)) (sym er ∙ f .0) in
-      ltb-true (l .count) (l .size) (g .1)
-
-  pub give-none : b ≡ false → record { at = Full; list = l } ≡ giveSlot l
-  unfolding giveSlot
-  give-none h = rw (← gives-is, h)
 
 -- ---- a turn of the sweep
 
@@ -94,50 +57,35 @@ module _ (region domain : Bool) (k : ℕ) where
 
 -- ---- a domain of the tables; its sizes are read from the words
 
-module _ (t : List ℕ) (d n : ℕ) (en : n ≡ getD t 0 0) where
-  pub domain-there : d < n → d < sizesOf t .domains
-  unfolding sizesOf
-  domain-there h = omega arith
+module _ (t : List ℕ) (d n : ℕ) (en : n ≡ getD t 0 0) (m : ℕ) (em : m ≡ getD t 1 0) where
+  pub room-is : (c : ℕ) → c ≡ headAt (view t) d .count → both (ltb d n) (ltb c m) ≡ roomB (view t) d
+  unfolding roomB listAt listOf headAt sizesOf
+  room-is c ec =
+      elim (cmp d n) [
+        | lt h ↦ rw (lt-ltb d n h, ec, em) (ap (ltb (domainOr (view t) d .head .count)) (sym (domain-slots t d (omega arith))))
+        | ge h ↦ rw (le-ltb d n h, no-domain t d (omega arith))
+      ]
 
-  pub no-list : n ≤ d → noList ≡ listAt (view t) d
-  unfolding listAt listOf sizesOf
-  no-list h = rw (no-domain t d (omega arith))
+  module _ (i : ℕ) (b : Bool) (eb : b ≡ both (ltb d n) (ltb i m)) where
+    pub capa-there : b ≡ true → slotAt (view t) d i ≡ capaAt (view t) d i
+    unfolding slotAt capaAt sizesOf
+    capa-there h =
+        let f = both-true (ltb d n) (ltb i m) (sym eb ∙ h) in
+        let hd = ltb-true d n (f .0) in
+        let hi = ltb-true i m (f .1) in
+        getD-any (domainOr (view t) d .slots) i noSlot (freeSlot 0) (omega (arith, domain-slots t d (omega arith)))
 
-  pub not-stored : (l : SlotList) → Sized t → n ≤ d → Left t (withList (view t) d l)
-  unfolding withList withDomains view ofParts sizesOf
-  not-stored l s h =
-      let e : set (view t .domains) d (putList (domainOr (view t) d) l) ≡ view t .domains = set-out (view t .domains) d _ (rw length-rows (omega arith)) in
-      record { seen = sym (ap (withDomains (view t)) e); sized = s }
-
-  module _ (m : ℕ) (em : m ≡ getD t 1 0) where
-    pub room-is : (c : ℕ) → c ≡ headAt (view t) d .count → both (ltb d n) (ltb c m) ≡ roomB (view t) d
-    unfolding roomB listAt listOf headAt sizesOf
-    room-is c ec =
+    pub capa-not : b ≡ false → freeSlot 0 ≡ capaAt (view t) d i
+    unfolding capaAt sizesOf
+    capa-not h =
         elim (cmp d n) [
-          | lt h ↦ rw (lt-ltb d n h, ec, em) (ap (ltb (domainOr (view t) d .head .count)) (sym (domain-slots t d (omega arith))))
-          | ge h ↦ rw (le-ltb d n h, no-domain t d (omega arith))
+          | ge hd ↦ rw (no-domain t d (omega arith))
+          | lt hd ↦
+              elim (cmp i m) [
+                | lt hi ↦ let z : _≡_ {A = ℕ} 0 1 = cc (lt-ltb d n hd, lt-ltb i m hi) in absurd (omega arith)
+                | ge hi ↦ sym (List·getD-eq-default (domainOr (view t) d .slots) (freeSlot 0) {n = i} (omega (arith, domain-slots t d (omega arith))))
+              ]
         ]
-
-    module _ (i : ℕ) (b : Bool) (eb : b ≡ both (ltb d n) (ltb i m)) where
-      pub capa-there : b ≡ true → slotAt (view t) d i ≡ capaAt (view t) d i
-      unfolding slotAt capaAt sizesOf
-      capa-there h =
-          let f = both-true (ltb d n) (ltb i m) (sym eb ∙ h) in
-          let hd = ltb-true d n (f .0) in
-          let hi = ltb-true i m (f .1) in
-          getD-any (domainOr (view t) d .slots) i noSlot (freeSlot 0) (omega (arith, domain-slots t d (omega arith)))
-
-      pub capa-not : b ≡ false → freeSlot 0 ≡ capaAt (view t) d i
-      unfolding capaAt sizesOf
-      capa-not h =
-          elim (cmp d n) [
-            | ge hd ↦ rw (no-domain t d (omega arith))
-            | lt hd ↦
-                elim (cmp i m) [
-                  | lt hi ↦ let z : _≡_ {A = ℕ} 0 1 = cc (lt-ltb d n hd, lt-ltb i m hi) in absurd (omega arith)
-                  | ge hi ↦ sym (List·getD-eq-default (domainOr (view t) d .slots) (freeSlot 0) {n = i} (omega (arith, domain-slots t d (omega arith))))
-                ]
-          ]
 
 -- ---- a full list is swept
 

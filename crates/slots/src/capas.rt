@@ -1,13 +1,11 @@
 // The capabilities of domain d, by the numbers of their slots.
 ghost use mathlib.Core.Path.{_≡_};
 ghost use Rattle.tables.specs.View.{view, Sized, Left};
-ghost use Rattle.slots.specs.Lists.{giveSlot};
-ghost use Rattle.slots.specs.Record.{listAt};
+ghost use Rattle.slot_list.specs.Lists.{giveSlot};
+ghost use Rattle.stored_slots.specs.Record.{listAt};
 ghost use Rattle.slots.specs.Capas.{roomB, withCapacity, withCapa, withoutCapa, withEmpty, capaAt};
-use crate::Inserted;
-use crate::list;
-use crate::record;
 use crate::sweep;
+use slot_list::Inserted;
 use tables::Slot;
 
 // Whether a slot is free.
@@ -29,8 +27,8 @@ pub fn has_capacity_for(t: &mut [u64], d: usize) -> bool
     if has_room(t, d) {
         return true;
     }
-    let list = sweep::free_invalid_capas(t, record::load_list(t, d));
-    record::store_list(t, d, list);
+    let list = sweep::free_invalid_capas(t, stored_slots::load_list(t, d));
+    stored_slots::store_list(t, d, list);
     has_room(t, d)
 }
 
@@ -40,11 +38,11 @@ pub fn insert_capa(t: &mut [u64], d: usize, capa: Slot) -> Inserted
     ensures { λ r. ⌜ r ≡ giveSlot (listAt (view (now (t .entry))) d) .at ⌝ }
     ensures { λ _. ⌜ Left (now (t .exit)) (withCapa (view (now (t .entry))) d capa) ⌝ }
 {
-    let g = list::give(record::load_list(t, d));
+    let g = slot_list::give(stored_slots::load_list(t, d));
     let at = g.at;
     let given = g.list;
     match at {
-        Inserted::At(i) => record::store_list(t, d, list::put(given, i, capa)),
+        Inserted::At(i) => stored_slots::store_list(t, d, slot_list::put(given, i, capa)),
         Inserted::Full => {}
     }
     at
@@ -55,8 +53,8 @@ pub fn remove_capa(t: &mut [u64], d: usize, i: usize)
     requires { ⌜ Sized (now t) ⌝ }
     ensures { λ _. ⌜ Left (now (t .exit)) (withoutCapa (view (now (t .entry))) d i) ⌝ }
 {
-    let list = list::take(record::load_list(t, d), i);
-    record::store_list(t, d, list);
+    let list = slot_list::take(stored_slots::load_list(t, d), i);
+    stored_slots::store_list(t, d, list);
 }
 
 // Slot i becomes None, still in use until a sweep (document 01, **Revoke**).
@@ -64,8 +62,8 @@ pub fn empty_capa(t: &mut [u64], d: usize, i: usize)
     requires { ⌜ Sized (now t) ⌝ }
     ensures { λ _. ⌜ Left (now (t .exit)) (withEmpty (view (now (t .entry))) d i) ⌝ }
 {
-    let list = list::empty(record::load_list(t, d), i);
-    record::store_list(t, d, list);
+    let list = slot_list::empty(stored_slots::load_list(t, d), i);
+    stored_slots::store_list(t, d, list);
 }
 
 // What slot i holds; a number too large answers a free slot.
@@ -76,6 +74,6 @@ pub fn capa_at(t: &[u64], d: usize, i: usize) -> Slot
     if words::both(d < words::size(t, 0), i < words::size(t, 1)) {
         tables::load_slot(t, d, i)
     } else {
-        list::free_slot(0)
+        slot_list::free_slot(0)
     }
 }

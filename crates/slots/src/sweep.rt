@@ -2,8 +2,7 @@
 ghost use mathlib.Core.Path.{_≡_};
 ghost use Rattle.tables.specs.View.{view, Sized};
 ghost use Rattle.slots.specs.Capas.{isInvalidB, swept};
-use crate::SlotList;
-use crate::list;
+use slot_list::SlotList;
 use tables::Slot;
 
 // None, or a dead handle. A kind that is no capability's, a free slot's too, is not invalid.
@@ -34,9 +33,9 @@ pub fn free_invalid_capas(t: &[u64], list: SlotList) -> SlotList
     while i < 128 {
         let x = slots[i];
         if words::both(i < size, is_invalid(t, x)) {
-            slots[i] = list::free_slot(head);
+            slots[i] = slot_list::free_slot(head);
             head = i as u64;
-            count = list::less_one(count);
+            count = slot_list::less_one(count);
         }
         i += 1;
     }

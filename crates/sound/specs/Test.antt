@@ -5,7 +5,7 @@ use Prim.Native.Nat.{ℕ}
 use Rattle.words.specs.Cases.{both}
 use Rattle.tables.specs.Tables.{Tables}
 use Rattle.tables.specs.View.{view}
-use Rattle.tables.specs.Tests.{sizedB}
+use Rattle.sizes.specs.Tests.{sizedB}
 use Rattle.sound_pools.specs.Hold.{poolsHold}
 use Rattle.sound_tree.specs.Tree.{treeHolds}
 use Rattle.sound_capas.specs.Capas.{capasHold}

@@ -11,7 +11,7 @@ pub fn is_sound(t: &[u64], w: &mut [u64]) -> bool
     ensures { λ r. ⌜ r ≡ isSound (now (t .entry)) ⌝ }
     ensures { λ _. ⌜ now (w .exit) ≡ now (w .entry) ⌝ }
 {
-    let sized = tables::is_sized(t);
+    let sized = sizes::is_sized(t);
     if !sized {
         return false;
     }

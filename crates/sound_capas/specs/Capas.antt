@@ -6,7 +6,7 @@ use mathlib.Core.Bool.{Bool}
 use lib.Dec.{eqb, ltb}
 use lib.ListN.{getD}
 use Rattle.words.specs.Cases.{pick, both}
-use Rattle.tables.specs.declared.sizes.Sizes.{Sizes}
+use Rattle.sizes.specs.declared.Sizes.{Sizes}
 use Rattle.tables.specs.declared.Handle.{Handle}
 use Rattle.tables.specs.declared.Slot.{Slot}
 use Rattle.tables.specs.Tables.{Tables, Arena, headAt, slotAt, regionAt}

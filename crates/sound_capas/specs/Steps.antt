@@ -14,9 +14,10 @@ use Rattle.words.specs.Zeros.{take-zeros}
 use Rattle.words.specs.Cases.{pick, both, both-true}
 use Rattle.tables.specs.declared.Update.{Update}
 use Rattle.tables.specs.Tables.{Tables, updateAt}
-use Rattle.tables.specs.declared.sizes.Sizes.{Sizes}
-use Rattle.tables.specs.Limits.{Limits}
-use Rattle.tables.specs.View.{view, ofParts, sizesOf, total, Sized}
+use Rattle.sizes.specs.declared.Sizes.{Sizes}
+use Rattle.sizes.specs.Limits.{Limits}
+use Rattle.tables.specs.View.{view, ofParts, Sized}
+use Rattle.sizes.specs.Sizes.{sizesOf, total}
 use Rattle.arena.specs.Arena.{capacityOf}
 use Rattle.sound_capas.specs.Claims.{claimsHold}
 use Rattle.sound_capas.specs.Capas.{above, climbed, capaClaim, capasHold}

@@ -1,13 +1,14 @@
 // What the slots and the head of a domain claim.
 ghost use mathlib.Core.Path.{_≡_};
-ghost use Rattle.tables.specs.View.{view, sizesOf, Sized};
-ghost use Rattle.tables.specs.Limits.{Limits};
+ghost use Rattle.tables.specs.View.{view, Sized};
+ghost use Rattle.sizes.specs.Sizes.{sizesOf};
+ghost use Rattle.sizes.specs.Limits.{Limits};
 ghost use Rattle.pools.specs.Pools.{poolOf};
 ghost use Rattle.sound_capas.specs.Capas.{wrong, claimBy, regionClaim, revokeClaim, managementClaim, channelClaim, slotClaim, above, climbed, headClaim, rowClaim, capaClaim};
 use crate::reads;
 use pools::Pool;
+use sizes::Sizes;
 use tables::Handle;
-use tables::Sizes;
 use tables::Slot;
 
 fn wrong_of(z: Sizes) -> usize
@@ -23,7 +24,7 @@ fn claim_by(t: &[u64], q: Pool, wrong: usize, h: Handle, live: usize) -> usize
     ensures { λ r. ⌜ r ≡ claimBy wrong (poolOf (view (now (t .entry))) q) h live ⌝ }
 {
     let lives = pools::is_live_in(t, q, h);
-    let older = h.generation < reads::generation_in(t, q, h.slot as usize);
+    let older = h.generation < pools::generation_in(t, q, h.slot as usize);
     reads::select(lives, live, reads::select(older, 0, wrong))
 }
 
@@ -31,7 +32,7 @@ fn region_claim(t: &[u64], d: usize, h: Handle) -> usize
     requires { ⌜ Sized (now t) ⌝ }
     ensures { λ r. ⌜ r ≡ regionClaim (view (now (t .entry))) d h ⌝ }
 {
-    let z = tables::read_sizes(t);
+    let z = sizes::read_sizes(t);
     let bad = wrong_of(z);
     let g = tables::load_region(t, h.slot as usize);
     let own = reads::names(g.owner, d);
@@ -43,7 +44,7 @@ fn revoke_claim(t: &[u64], h: Handle) -> usize
     requires { ⌜ Sized (now t) ⌝ }
     ensures { λ r. ⌜ r ≡ revokeClaim (view (now (t .entry))) h ⌝ }
 {
-    let bad = wrong_of(tables::read_sizes(t));
+    let bad = wrong_of(sizes::read_sizes(t));
     let g = tables::load_region(t, h.slot as usize);
     claim_by(t, Pool::Regions, bad, h, reads::select(g.kind == 1, bad, 0))
 }
@@ -52,7 +53,7 @@ fn management_claim(t: &[u64], d: usize, h: Handle) -> usize
     requires { ⌜ Sized (now t) ⌝ }
     ensures { λ r. ⌜ r ≡ managementClaim (view (now (t .entry))) d h ⌝ }
 {
-    let z = tables::read_sizes(t);
+    let z = sizes::read_sizes(t);
     let bad = wrong_of(z);
     let x = tables::load_head(t, h.slot as usize);
     let own = reads::names(x.manager, d);
@@ -64,7 +65,7 @@ fn channel_claim(t: &[u64], h: Handle) -> usize
     requires { ⌜ Sized (now t) ⌝ }
     ensures { λ r. ⌜ r ≡ channelClaim (view (now (t .entry))) h ⌝ }
 {
-    let bad = wrong_of(tables::read_sizes(t));
+    let bad = wrong_of(sizes::read_sizes(t));
     claim_by(t, Pool::Domains, bad, h, 0)
 }
 
@@ -119,7 +120,7 @@ fn head_claim(t: &[u64], d: usize) -> usize
     requires { ⌜ Sized (now t) ⌝ }
     ensures { λ r. ⌜ r ≡ headClaim (view (now (t .entry))) d ⌝ }
 {
-    let z = tables::read_sizes(t);
+    let z = sizes::read_sizes(t);
     let bad = wrong_of(z);
     let x = tables::load_head(t, d);
     let end = climb(t, z.domains, x.manager);
@@ -131,7 +132,7 @@ fn row_claim(t: &[u64], d: usize, j: usize) -> usize
     requires { ⌜ Sized (now t) ⌝ }
     ensures { λ r. ⌜ r ≡ rowClaim (view (now (t .entry))) d j ⌝ }
 {
-    if reads::is_free_in(t, Pool::Domains, d) {
+    if pools::is_free_in(t, Pool::Domains, d) {
         return 0;
     }
     if j < words::size(t, 1) {
@@ -145,7 +146,7 @@ pub fn capa_claim(t: &[u64], i: usize) -> usize
     requires { ⌜ Sized (now t) ⌝ }
     ensures { λ r. ⌜ r ≡ capaClaim (view (now (t .entry))) i ⌝ }
 {
-    let z = tables::read_sizes(t);
+    let z = sizes::read_sizes(t);
     let n = z.slots + 1;
     row_claim(t, i / n, i % n)
 }

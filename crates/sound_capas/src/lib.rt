@@ -24,7 +24,7 @@ pub fn capas_hold(t: &[u64], w: &mut [u64]) -> bool
     ensures { λ r. ⌜ r ≡ capasHold (view (now (t .entry))) ⌝ }
     ensures { λ _. ⌜ now (w .exit) ≡ now (w .entry) ⌝ }
 {
-    let z = tables::read_sizes(t);
+    let z = sizes::read_sizes(t);
     let m = z.regions + z.domains;
     let used = reads::less(m, pools::region_capacity(t));
     let want = reads::less(used, pools::domain_capacity(t));
@@ -39,7 +39,7 @@ pub fn queue_holds(t: &[u64], w: &mut [u64]) -> bool
     ensures { λ r. ⌜ r ≡ queueHolds (view (now (t .entry))) ⌝ }
     ensures { λ _. ⌜ now (w .exit) ≡ now (w .entry) ⌝ }
 {
-    let z = tables::read_sizes(t);
+    let z = sizes::read_sizes(t);
     let m = z.domains;
     let n = z.updates + 1;
     let read = tables::read_place(t) as usize;

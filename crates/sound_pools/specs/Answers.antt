@@ -9,7 +9,8 @@ use lib.ListN.{length, getD, take, drop, replicate, length-take, length-drop}
 use Rattle.words.specs.Cases.{both}
 use Rattle.tables.specs.declared.DomainHead.{DomainHead}
 use Rattle.tables.specs.Tables.{Tables, headAt}
-use Rattle.tables.specs.View.{view, ofParts, sizesOf}
+use Rattle.tables.specs.View.{view, ofParts}
+use Rattle.sizes.specs.Sizes.{sizesOf}
 use Rattle.sound_pools.specs.declared.links.Stack.{Stack}
 use Rattle.sound_pools.specs.declared.links.Stack.the-variants.{Domains, Slots, Trackers}
 use Rattle.sound_pools.specs.declared.links.Top.{Top}

@@ -13,7 +13,8 @@ use lib.Seq.{getD-set-other}
 use Rattle.words.specs.Cases.{pick, both, both-true}
 use Rattle.tables.specs.Tables.{Tables, Arena}
 use Rattle.words.specs.Cuts.{offset}
-use Rattle.tables.specs.View.{sizesOf, view, ofParts, arenaOf, total, stride, Sized}
+use Rattle.sizes.specs.Sizes.{sizesOf, total, stride}
+use Rattle.tables.specs.View.{view, ofParts, arenaOf, Sized}
 use Rattle.pools.specs.declared.Pool.{Pool}
 use Rattle.pools.specs.declared.Span.{Span}
 use Rattle.pools.specs.Pools.{poolOf, PoolAt, pool-read}

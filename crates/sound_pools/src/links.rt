@@ -2,7 +2,8 @@
 ghost use mathlib.Core.Path.{_≡_};
 ghost use lib.ListN.{getD};
 ghost use Rattle.pools.specs.Pools.{poolOf};
-ghost use Rattle.tables.specs.View.{view, sizesOf, Sized};
+ghost use Rattle.tables.specs.View.{view, Sized};
+ghost use Rattle.sizes.specs.Sizes.{sizesOf};
 ghost use Rattle.sound_pools.specs.Walk.{linkTo, mark as markB};
 ghost use Rattle.sound_pools.specs.Hold.{slotsOf, eligible as eligibleB, mayMeet, nextOf, topOf};
 ghost use Rattle.sound_pools.specs.Loops.{topIn};

@@ -12,7 +12,8 @@ use Rattle.rights.specs.Rights.{has, count}
 use Rattle.tables.specs.declared.Slot.{Slot}
 use Rattle.tables.specs.declared.RegionCapa.{RegionCapa}
 use Rattle.tables.specs.Tables.{Tables, slotAt, regionAt, recordAt}
-use Rattle.tables.specs.View.{sizesOf, view, ofParts}
+use Rattle.sizes.specs.Sizes.{sizesOf}
+use Rattle.tables.specs.View.{view, ofParts}
 use Rattle.sound_trackers.specs.declared.Sums.{Sums}
 use Rattle.sound_trackers.specs.Chains.{every, slotsFrom, chain}
 use Rattle.sound_trackers.specs.Tally.{noSums, ones, plus, coversB, carvesB, countsB, namesB, share, tallyTo, tally}

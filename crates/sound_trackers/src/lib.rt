@@ -2,7 +2,6 @@
 // tree and the owners are tested elsewhere.
 ghost use mathlib.Core.Path.{_≡_};
 ghost use Rattle.tables.specs.View.{view, Sized};
-ghost use Rattle.arena.specs.Arena.{isFreeB};
 ghost use Rattle.sound_trackers.specs.Trackers.{domainB, trackersHold as trackersHoldB};
 
 mod edges;
@@ -18,20 +17,11 @@ pub struct Sums {
     pub super_count: u64,
 }
 
-fn is_free(t: &[u64], d: usize) -> bool
-    requires { ⌜ Sized (now t) ⌝ }
-    ensures { λ r. ⌜ r ≡ isFreeB (view (now (t .entry)) .domainPool) d ⌝ }
-{
-    let n = words::size(t, 0);
-    let e = 7 + (2 + 2 * n);
-    arena::is_free(&t[7..e], n, d)
-}
-
 fn domain_holds(t: &[u64], d: usize) -> bool
     requires { ⌜ Sized (now t) ⌝ }
     ensures { λ r. ⌜ r ≡ domainB (view (now (t .entry))) d ⌝ }
 {
-    if is_free(t, d) {
+    if pools::domain_is_free(t, d) {
         return true;
     }
     if records::records_hold(t, d) {

@@ -10,7 +10,7 @@ use Rattle.rights.specs.Rights.{allowed}
 use Rattle.words.specs.Cases.{pick, both}
 use Rattle.tables.specs.declared.RegionCapa.{RegionCapa}
 use Rattle.tables.specs.Tables.{Tables, regionAt}
-use Rattle.tables.specs.View.{total}
+use Rattle.sizes.specs.Sizes.{total}
 use Rattle.arena.specs.Arena.{isFreeB}
 use Rattle.sound_tree.specs.declared.Run.{Run}
 

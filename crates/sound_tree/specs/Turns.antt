@@ -13,7 +13,8 @@ use Rattle.words.specs.Cases.{pick}
 use Rattle.words.specs.Cuts.{offset}
 use Rattle.tables.specs.declared.RegionCapa.{RegionCapa}
 use Rattle.tables.specs.Tables.{regionAt}
-use Rattle.tables.specs.View.{sizesOf, view, ofParts, total, Sized}
+use Rattle.sizes.specs.Sizes.{sizesOf, total}
+use Rattle.tables.specs.View.{view, ofParts, Sized}
 use Rattle.sound_tree.specs.declared.Run.{Run}
 use Rattle.sound_tree.specs.Tree.{allFrom, oneIf, tallyFrom, regionFits, rowsHold, isChild, childCount, listsHold, childFits, after, walkFrom, walked, listsFrom}
 

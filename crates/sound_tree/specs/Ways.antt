@@ -17,7 +17,8 @@ use Rattle.words.specs.Cuts.{cuts}
 use Rattle.words.specs.Zeros.{zeros, drop-zeros}
 use Rattle.tables.specs.declared.RegionCapa.{RegionCapa}
 use Rattle.tables.specs.Tables.{regionAt, noRegion}
-use Rattle.tables.specs.View.{sizesOf, view, ofParts, widths, regionOf, total, Sized}
+use Rattle.sizes.specs.Sizes.{sizesOf, widths, total}
+use Rattle.tables.specs.View.{view, ofParts, regionOf, Sized}
 use Rattle.sound_tree.specs.Tree.{stops, climbFrom, markFrom, rootedFrom, rootsHold, beyond, cleared}
 use Rattle.sound_tree.specs.Turns.{regions-fit}
 

@@ -9,7 +9,8 @@ use Rattle.tables.specs.declared.RegionCapa.{RegionCapa}
 use Rattle.tables.specs.declared.Region.{Region}
 use Rattle.tables.specs.declared.Update.{Update}
 use Rattle.tables.specs.Tables.{regionAt, recordAt, updateAt, withRegions, withRecords, withRing, withRegion, withRecord, withUpdate}
-use Rattle.tables.specs.View.{sizesOf, view, ofParts, Sized, Left, regionOf, regionWords, recordOf, recordWords, updateOf, updateWords}
+use Rattle.sizes.specs.Sizes.{sizesOf}
+use Rattle.tables.specs.View.{view, ofParts, Sized, Left, regionOf, regionWords, recordOf, recordWords, updateOf, updateWords}
 use Rattle.tables.specs.Sections.{only-left}
 use Rattle.tables.specs.Rows.{placed, row-loaded, row-replaced}
 

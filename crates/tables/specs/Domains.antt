@@ -1,4 +1,4 @@
--- A domain's five words and its slots: parts of one row, loaded and stored each by itself.
+-- A domain's five words, loaded and stored, and its slots, loaded each by itself: parts of one row.
 use mathlib.Core.Path.{_≡_, refl, sym, ap, _∙_}
 use mathlib.Core.List.{List, []}
 use Prim.Native.Nat.{ℕ, _+_, _*_, _≤_, _<_}
@@ -6,17 +6,17 @@ use native.Mathlib.Nat.{mul-le-mul-right}
 use native.Mathlib.Omega.{arith}
 use borrow.Author.Tests.{lt-ltb, le-ltb}
 use lib.Dec.{ltb}
-use lib.ListN.{length, getD, set, take, drop, length-take, length-drop, List·getD-eq-default}
-use lib.Seq.{sets, set-out, set-getD}
+use lib.ListN.{length, getD, set, take, drop, length-take, List·getD-eq-default}
+use lib.Seq.{sets}
 use Rattle.words.specs.Cases.{pick, cmp, lt, ge}
-use Rattle.words.specs.Runs.{part, part-part, part-drop, length-part, fetched, fetched-out, stored, stored-out, sets-all, take-sets-le, take-sets-lt, drop-sets-lt, drop-sets-add}
-use Rattle.words.specs.Rows.{rows, length-rows, getD-rows, rows-store}
+use Rattle.words.specs.Runs.{part, part-part, part-drop, length-part, fetched, fetched-out, stored, sets-all, take-sets-lt, drop-sets-lt}
+use Rattle.words.specs.Rows.{rows, length-rows, getD-rows}
 use Rattle.words.specs.Cuts.{cuts}
 use Rattle.tables.specs.declared.DomainHead.{DomainHead}
-use Rattle.tables.specs.declared.Slot.{Slot}
-use Rattle.tables.specs.Tables.{Domain, noDomain, noSlot, headAt, slotAt, putHead, putSlot, withDomains, withHead, withSlot}
-use Rattle.tables.specs.View.{sizesOf, view, stride, ofParts, Sized, Left, domainOf, headOf, headWords, slotOf, slotWords}
-use Rattle.tables.specs.Tests.{total-fits}
+use Rattle.tables.specs.Tables.{Domain, noDomain, noSlot, headAt, slotAt, putHead, withDomains, withHead}
+use Rattle.sizes.specs.Sizes.{sizesOf, stride}
+use Rattle.tables.specs.View.{view, ofParts, Sized, Left, domainOf, headOf, headWords, slotOf}
+use Rattle.sizes.specs.Tests.{total-fits}
 use Rattle.tables.specs.Sections.{section, section-length, section-inside, only-left}
 use Rattle.tables.specs.Rows.{rowAt, placed, set-when, row-fetched, no-row-fetched, row-stored}
 
@@ -56,11 +56,6 @@ put-head n p h hp =
     let e : take 5 (sets p 0 (headWords h)) ≡ headWords h =
     take-sets-lt (headWords h) p 5 0 (omega arith) ∙ sets-all (headWords h) (take 5 p) (simp length-take (omega arith)) in
     rw (e, drop-sets-lt (headWords h) p 5 0 (omega arith))
-
-put-slot : (n j : ℕ) (p : List ℕ) (x : Slot) → j < n → length p ≡ 5 + n * 3 → domainOf n (sets p (5 + j * 3) (slotWords x)) ≡ putSlot (domainOf n p) j x
-unfolding domainOf
-put-slot n j p x h hp =
-    rw (take-sets-le (slotWords x) p 5 (5 + j * 3) (omega arith), drop-sets-add (slotWords x) p 5 (j * 3), rows-store 3 n slotOf (drop 5 p) (slotWords x) j refl h (simp length-drop (omega arith)))
 
 -- ---- in the tables
 
@@ -141,24 +136,3 @@ module _ (t : List ℕ) (s : Sized t) (i a : ℕ) where
       let z : a ≡ domainPlace t i + 0 = omega arith in
       domain-stored u (headWords h) 0 (putHead (getD (view t .domains) i noDomain) h) (omega arith) (omega arith) (rw z at eu)
       (λ q. rw (domain-at t i q) (put-head (sizesOf t .slots) (domainPart t i) h (domain-long q)))
-
-  no-slot-stored : (j : ℕ) (x : Slot) → sizesOf t .slots ≤ j → Left t (withDomains (view t) (set (view t .domains) i (putSlot (getD (view t .domains) i noDomain) j x)))
-  unfolding withDomains
-  no-slot-stored j x hj =
-      let d = getD (view t .domains) i noDomain in
-      let e : set (d .slots) j x ≡ d .slots = set-out (d .slots) j x (omega (arith, slots-many t i)) in
-      record { seen = sym (rw e (ap (withDomains (view t)) (set-getD (view t .domains) i noDomain))); sized = s }
-
-  pub slot-stored : (j : ℕ) (u : List ℕ) (x : Slot) → a ≡ slotPlace t i j → u ≡ stored t a (slotWords x) → Left u (withSlot (view t) i j x)
-  unfolding withSlot
-  slot-stored j u x e eu =
-      elim (cmp j (sizesOf t .slots)) [
-        | lt hj ↦
-            let z : a ≡ domainPlace t i + (5 + j * 3) = e ∙ rw (lt-ltb j (sizesOf t .slots) hj) in
-            domain-stored u (slotWords x) (5 + j * 3) (putSlot (getD (view t .domains) i noDomain) j x) (omega arith) (omega arith) (rw z at eu)
-            (λ q. rw (domain-at t i q) (put-slot (sizesOf t .slots) j (domainPart t i) x hj (domain-long q)))
-        | ge hj ↦
-            let z : a ≡ length t = e ∙ rw (le-ltb j (sizesOf t .slots) hj) in
-            let same : u ≡ t = eu ∙ rw z (stored-out t (length t) (slotWords x) (omega arith)) in
-            rw same (no-slot-stored j x hj)
-      ]

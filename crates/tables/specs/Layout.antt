@@ -9,7 +9,8 @@ use Rattle.words.specs.Runs.{part}
 use Rattle.words.specs.Rows.{rows, flat, flat-rows, spell, spelled, spell-drop}
 use Rattle.words.specs.Cuts.{cuts, join, join-cuts, offset}
 use Rattle.tables.specs.Tables.{Tables}
-use Rattle.tables.specs.View.{sizesOf, view, widths, stride, total, ofParts, Sized, Left, headOf, headWords, slotOf, slotWords, regionOf, regionWords, recordOf, recordWords, updateOf, updateWords, domainOf, domainWords, arenaOf, arenaWords, headerWords, partsOf, layout}
+use Rattle.sizes.specs.Sizes.{sizesOf, widths, stride, total}
+use Rattle.tables.specs.View.{view, ofParts, Sized, Left, headOf, headWords, slotOf, slotWords, regionOf, regionWords, recordOf, recordWords, updateOf, updateWords, domainOf, domainWords, arenaOf, arenaWords, headerWords, partsOf, layout}
 use Rattle.tables.specs.Sections.{section, section-length}
 
 region-back : (p : List ℕ) → length p ≡ 8 → regionWords (regionOf p) ≡ p

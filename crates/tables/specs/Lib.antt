@@ -1,5 +1,5 @@
+pub mod Links
 pub mod Tables
-pub mod Limits
 pub mod View
 pub mod Tests
 pub mod Sections

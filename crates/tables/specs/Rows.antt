@@ -12,8 +12,9 @@ use Rattle.words.specs.Cases.{pick, cmp, lt, ge}
 use Rattle.words.specs.Runs.{part, length-part, sets-all, fetched, fetched-in, fetched-out, stored, stored-in, stored-out}
 use Rattle.words.specs.Rows.{rows, length-rows, getD-rows, rows-sets}
 use Rattle.words.specs.Cuts.{cuts, offset, cuts-part}
-use Rattle.tables.specs.declared.sizes.Sizes.{Sizes}
-use Rattle.tables.specs.View.{sizesOf, widths, Sized}
+use Rattle.sizes.specs.declared.Sizes.{Sizes}
+use Rattle.sizes.specs.Sizes.{sizesOf, widths}
+use Rattle.tables.specs.View.{Sized}
 use Rattle.tables.specs.Sections.{section, section-length, section-inside, Only, only-same, only-sets, section-sets}
 
 -- where row i stands of the n rows of w words from o on; m, the end of the words, where there is none

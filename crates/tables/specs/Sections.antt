@@ -9,7 +9,8 @@ use lib.Seq.{sets, length-sets, set-getD, getD-set-same, take-all}
 use Rattle.words.specs.Runs.{part, getD-before, sets-all, lent-back}
 use Rattle.words.specs.Cuts.{cuts, offset, offset-inside, cuts-sets, cuts-part, length-cut}
 use Rattle.tables.specs.Tables.{Tables}
-use Rattle.tables.specs.View.{sizesOf, view, widths, total, ofParts, Sized, Left}
+use Rattle.sizes.specs.Sizes.{sizesOf, widths, total}
+use Rattle.tables.specs.View.{view, ofParts, Sized, Left}
 
 abbrev pub section : List ℕ → ℕ → List ℕ
 section t k = getD (cuts (widths (sizesOf t)) t) k []

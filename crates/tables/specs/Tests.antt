@@ -1,21 +1,14 @@
--- The test of the length, and the bounds by which no place of a word wraps.
+-- The test of the length says whether words are sized.
 use mathlib.Core.Path.{_≡_}
-use mathlib.Core.Bool.{Bool, true, false}
+use mathlib.Core.Bool.{true}
 use mathlib.Core.List.{List}
-use Prim.Native.Nat.{ℕ, _≤_, _*_}
-use native.Mathlib.Nat.{mul-le-mul}
-use native.Mathlib.Omega.{arith}
+use Prim.Native.Nat.{ℕ}
 use borrow.Author.Tests.{eqb-true, eq-eqb}
-use lib.Dec.{eqb}
-use lib.ListN.{length}
-use Rattle.words.specs.Cases.{both, both-true}
-use Rattle.words.specs.Cuts.{offset}
-use Rattle.tables.specs.declared.sizes.Sizes.{Sizes}
-use Rattle.tables.specs.Limits.{Limits, limitsB, limits-true, true-limits}
-use Rattle.tables.specs.View.{sizesOf, Sized, total, stride}
-
-unfoldable pub sizedB : List ℕ → Bool
-sizedB t = both (limitsB (sizesOf t)) (eqb (length t) (total (sizesOf t)))
+use Rattle.words.specs.Cases.{both-true}
+use Rattle.sizes.specs.Limits.{limitsB, limits-true, true-limits}
+use Rattle.sizes.specs.Sizes.{sizesOf}
+use Rattle.sizes.specs.Tests.{sizedB}
+use Rattle.tables.specs.View.{Sized}
 
 pub sized-true : (t : List ℕ) → sizedB t ≡ true → Sized t
 unfolding sizedB
@@ -26,21 +19,3 @@ sized-true t h =
 pub true-sized : (t : List ℕ) → Sized t → sizedB t ≡ true
 unfolding sizedB
 true-sized t s = rw (true-limits (sizesOf t) (s .limits)) (eq-eqb _ _ (s .exact))
-
--- the two ways of the test in the code
-pub sized-then : (t : List ℕ) (z : Sizes) (b : Bool) (n : ℕ) → z ≡ sizesOf t → b ≡ limitsB z → b ≡ true → n ≡ total z → eqb (length t) n ≡ sizedB t
-unfolding sizedB
-sized-then t z b n e h y m = cc
-
-pub sized-else : (t : List ℕ) (z : Sizes) (b : Bool) → z ≡ sizesOf t → b ≡ limitsB z → b ≡ false → false ≡ sizedB t
-unfolding sizedB
-sized-else t z b e h y = cc
-
--- the one product in the widths
-pub domains-fit : (z : Sizes) → Limits z → z .domains * stride z ≤ 12448
-domains-fit z h = let e : stride z ≤ 389 = omega (arith, h .slots-high) in mul-le-mul (h .domains-high) e
-
--- full tables have 34,545 words
-pub total-fits : (z : Sizes) → Limits z → total z ≤ 34545
-unfolding total offset
-total-fits z h = omega (arith, domains-fit z h)

@@ -1,24 +1,22 @@
 -- The words of the tables read as a structured value, and that value laid out as words.
-use Prim.Native.Nat.{ℕ, _+_, _*_}
+use Prim.Native.Nat.{ℕ, _+_}
 use mathlib.Core.Path.{_≡_}
 use mathlib.Core.List.{List, [], _∷_, _++_}
 use lib.ListN.{length, getD, take, drop}
 use Rattle.words.specs.Runs.{part}
 use Rattle.words.specs.Rows.{rows, flat}
-use Rattle.words.specs.Cuts.{cuts, offset, join}
-use Rattle.tables.specs.declared.sizes.Sizes.{Sizes}
+use Rattle.words.specs.Cuts.{cuts, join}
+use Rattle.sizes.specs.declared.Sizes.{Sizes}
 use Rattle.tables.specs.declared.DomainHead.{DomainHead}
 use Rattle.tables.specs.declared.Slot.{Slot}
 use Rattle.tables.specs.declared.RegionCapa.{RegionCapa}
 use Rattle.tables.specs.declared.Region.{Region}
 use Rattle.tables.specs.declared.Update.{Update}
 use Rattle.tables.specs.Tables.{Tables, Domain, Arena}
-use Rattle.tables.specs.Limits.{Limits}
+use Rattle.sizes.specs.Limits.{Limits}
+use Rattle.sizes.specs.Sizes.{sizesOf, stride, widths, total}
 
 -- ---- a record in its words
-
-unfoldable pub sizesOf : List ℕ → Sizes
-sizesOf t = record { domains = getD t 0 0; slots = getD t 1 0; regions = getD t 2 0; records = getD t 3 0; updates = getD t 4 0 }
 
 abbrev pub headOf : List ℕ → DomainHead
 headOf p = record { manager = getD p 0 0; cores = getD p 1 0; tracker = getD p 2 0; head = getD p 3 0; count = getD p 4 0 }
@@ -46,21 +44,6 @@ unfoldable pub domainOf : ℕ → List ℕ → Domain
 domainOf n p = record { head = headOf (take 5 p); slots = rows 3 n slotOf (drop 5 p) }
 
 -- ---- the whole
-
-abbrev pub stride : Sizes → ℕ
-stride z = 5 + z .slots * 3
-
-abbrev pub poolWidth : ℕ → ℕ
-poolWidth n = 2 + (n + n)
-
--- the widths of the sections: header, three pools, domains, regions, tracker records, ring
-abbrev pub widths : Sizes → List ℕ
-widths z =
-    7 ∷ poolWidth (z .domains) ∷ poolWidth (z .regions) ∷ poolWidth (z .records) ∷ (z .domains * stride z) ∷ (z .regions * 8) ∷ (z .records * 9) ∷ ((z .updates + 1) * 4) ∷ []
-
-unfoldable pub total : Sizes → ℕ
-unfolding offset
-total z = offset (widths z) 8
 
 unfoldable pub ofParts : Sizes → List (List ℕ) → Tables
 ofParts z ps =

@@ -1,7 +1,7 @@
-// Domains: the five words before the slots, and the slots, each loaded and stored by itself.
+// Domains: the five words before the slots, loaded and stored; a slot, loaded by itself.
 ghost use mathlib.Core.Path.{_≡_};
 ghost use lib.ListN.{length};
-ghost use Rattle.tables.specs.Tables.{headAt, slotAt, withHead, withSlot};
+ghost use Rattle.tables.specs.Tables.{headAt, slotAt, withHead};
 ghost use Rattle.tables.specs.View.{view, Sized, Left, headOf, slotOf};
 ghost use Rattle.tables.specs.Domains.{domainPlace, slotPlace};
 use crate::DomainHead;
@@ -9,14 +9,14 @@ use crate::Handle;
 use crate::Slot;
 use crate::no_head;
 use crate::no_slot;
-use crate::sizes;
+use crate::rows;
 
 fn domain_at(t: &[u64], i: usize) -> usize
     requires { ⌜ Sized (now t) ⌝ }
     ensures { λ r. ⌜ r ≡ domainPlace (now (t .entry)) i ⌝ }
 {
     let z = sizes::read_sizes(t);
-    sizes::row_at(t, sizes::domains_at(z), z.domains, 5 + z.slots * 3, i)
+    rows::row_at(t, sizes::domains_at(z), z.domains, 5 + z.slots * 3, i)
 }
 
 fn head_of(p: &[u64]) -> DomainHead
@@ -78,12 +78,4 @@ pub fn load_slot(t: &[u64], i: usize, j: usize) -> Slot
 {
     let p = words::run(t, slot_at(t, i, j), 3);
     if p.len() == 3 { slot_of(p) } else { no_slot() }
-}
-
-pub fn store_slot(t: &mut [u64], i: usize, j: usize, x: Slot)
-    requires { ⌜ Sized (now t) ⌝ }
-    ensures { λ _. ⌜ Left (now (t .exit)) (withSlot (view (now (t .entry))) i j x) ⌝ }
-{
-    let a = slot_at(t, i, j);
-    words::store(t, a, &[x.kind, x.handle.slot, x.handle.generation]);
 }

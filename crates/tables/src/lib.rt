@@ -4,15 +4,17 @@ ghost use mathlib.Core.Path.{_≡_};
 ghost use Rattle.tables.specs.Tables.{noHead, noSlot, noRegion, noRecord, noUpdate};
 
 pub mod domains;
+pub mod links;
 pub mod records;
 pub mod regions;
 pub mod ring;
-pub mod sizes;
+pub mod rows;
 
 pub use domains::load_head;
 pub use domains::load_slot;
 pub use domains::store_head;
-pub use domains::store_slot;
+pub use links::link_to;
+pub use links::slot_to;
 pub use records::load_record;
 pub use records::store_record;
 pub use regions::load_region;
@@ -22,11 +24,6 @@ pub use ring::read_place;
 pub use ring::set_places;
 pub use ring::store_update;
 pub use ring::write_place;
-pub use sizes::Sizes;
-pub use sizes::is_sized;
-pub use sizes::limits_hold;
-pub use sizes::read_sizes;
-pub use sizes::total_of;
 
 pub struct Handle {
     pub slot: u64,

@@ -6,14 +6,14 @@ ghost use Rattle.tables.specs.View.{view, Sized, Left, recordOf};
 ghost use Rattle.tables.specs.Accessors.{recordPlace};
 use crate::Region;
 use crate::no_record;
-use crate::sizes;
+use crate::rows;
 
 fn record_at(t: &[u64], i: usize) -> usize
     requires { ⌜ Sized (now t) ⌝ }
     ensures { λ r. ⌜ r ≡ recordPlace (now (t .entry)) i ⌝ }
 {
     let z = sizes::read_sizes(t);
-    sizes::row_at(t, sizes::records_at(z), z.records, 9, i)
+    rows::row_at(t, sizes::records_at(z), z.records, 9, i)
 }
 
 fn record_of(p: &[u64]) -> Region

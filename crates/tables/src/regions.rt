@@ -6,14 +6,14 @@ ghost use Rattle.tables.specs.View.{view, Sized, Left, regionOf};
 ghost use Rattle.tables.specs.Accessors.{regionPlace};
 use crate::RegionCapa;
 use crate::no_region;
-use crate::sizes;
+use crate::rows;
 
 fn region_at(t: &[u64], i: usize) -> usize
     requires { ⌜ Sized (now t) ⌝ }
     ensures { λ r. ⌜ r ≡ regionPlace (now (t .entry)) i ⌝ }
 {
     let z = sizes::read_sizes(t);
-    sizes::row_at(t, sizes::regions_at(z), z.regions, 8, i)
+    rows::row_at(t, sizes::regions_at(z), z.regions, 8, i)
 }
 
 fn region_of(p: &[u64]) -> RegionCapa

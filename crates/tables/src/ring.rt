@@ -6,14 +6,14 @@ ghost use Rattle.tables.specs.View.{view, Sized, Left, updateOf};
 ghost use Rattle.tables.specs.Accessors.{updatePlace};
 use crate::Update;
 use crate::no_update;
-use crate::sizes;
+use crate::rows;
 
 fn update_at(t: &[u64], i: usize) -> usize
     requires { ⌜ Sized (now t) ⌝ }
     ensures { λ r. ⌜ r ≡ updatePlace (now (t .entry)) i ⌝ }
 {
     let z = sizes::read_sizes(t);
-    sizes::row_at(t, sizes::ring_at(z), z.updates + 1, 4, i)
+    rows::row_at(t, sizes::ring_at(z), z.updates + 1, 4, i)
 }
 
 fn update_of(p: &[u64]) -> Update

@@ -12,10 +12,10 @@ use Rattle.words.specs.Cases.{pick, both-true, cmp, lt, ge}
 use Rattle.tables.specs.declared.Update.{Update}
 use Rattle.tables.specs.Tables.{noUpdate, withRing, withPlaces, withUpdate}
 use Rattle.tables.specs.View.{view, ofParts, Sized, Left}
-use Rattle.update.specs.declared.Ring.{Ring}
-use Rattle.update.specs.declared.PushOut.{PushOut}
-use Rattle.update.specs.declared.PopOut.{PopOut}
-use Rattle.update.specs.Ring.{cap, afterOf, roomB, putIn, pushOf, permissionOf, queuedOf, markOf, someB, takeOut, popOf}
+use Rattle.ring.specs.declared.Ring.{Ring}
+use Rattle.ring.specs.declared.PushOut.{PushOut}
+use Rattle.ring.specs.declared.PopOut.{PopOut}
+use Rattle.ring.specs.Ring.{cap, afterOf, roomB, putIn, pushOf, permissionOf, queuedOf, markOf, someB, takeOut, popOf}
 use Rattle.update.specs.Fitted.{fitted, length-fitted, fitted-set, fitted-back}
 use Rattle.update.specs.Stored.{ringOf, withRingOf, ring-same, ring-few}
 

@@ -1,11 +1,10 @@
--- A list of places fitted to another length, and filled so place by place.
+-- A list of places fitted to another length.
 use Prim.Native.Nat.{ℕ, zero, suc, _+_, _<_, _≤_}
 use mathlib.Core.Path.{_≡_, refl, sym, ap, _∙_}
 use mathlib.Core.List.{List, [], _∷_, _++_}
-use native.Mathlib.Decide.{ℕ-discrete}
 use native.Mathlib.Omega.{arith}
-use lib.ListN.{length, getD, set, replicate, length-set}
-use lib.Seq.{ext-getD, getD-set-same, getD-set-other}
+use lib.ListN.{length, getD, set, replicate}
+use lib.Seq.{ext-getD}
 use Rattle.tables.specs.declared.Update.{Update}
 use Rattle.tables.specs.Tables.{noUpdate}
 
@@ -56,25 +55,3 @@ pub fitted-back : (m n : ℕ) (ps : List Update) → length ps ≡ m → m ≤ n
 fitted-back m n ps e h =
     let long = length-fitted m (fitted n ps) in
     ext-getD noUpdate (fitted m (fitted n ps)) ps (long ∙ sym e) (λ k hk. getD-fitted m (fitted n ps) k (omega arith) ∙ getD-fitted n ps k (omega arith))
-
--- the places of l before place n are those of ps
-pub record Filled (ps : List Update) (n : ℕ) (l : List Update) : Type 0 where
-  pub same : (k : ℕ) → k < n → k < length l → getD l k noUpdate ≡ getD ps k noUpdate
-
-pub filled-none : (ps l : List Update) → Filled ps 0 l
-filled-none ps l = record { same = λ k h _. absurd (omega arith) }
-
-pub filled-more : (ps l : List Update) (i : ℕ) (u : Update) → Filled ps i l → u ≡ getD ps i noUpdate → Filled ps (i + 1) (set l i u)
-filled-more ps l i u f e =
-    record {
-      same = λ k h hk.
-          let long : k < length l = simp length-set at hk in
-          elim (ℕ-discrete k i) [
-            | yes q ↦ rw q (getD-set-same l i u noUpdate (omega arith) ∙ e)
-            | no q ↦ getD-set-other l i k u noUpdate q ∙ f .same k (omega (arith, q)) long
-          ];
-    }
-
-pub filled-all : (ps l : List Update) (n m : ℕ) → Filled ps n l → length l ≡ m → m ≤ n → l ≡ fitted m ps
-filled-all ps l n m f e h =
-    ext-getD noUpdate l (fitted m ps) (e ∙ sym (length-fitted m ps)) (λ k hk. f .same k (omega arith) hk ∙ sym (getD-fitted m ps k (omega arith)))

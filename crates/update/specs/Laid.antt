@@ -8,15 +8,15 @@ use lib.ListN.{length, getD, List·getD-eq-default}
 use Rattle.words.specs.Cases.{cmp, lt, ge}
 use Rattle.tables.specs.declared.Update.{Update}
 use Rattle.tables.specs.Tables.{Tables, noUpdate, withRing, withPlaces}
-use Rattle.update.specs.declared.Ring.{Ring}
-use Rattle.update.specs.declared.PushOut.{PushOut}
-use Rattle.update.specs.declared.PopOut.{PopOut}
-use Rattle.update.specs.Ring.{cap, pushOf, popOf, permissionOf, markOf}
+use Rattle.ring.specs.declared.Ring.{Ring}
+use Rattle.ring.specs.declared.PushOut.{PushOut}
+use Rattle.ring.specs.declared.PopOut.{PopOut}
+use Rattle.ring.specs.Ring.{cap, pushOf, popOf, permissionOf, markOf}
 use Rattle.update.specs.Fitted.{fitted, length-fitted, getD-fitted, fitted-back}
 use Rattle.update.specs.Stored.{ringOf, withRingOf}
-use Rattle.update.specs.Queue.{Queues, push-joins, push-full, pop-empty, pop-takes}
-use Rattle.update.specs.Search.{anyNames, mark-queued, mark-new}
-use Rattle.update.specs.Sizes.{push-size, pop-size}
+use Rattle.ring.specs.Queue.{Queues, push-joins, push-full, pop-empty, pop-takes}
+use Rattle.ring.specs.Search.{anyNames, mark-queued, mark-new}
+use Rattle.ring.specs.Sizes.{push-size, pop-size}
 
 -- the tables' places as the layout has them: place k has the update that is as far on in the queue as k is from the first place
 pub record Laid (s : Tables) (first : ℕ) (items : List Update) : Type 0 where

@@ -1,9 +1,4 @@
-pub mod Ring
 pub mod Fitted
 pub mod Stored
-pub mod Turns
-pub mod Queue
-pub mod Search
-pub mod Sizes
 pub mod Changes
 pub mod Laid

@@ -4,21 +4,20 @@ use mathlib.Core.Path.{_≡_, refl, sym, ap, _∙_}
 use mathlib.Core.List.{List}
 use native.Mathlib.Numerals.{add-one}
 use native.Mathlib.Omega.{arith}
-use borrow.Rule.Slice.PartMut.{putMid}
 use lib.ListN.{length, getD, set, take, drop, replicate}
-use lib.Seq.{sets, length-sets}
 use Rattle.words.specs.Runs.{part, part-at}
-use Rattle.words.specs.Rows.{rows, length-rows, rows-store, rows-more}
-use Rattle.words.specs.Cuts.{cuts, offset}
+use Rattle.words.specs.Rows.{rows, length-rows, rows-more}
+use Rattle.words.specs.Cuts.{offset}
 use Rattle.tables.specs.declared.Update.{Update}
-use Rattle.tables.specs.declared.sizes.Sizes.{Sizes}
+use Rattle.sizes.specs.declared.Sizes.{Sizes}
 use Rattle.tables.specs.Tables.{Tables, noUpdate, withRing, withPlaces}
-use Rattle.tables.specs.View.{sizesOf, view, widths, ofParts, Sized, Left, updateOf, updateWords}
-use Rattle.tables.specs.Sections.{section-length, section-inside, section-lent, section-back, only-left}
-use Rattle.update.specs.declared.Ring.{Ring}
-use Rattle.update.specs.declared.stored.Span.{Span}
-use Rattle.update.specs.Ring.{cap}
-use Rattle.update.specs.Fitted.{fitted, fitted-empty, fitted-more, fitted-back, Filled, filled-none, filled-more, filled-all}
+use Rattle.sizes.specs.Sizes.{sizesOf, widths}
+use Rattle.tables.specs.View.{view, ofParts, Sized, Left, updateOf}
+use Rattle.tables.specs.Sections.{section-inside, section-lent}
+use Rattle.ring.specs.declared.Ring.{Ring}
+use Rattle.update.specs.declared.Span.{Span}
+use Rattle.ring.specs.Ring.{cap}
+use Rattle.update.specs.Fitted.{fitted, fitted-empty, fitted-more, fitted-back}
 
 unfoldable pub ringOf : Tables → Ring
 ringOf s = record { places = fitted cap (s .ring); read = s .read; write = s .write; size = s .sizes .updates + 1 }
@@ -47,27 +46,6 @@ read-none p = fitted-empty cap
 
 pub read-more : (p : List ℕ) (i : ℕ) → i < cap → set (readTo p i) i (updateOf (part p (i * 4) 4)) ≡ readTo p (i + 1)
 read-more p i h = rw (add-one, rows-more 4 i updateOf p) (fitted-more cap (rows 4 i updateOf p) _ i (length-rows 4 i updateOf p) h)
-
--- the first i of n places are those of ps
-pub record Written (n : ℕ) (ps : List Update) (i : ℕ) (p : List ℕ) : Type 0 where
-  pub long : length p ≡ n * 4
-  pub places : Filled ps i (rows 4 n updateOf p)
-
-pub written-none : (n : ℕ) (ps : List Update) (p : List ℕ) → length p ≡ n * 4 → Written n ps 0 p
-written-none n ps p e = record { long = e; places = filled-none ps (rows 4 n updateOf p) }
-
-pub written-more : (n : ℕ) (ps : List Update) (i : ℕ) (p : List ℕ) (u : Update) → Written n ps i p → i < n → u ≡ getD ps i noUpdate
-    → Written n ps (i + 1) (sets p (i * 4) (updateWords u))
-written-more n ps i p u w h e =
-    record {
-      long = length-sets p (i * 4) (updateWords u) ∙ w .long;
-      places =
-          rw (rows-store 4 n updateOf p (updateWords u) i refl h (omega (arith, w .long)))
-          (filled-more ps (rows 4 n updateOf p) i u (w .places) e);
-    }
-
-pub written-all : (n : ℕ) (ps : List Update) (i : ℕ) (p : List ℕ) → Written n ps i p → n ≤ i → rows 4 n updateOf p ≡ fitted n ps
-written-all n ps i p w h = filled-all ps (rows 4 n updateOf p) i n (w .places) (length-rows 4 n updateOf p) h
 
 -- ---- the ring's words in the tables
 
@@ -106,26 +84,6 @@ module _ (t : List ℕ) (r : Span) (s : Sized t) (at : RingAt t r) where
   end-at : r .end ≡ r .start + getD (widths (sizesOf t)) 7 0
   end-at = at .end ∙ rw (at .places)
 
-  pub span-long : length (take (r .end - r .start) (drop (r .start) t)) ≡ r .places * 4
-  span-long = ap length (section-lent t 7 (r .start) (r .end) s (at .start) end-at) ∙ section-length t 7 s ∙ rw (at .places)
-
   pub ring-read : ringIn (r .places) (take (r .end - r .start) (drop (r .start) t)) (view t .read) (view t .write) ≡ ringOf (view t)
   unfolding ringOf view ofParts
   ring-read = rw (section-lent t 7 (r .start) (r .end) s (at .start) end-at, at .places)
-
-  -- the places ps come back
-  pub ring-back : (p : List ℕ) (ps : List Update) → length p ≡ length (take (r .end - r .start) (drop (r .start) t)) → rows 4 (r .places) updateOf p ≡ fitted (r .places) ps
-      → Left (putMid (r .start) (r .end - r .start) t p) (withRing (view t) (fitted (length (view t .ring)) ps))
-  unfolding view ofParts cuts withRing
-  ring-back p ps hp e =
-      let b = section-back t 7 (r .start) (r .end) s (at .start) end-at p (omega arith) (unfold offset in omega (arith, at .start)) hp in
-      let n : r .places ≡ length (view t .ring) = at .places ∙ sym (ring-long t) in
-      only-left t (putMid (r .start) (r .end - r .start) t p) 7 (withRing (view t) (fitted (length (view t .ring)) ps)) s (b .0)
-      (ap (withRing (view t))
-      (ap (rows 4 (sizesOf t .updates + 1) updateOf) (b .1) ∙ ap (λ (k : ℕ). rows 4 k updateOf p) (sym (at .places)) ∙ e ∙ ap (λ (k : ℕ). fitted k ps) n))
-
--- the places, then the ring's words
-pub ring-stored : (s : Tables) (r : Ring) (t u : List ℕ) → Left t (withPlaces s (r .read) (r .write))
-    → Left u (withRing (view t) (fitted (length (view t .ring)) (r .places))) → Left u (withRingOf s r)
-unfolding withRingOf withPlaces withRing
-ring-stored s r t u l k = record { seen = k .seen ∙ ap (λ (x : Tables). withRing x (fitted (length (x .ring)) (r .places))) (l .seen); sized = k .sized }

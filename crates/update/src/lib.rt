@@ -1,168 +1,145 @@
-// The update ring (document 01, "Update ring"), by value: each function gives the ring that it leaves.
+// The ring in the tables: loaded, lent to the steps, and stored where they changed it.
 ghost use mathlib.Core.Path.{_≡_};
-ghost use Rattle.update.specs.Ring.{permissionOf, cleanupOf, afterOf, pushOf, popOf, namesOf, queuedOf, markOf};
+ghost use Prim.Native.Nat.{_+_, _*_, _≤_};
+ghost use lib.ListN.{length};
+ghost use Rattle.words.specs.Runs.{part};
+ghost use Rattle.tables.specs.Tables.{withPlaces, withUpdate};
+ghost use Rattle.tables.specs.View.{view, Sized, Left, updateOf};
+ghost use Rattle.ring.specs.Ring.{cap, cleanupOf, pushOf, popOf, markOf};
+ghost use Rattle.update.specs.Stored.{ringOf, withRingOf, ringIn, RingAt};
+use ring::Item;
+use ring::PLACES;
+use ring::Ring;
+use ring::cleanup;
+use ring::permission;
 use tables::Update;
 
-pub mod lent;
-pub mod stored;
-
-pub use lent::mark;
-pub use lent::mark_lent;
-pub use lent::pop;
-pub use lent::pop_lent;
-pub use lent::push;
-pub use lent::push_lent;
-pub use stored::load_ring;
-pub use stored::mark_domain;
-pub use stored::pop_update;
-pub use stored::push_cleanup;
-pub use stored::store_ring;
-
-// The places of the largest ring.
-pub const PLACES: usize = 129;
-
-// `size` places are in use, one more than the ring can hold; those past them are nothing.
-pub struct Ring {
-    pub places: [Update; PLACES],
-    pub read: usize,
-    pub write: usize,
-    pub size: usize,
+// The words of the ring, from `start` up to `end`.
+struct Span {
+    start: usize,
+    end: usize,
+    places: usize,
 }
 
-// A ring that was pushed to. Where `ok` is false it was full, 14 RingFull, and it is as it was.
-pub struct PushOut {
-    pub ok: bool,
-    pub ring: Ring,
+fn span_of(t: &[u64]) -> Span
+    requires { ⌜ Sized (now t) ⌝ }
+    ensures { λ r. ⌜ RingAt (now (t .entry)) r ⌝ }
+{
+    let z = sizes::read_sizes(t);
+    let start = sizes::ring_at(z);
+    let places = z.updates + 1;
+    Span {
+        start,
+        end: start + places * 4,
+        places,
+    }
 }
 
-// What a pop gives: nothing where `got` is false.
-pub struct Item {
-    pub got: bool,
-    pub update: Update,
-}
+// ---- In the words of the ring
 
-pub struct PopOut {
-    pub item: Item,
-    pub ring: Ring,
-}
-
-pub fn permission(slot: u64, generation: u64, cores: u64) -> Update
-    ensures { λ r. ⌜ r ≡ permissionOf slot generation cores ⌝ }
+fn read_update(p: &[u64], a: usize) -> Update
+    requires { ⌜ a + 4 ≤ length (now p) ⌝ }
+    ensures { λ r. ⌜ r ≡ updateOf (part (now (p .entry)) a 4) ⌝ }
 {
     Update {
-        kind: Update::PERMISSION,
-        a: slot,
-        b: generation,
-        c: cores,
+        kind: p[a],
+        a: p[a + 1],
+        b: p[a + 2],
+        c: p[a + 3],
     }
 }
 
-pub fn cleanup(start: u64, end: u64) -> Update
-    ensures { λ r. ⌜ r ≡ cleanupOf start end ⌝ }
+fn ring_in(p: &[u64], n: usize, read: usize, write: usize) -> Ring
+    requires { ⌜ length (now p) ≡ n * 4 ⌝ }
+    requires { ⌜ n ≤ cap ⌝ }
+    ensures { λ r. ⌜ r ≡ ringIn n (now (p .entry)) read write ⌝ }
 {
-    Update {
-        kind: Update::CLEANUP,
-        a: start,
-        b: end,
-        c: 0,
+    let mut places = [tables::no_update(); PLACES];
+    let mut i = 0;
+    while i < n {
+        places[i] = read_update(p, i * 4);
+        i += 1;
+    }
+    Ring {
+        places,
+        read,
+        write,
+        size: n,
     }
 }
 
-// The place after i in a ring of `size` places.
-fn after(i: usize, size: usize) -> usize
-    ensures { λ r. ⌜ r ≡ afterOf i size ⌝ }
+// ---- In the tables
+
+pub fn load_ring(t: &[u64]) -> Ring
+    requires { ⌜ Sized (now t) ⌝ }
+    ensures { λ r. ⌜ r ≡ ringOf (view (now (t .entry))) ⌝ }
 {
-    if i < size {
-        let next = i + 1;
-        if next < size {
-            return next;
-        }
-    }
-    0
+    let s = span_of(t);
+    let read = tables::read_place(t) as usize;
+    let write = tables::write_place(t) as usize;
+    let a = s.start;
+    let e = s.end;
+    ring_in(&t[a..e], s.places, read, write)
 }
 
-// The ring is full where the place after the write place is the read place.
-pub fn pushed(ring: Ring, u: Update) -> PushOut
-    ensures { λ r. ⌜ r ≡ pushOf ring u ⌝ }
+// Place i, and the two that the header names: all that a step changes.
+fn store_place(t: &mut [u64], i: usize, u: Update, read: usize, write: usize)
+    requires { ⌜ Sized (now t) ⌝ }
+    ensures { λ _. ⌜ Left (now (t .exit)) (withPlaces (withUpdate (view (now (t .entry))) i u) read write) ⌝ }
 {
-    let write = ring.write;
-    let next = after(write, ring.size);
-    if words::both(next != ring.read, write < PLACES) {
-        let mut r = ring;
-        r.places[write] = u;
-        r.write = next;
-        return PushOut { ok: true, ring: r };
-    }
-    PushOut { ok: false, ring }
+    tables::store_update(t, i, u);
+    tables::set_places(t, read as u64, write as u64);
 }
 
-// The oldest update, whose place is cleared; none of an empty ring.
-pub fn popped(ring: Ring) -> PopOut
-    ensures { λ r. ⌜ r ≡ popOf ring ⌝ }
+// Queues the domain with its core map unless it is queued already; false where the ring is full.
+// Only a push moves the write place.
+pub fn mark_domain(t: &mut [u64], slot: u64, generation: u64, cores: u64) -> bool
+    requires { ⌜ Sized (now t) ⌝ }
+    ensures { λ r. ⌜ (r ≡ markOf (ringOf (view (now (t .entry)))) slot generation cores .ok)
+        × Left (now (t .exit)) (withRingOf (view (now (t .entry))) (markOf (ringOf (view (now (t .entry)))) slot generation cores .ring)) ⌝ }
 {
-    let read = ring.read;
-    let none = tables::no_update();
-    if words::both(read != ring.write, read < PLACES) {
-        let mut places = ring.places;
-        let update = places[read];
-        places[read] = none;
-        let left = Ring {
-            places,
-            read: after(read, ring.size),
-            write: ring.write,
-            size: ring.size,
-        };
-        let item = Item { got: true, update };
-        return PopOut { item, ring: left };
+    let ring = load_ring(t);
+    let at = ring.write;
+    let p = ring::mark_lent(ring, slot, generation, cores);
+    if p.ring.write != at {
+        store_place(
+            t,
+            at,
+            permission(slot, generation, cores),
+            p.ring.read,
+            p.ring.write,
+        );
     }
-    let item = Item {
-        got: false,
-        update: none,
-    };
-    PopOut { item, ring }
+    p.ok
 }
 
-// Whether it is a permission update of the domain with that handle.
-fn names(u: Update, slot: u64, generation: u64) -> bool
-    ensures { λ r. ⌜ r ≡ namesOf u slot generation ⌝ }
+// Queues start and end for cleanup; false where the ring is full.
+pub fn push_cleanup(t: &mut [u64], start: u64, end: u64) -> bool
+    requires { ⌜ Sized (now t) ⌝ }
+    ensures { λ r. ⌜ (r ≡ pushOf (ringOf (view (now (t .entry)))) (cleanupOf start end) .ok)
+        × Left (now (t .exit)) (withRingOf (view (now (t .entry))) (pushOf (ringOf (view (now (t .entry)))) (cleanupOf start end) .ring)) ⌝ }
 {
-    words::both(
-        u.kind == Update::PERMISSION,
-        words::both(u.a == slot, u.b == generation),
-    )
+    let ring = load_ring(t);
+    let at = ring.write;
+    let u = cleanup(start, end);
+    let p = ring::push_lent(ring, u);
+    if p.ok {
+        store_place(t, at, u, p.ring.read, p.ring.write);
+    }
+    p.ok
 }
 
-// Whether a permission update of the domain stands between the read place and the write place.
-pub fn queued(ring: Ring, slot: u64, generation: u64) -> bool
-    ensures { λ r. ⌜ r ≡ queuedOf ring slot generation ⌝ }
+// Pop of an empty ring answers none.
+pub fn pop_update(t: &mut [u64]) -> Item
+    requires { ⌜ Sized (now t) ⌝ }
+    ensures { λ r. ⌜ (r ≡ popOf (ringOf (view (now (t .entry)))) .item)
+        × Left (now (t .exit)) (withRingOf (view (now (t .entry))) (popOf (ringOf (view (now (t .entry)))) .ring)) ⌝ }
 {
-    let write = ring.write;
-    let size = ring.size;
-    let mut i = ring.read;
-    let mut n = 0;
-    while n < PLACES {
-        if i == write {
-            return false;
-        }
-        if i >= PLACES {
-            return false;
-        }
-        let u = ring.places[i];
-        if names(u, slot, generation) {
-            return true;
-        }
-        i = after(i, size);
-        n += 1;
+    let ring = load_ring(t);
+    let at = ring.read;
+    let p = ring::pop_lent(ring);
+    if p.item.got {
+        store_place(t, at, tables::no_update(), p.ring.read, p.ring.write);
     }
-    false
-}
-
-// Queues the domain with its core map unless it is queued already.
-pub fn marked(ring: Ring, slot: u64, generation: u64, cores: u64) -> PushOut
-    ensures { λ r. ⌜ r ≡ markOf ring slot generation cores ⌝ }
-{
-    if queued(ring, slot, generation) {
-        return PushOut { ok: true, ring };
-    }
-    pushed(ring, permission(slot, generation, cores))
+    p.item
 }

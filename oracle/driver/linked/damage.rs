@@ -13,8 +13,8 @@ use super::fill;
 use super::lent::{self, Lent};
 use super::shapes::{self, Edits, Shape};
 use super::twists;
-use crate::compare::shorten;
-use crate::random::Random;
+use driver::compare::shorten;
+use driver::random::Random;
 
 const SOUND: &str = "none: they are sound";
 const LENGTH: &str = "the work area has the tables' length";

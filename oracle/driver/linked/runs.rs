@@ -2,7 +2,7 @@
 
 use shared::calls::{Answer, Reply};
 
-use crate::random::Random;
+use driver::random::Random;
 
 /// How many words are lent for the list of this answer: none, too few, enough, more.
 pub fn places(random: &mut Random, answer: &Answer) -> usize {

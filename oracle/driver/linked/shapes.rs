@@ -4,8 +4,8 @@ use shared::calls::{Access, Call, Handle};
 use shared::decode::decode;
 use shared::tables::Tables;
 
-use crate::judge::Judge;
-use crate::random::{self, Random, Style};
+use driver::judge::Judge;
+use driver::random::{self, Random, Style};
 
 /// Words that are set to other values.
 pub type Edits = Vec<(usize, u64)>;

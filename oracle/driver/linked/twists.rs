@@ -5,7 +5,7 @@ use shared::calls::{Handle, Update};
 use shared::tables::{Capa, Kind, Pool, Record, Tables};
 
 use super::shapes::{Edits, Shape};
-use crate::random::Random;
+use driver::random::Random;
 
 /// What a twist does; none where the tables have no place for it.
 type Twist = fn(&mut Random, &mut Tables) -> Option<()>;

@@ -3,7 +3,8 @@ use Prim.Native.Nat.{_+_, _-_, _≤_}
 use Rattle.arena.specs.Arena.{freshLink}
 use Rattle.arena.specs.Fresh.{Filled, filled-none, filled-more, filled-all}
 use Rattle.arena.specs.Words.{links-many, gens-many}
-use Rattle.tables.specs.View.{arenaOf, poolWidth}
+use Rattle.tables.specs.View.{arenaOf}
+use Rattle.sizes.specs.Sizes.{poolWidth}
 use lib.ListN.{length}
 use mathlib.Core.Path.{_≡_, sym, _∙_}
 use native.Mathlib.Nat.{mod-lt}

@@ -1,6 +1,6 @@
 -- Made where the sizes fit, else nothing.
 use mathlib.Core.Path.{sym, _∙_}
-use Rattle.tables.specs.Limits.{limits-true}
+use Rattle.sizes.specs.Limits.{limits-true}
 use Rattle.bench.specs.Steps.{now-made, too-large, other-length}
 use borrow.Author.Needs.{needs}
 use Rattle.bench.proofs.bench_make.Statement.{statement}

@@ -1,7 +1,7 @@
 -- The engine's step where the test holds, else nothing.
 use mathlib.Core.Path.{sym, ap, _∙_}
 use Rattle.tables.specs.Tests.{sized-true}
-use Rattle.update.specs.declared.Item.{Item}
+use Rattle.ring.specs.declared.Item.{Item}
 use Rattle.bench.specs.Steps.{taken, refused}
 use borrow.Author.Needs.{needs}
 use Rattle.bench.proofs.bench_pop.Statement.{statement}

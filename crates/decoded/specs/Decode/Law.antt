@@ -32,10 +32,10 @@ link-read (some i) = refl
 
 module _ (s : State) (h : Sound s) where
   pub record-once : (i : ℕ) → recordUses (s .domains) i ≤ 1
-  record-once i = omega (arith, once-at-most (s .sizes .records) (recordUses (s .domains)) (s .recordPool .free) (h .recordPool .once) i)
+  record-once i = omega (arith, once-at-most (s .sizes .records) (recordUses (s .domains)) (s .recordPool .free) (h .tracked .recordPool .once) i)
 
   pub record-beyond : (i : ℕ) → s .sizes .records ≤ i → recordUses (s .domains) i ≡ 0
-  record-beyond i b = omega (arith, none-beyond (s .sizes .records) (recordUses (s .domains)) (s .recordPool .free) (h .recordPool .once) i b)
+  record-beyond i b = omega (arith, none-beyond (s .sizes .records) (recordUses (s .domains)) (s .recordPool .free) (h .tracked .recordPool .once) i b)
 
   pub record-row : (i : ℕ) → 0 < recordUses (s .domains) i → getD (tablesOf s .records) i noRecord ≡ recordIn (s .domains) i
   unfolding tablesOf recordsFor
@@ -46,7 +46,7 @@ module _ (s : State) (h : Sound s) where
 
   region-row : (i : ℕ) (g : state.Region) → In (s .regions) i g → getD (tablesOf s .regions) i noRegion ≡ regionFor (s .regions) i (some g)
   unfolding regionAt
-  region-row i g at = region-read s (h .regionsLength) i g at
+  region-row i g at = region-read s (h .outside .regionsLength) i g at
 
   module _ (d : ℕ) (x : state.Domain) (at : In (s .domains) d x) where
     tracker-read : trackerFrom (s .sizes .records) (tablesOf s .records) (link (firstSlot (x .tracker))) ≡ x .tracker
@@ -56,24 +56,24 @@ module _ (s : State) (h : Sound s) where
 
     domain-read : domainFrom (s .sizes .slots) (s .sizes .records) (tablesOf s .records) (getD (tablesOf s .domains) d noDomain) ≡ x
     domain-read =
-        let l = h .lists d x at in
+        let l = h .outside .lists d x at in
         let locals = list-read (s .sizes .slots) x (record { heldLength = l .heldLength; once = l .once }) in
-        ap (domainFrom (s .sizes .slots) (s .sizes .records) (tablesOf s .records)) (domain-row s (h .domainsLength) d x at)
+        ap (domainFrom (s .sizes .slots) (s .sizes .records) (tablesOf s .records)) (domain-row s (h .outside .domainsLength) d x at)
         ∙ λ i. record { manager = link-read (x .manager) i; cores = x .cores; locals = locals i; tracker = tracker-read i }
 
   domains-read : domainsFrom (tablesOf s) ≡ s .domains
   unfolding domainsFrom tablesOf
-  domains-read = table-read (s .domains) (s .sizes .domains) (h .domainsLength) (s .domainPool) (h .domainPool .once) _ domain-read
+  domains-read = table-read (s .domains) (s .sizes .domains) (h .outside .domainsLength) (s .domainPool) (h .outside .domainPool .once) _ domain-read
 
   regions-read : regionsFrom (tablesOf s) ≡ s .regions
   unfolding regionsFrom tablesOf
-  regions-read = table-read (s .regions) (s .sizes .regions) (h .regionsLength) (s .regionPool) (h .regionPool .once) _ (λ i g at. region-from (s .sizes .regions) (s .regions) (h .regionsLength) (h .regions) (tablesOf s .regions) region-row i g at)
+  regions-read = table-read (s .regions) (s .sizes .regions) (h .outside .regionsLength) (s .regionPool) (h .outside .regionPool .once) _ (λ i g at. region-from (s .sizes .regions) (s .regions) (h .outside .regionsLength) (h .outside .regions) (tablesOf s .regions) region-row i g at)
 
   pub decode : stateOf (tablesOf s) ≡ s
   unfolding stateOf tablesOf
   decode =
-      let dp = pool-read (s .sizes .domains) (inUse (s .domains)) (s .domainPool) (h .domainPool .once) in
-      let rp = pool-read (s .sizes .regions) (inUse (s .regions)) (s .regionPool) (h .regionPool .once) in
-      let tp = pool-read (s .sizes .records) (recordUses (s .domains)) (s .recordPool) (h .recordPool .once) in
+      let dp = pool-read (s .sizes .domains) (inUse (s .domains)) (s .domainPool) (h .outside .domainPool .once) in
+      let rp = pool-read (s .sizes .regions) (inUse (s .regions)) (s .regionPool) (h .outside .regionPool .once) in
+      let tp = pool-read (s .sizes .records) (recordUses (s .domains)) (s .recordPool) (h .tracked .recordPool .once) in
       let q = queue-read (s .sizes .updates) (s .queue) (h .queue .readPlace) (h .queue .fits) in
       λ i. record { sizes = s .sizes; domainPool = dp i; regionPool = rp i; recordPool = tp i; domains = domains-read i; regions = regions-read i; queue = q i }

@@ -9,7 +9,7 @@ use lib.ListN.{getD}
 use Rattle.model.specs.Lists.{if_then_else_, countUp}
 use Rattle.model.specs.State as state
 use Rattle.model.specs.State.{State, Pool, Capa, noCapa, region, regionRevoke, management, channel, LocalList, Record, Kind, Root, Alias, Carve, Queue, permission, cleanup}
-use Rattle.tables.specs.declared.sizes.Sizes.{Sizes}
+use Rattle.sizes.specs.declared.Sizes.{Sizes}
 use Rattle.tables.specs.declared.Handle.{Handle}
 use Rattle.tables.specs.declared.Slot.{Slot}
 use Rattle.tables.specs.declared.RegionCapa.{RegionCapa}

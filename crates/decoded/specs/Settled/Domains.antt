@@ -16,7 +16,7 @@ use Rattle.tables.specs.Tables.{Domain, noSlot, noRecord}
 use Rattle.decoded.specs.Tables.{slotFor, slotsFor, domainFor}
 use Rattle.decoded.specs.Decode.Read.{chainFrom, linked, capaFrom, heldIn, afterSlot, listFrom, recordFrom, domainFrom}
 use Rattle.decoded.specs.Decode.Walks.{map-up, getD-any}
-use Rattle.decoded.specs.Settled.Ends.{stack-long, stack-first, stack-after, chain-first}
+use Rattle.decoded.specs.Settled.Ends.{chainEnd, stack-long, stack-first, stack-after, chain-first}
 use Rattle.decoded.specs.Settled.Tidy.{SlotTidy, DomainTidy}
 
 pub link-kept : (l : ℕ) → link (linked l) ≡ l
@@ -49,7 +49,7 @@ pub first-read : (f : ℕ → Record) → ((i : ℕ) → f i .slot ≡ i) → (l
 first-read f e [] = refl
 first-read f e (i ∷ l) = ap some (e i)
 
-module _ (m n : ℕ) (l : List Region) (x : Domain) (long : length (x .slots) ≡ m) (h : DomainTidy m n l x)
+module _ (m n : ℕ) (l : List Region) (x : Domain) (long : length (x .slots) ≡ m) (h : DomainTidy m x) (ended : chainEnd (λ i. getD l i noRecord .next) n (x .head .tracker) ≡ 0)
     (marks : (j : ℕ) → j < m → getD (x .slots) j noSlot .kind ≡ 1 → 0 < count (eqb j) (listFrom m x .free)) where
   slots-kept : slotsFor m (listFrom m x) ≡ x .slots
   slots-kept =
@@ -65,7 +65,7 @@ module _ (m n : ℕ) (l : List Region) (x : Domain) (long : length (x .slots) �
   domain-kept =
       let manager = link-kept (x .head .manager) in
       let f : ℕ → Region = λ i. getD l i noRecord in
-      let tracker = ap link (first-read (λ i. recordFrom i (f i)) (λ i. refl) (chainFrom (λ i. f i .next) n (x .head .tracker))) ∙ chain-first (λ i. f i .next) n (x .head .tracker) (h .trackerEnds) in
+      let tracker = ap link (first-read (λ i. recordFrom i (f i)) (λ i. refl) (chainFrom (λ i. f i .next) n (x .head .tracker))) ∙ chain-first (λ i. f i .next) n (x .head .tracker) ended in
       let head = stack-first (afterSlot (x .slots)) (m - x .head .count) (x .head .head) (h .ends) in
       let count : m - length (listFrom m x .free) ≡ x .head .count = omega (arith, stack-long (afterSlot (x .slots)) (m - x .head .count) (x .head .head), h .fits) in
       λ i. record { head = record { manager = manager i; cores = x .head .cores; tracker = tracker i; head = head i; count = count i }; slots = slots-kept i }

@@ -38,10 +38,10 @@ module _ (v : Tables) (s : Shaped v) (t : Tidy v) (w : Walked v) where
 
   domains-kept : domainsFor (v .sizes .domains) (v .sizes .slots) (domainsFrom v) ≡ v .domains
   unfolding domainsFor domainsFrom
-  domains-kept = table-kept (v .sizes .domains) (v .domainPool) domainRead (λ i o. domainFor (v .sizes .slots) o) (v .domains) noDomain (s .domains) used (λ i b e. sym (t .domainsFree i b e))
+  domains-kept = table-kept (v .sizes .domains) (v .domainPool) domainRead (λ i o. domainFor (v .sizes .slots) o) (v .domains) noDomain (s .domains) used (λ i b e. sym (t .outside .domainsFree i b e))
     where
       used : (i : ℕ) → i < v .sizes .domains → taken (v .domainPool) i ≡ true → domainFor (v .sizes .slots) (some (domainRead i)) ≡ getD (v .domains) i noDomain
-      used i b e = domain-kept (v .sizes .slots) (v .sizes .records) (v .records) (getD (v .domains) i noDomain) (each-at _ (v .domains) (s .slots) i noDomain (omega (arith, s .domains))) (t .domainsUsed i b e) (w .slotMarks i b e)
+      used i b e = domain-kept (v .sizes .slots) (v .sizes .records) (v .records) (getD (v .domains) i noDomain) (each-at _ (v .domains) (s .slots) i noDomain (omega (arith, s .domains))) (t .outside .domainsUsed i b e) (t .tracked .trackersEnd i b e) (w .outside .slotMarks i b e)
 
   -- ---- regions
 
@@ -50,15 +50,15 @@ module _ (v : Tables) (s : Shaped v) (t : Tidy v) (w : Walked v) where
 
   regions-kept : regionsFor (v .sizes .regions) (regionsFrom v) ≡ v .regions
   unfolding regionsFor regionsFrom
-  regions-kept = table-kept (v .sizes .regions) (v .regionPool) regionRead (regionFor (regionsFrom v)) (v .regions) noRegion (s .regions) used (λ i b e. sym (t .regionsFree i b e))
+  regions-kept = table-kept (v .sizes .regions) (v .regionPool) regionRead (regionFor (regionsFrom v)) (v .regions) noRegion (s .regions) used (λ i b e. sym (t .outside .regionsFree i b e))
     where
       used : (i : ℕ) → i < v .sizes .regions → taken (v .regionPool) i ≡ true → regionFor (regionsFrom v) i (some (regionRead i)) ≡ getD (v .regions) i noRegion
       used i b e =
           region-kept (v .sizes .regions) (v .regions) (regionsFrom v) i
           (λ p k q.
-          let u = w .parentTaken i p b e k q in
-          next-kept (v .sizes .regions) (v .regions) (regionsFrom v) i p (table-used (v .sizes .regions) (v .regionPool) regionRead p (u .0) (u .1)) (w .childrenEnd p (u .0) (u .1)) (w .listed i p b e k q))
-          (t .regionsUsed i b e) (w .childrenEnd i b e)
+          let u = w .outside .parentTaken i p b e k q in
+          next-kept (v .sizes .regions) (v .regions) (regionsFrom v) i p (table-used (v .sizes .regions) (v .regionPool) regionRead p (u .0) (u .1)) (w .outside .childrenEnd p (u .0) (u .1)) (w .outside .listed i p b e k q))
+          (t .outside .regionsUsed i b e) (w .outside .childrenEnd i b e)
 
   -- ---- records
 
@@ -66,14 +66,14 @@ module _ (v : Tables) (s : Shaped v) (t : Tidy v) (w : Walked v) where
   unfolding domainsFrom
   trackers-stored d x e =
       let u = table-in (v .sizes .domains) (v .domainPool) domainRead d x e in
-      subst (λ (y : state.Domain). Stored (λ i. getD (v .records) i noRecord) (y .tracker)) (u .2) (walked-stored (λ i. getD (v .records) i noRecord) (v .sizes .records) (getD (v .domains) d noDomain .head .tracker) (t .domainsUsed d (u .0) (u .1) .trackerEnds))
+      subst (λ (y : state.Domain). Stored (λ i. getD (v .records) i noRecord) (y .tracker)) (u .2) (walked-stored (λ i. getD (v .records) i noRecord) (v .sizes .records) (getD (v .domains) d noDomain .head .tracker) (t .tracked .trackersEnd d (u .0) (u .1)))
 
   record-at : (i : ℕ) → i < v .sizes .records → recordIn (domainsFrom v) i ≡ getD (v .records) i noRecord
   record-at i b = elim (cmp 0 (recordUses (domainsFrom v) i)) [
     | lt u ↦ record-kept (λ j. getD (v .records) j noRecord) (domainsFrom v) trackers-stored i u
     | ge u ↦ elim (test (taken (v .recordPool) i)) [
       | holds e ↦ absurd (omega (arith, w .recordsUsed i b e))
-      | fails e ↦ record-unused (domainsFrom v) i (omega arith) ∙ sym (t .recordsFree i b e)
+      | fails e ↦ record-unused (domainsFrom v) i (omega arith) ∙ sym (t .tracked .recordsFree i b e)
     ]
   ]
 
@@ -86,9 +86,9 @@ module _ (v : Tables) (s : Shaped v) (t : Tidy v) (w : Walked v) where
   pub settle : Settled v
   unfolding tablesOf stateOf queueFrom
   settle =
-      let dp = pool-kept (v .sizes .domains) (v .domainPool) (s .domainPool .links) (t .domainPool) (w .domainMarks) in
-      let rp = pool-kept (v .sizes .regions) (v .regionPool) (s .regionPool .links) (t .regionPool) (w .regionMarks) in
-      let tp = pool-kept (v .sizes .records) (v .recordPool) (s .recordPool .links) (t .recordPool) (t .recordMarks) in
-      let write = write-kept (v .sizes .updates) (v .read) (v .write) (v .ring) (s .ring) (w .read) (w .write) (t .queued) (t .unqueued) in
-      let ring = ring-kept (v .sizes .updates) (v .read) (v .write) (v .ring) (s .ring) (w .read) (w .write) (t .queued) (t .unqueued) in
+      let dp = pool-kept (v .sizes .domains) (v .domainPool) (s .domainPool .links) (t .outside .domainPool) (w .outside .domainMarks) in
+      let rp = pool-kept (v .sizes .regions) (v .regionPool) (s .regionPool .links) (t .outside .regionPool) (w .outside .regionMarks) in
+      let tp = pool-kept (v .sizes .records) (v .recordPool) (s .recordPool .links) (t .tracked .recordPool) (t .tracked .recordMarks) in
+      let write = write-kept (v .sizes .updates) (v .read) (v .write) (v .ring) (s .ring) (w .queue .read) (w .queue .write) (t .queue .queued) (t .queue .unqueued) in
+      let ring = ring-kept (v .sizes .updates) (v .read) (v .write) (v .ring) (s .ring) (w .queue .read) (w .queue .write) (t .queue .queued) (t .queue .unqueued) in
       λ i. record { sizes = v .sizes; read = v .read; write = write i; domainPool = dp i; regionPool = rp i; recordPool = tp i; domains = domains-kept i; regions = regions-kept i; records = records-kept i; ring = ring i }

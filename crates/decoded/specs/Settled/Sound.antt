@@ -10,7 +10,7 @@ use lib.ListN.{length, getD, length-map}
 use Rattle.model.specs.Lists.{oneIf, isSome, count, slotOf, In}
 use Rattle.model.specs.State as state
 use Rattle.model.specs.State.{parentOf}
-use Rattle.model.specs.Sound.{Sound, OnceEach, inUse, recordUses, names}
+use Rattle.model.specs.Sound.{Sound, OutsideSound, TrackersSound, QueueSound, OnceEach, inUse, recordUses, names}
 use Rattle.laws.specs.Cases.{lt, ge, cmp, ltb-t, holds, fails, test, true-is, false-is}
 use Rattle.laws.specs.Stack.{one}
 use Rattle.laws.specs.Tree.Slots.{live-is}
@@ -21,7 +21,7 @@ use Rattle.decoded.specs.Decode.Read.{freeFrom, poolFrom, taken, tableFr
 use Rattle.decoded.specs.Decode.Places.{places-outside}
 use Rattle.decoded.specs.Decode.Regions.{children-few}
 use Rattle.decoded.specs.Settled.Ends.{chainEnd, chain-full}
-use Rattle.decoded.specs.Settled.Tidy.{Tidy, Marked, Walked}
+use Rattle.decoded.specs.Settled.Tidy.{Tidy, TrackersTidy, Marked, OutsideWalked, QueueWalked, Walked}
 use Rattle.decoded.specs.Settled.Pools.{not-on, on, table-used, table-free, table-in}
 use Rattle.decoded.specs.Settled.Domains.{held-at}
 use Rattle.decoded.specs.Settled.Law.{each-at}
@@ -47,7 +47,7 @@ parent-is (suc zero) p h = absurd (omega arith)
 parent-is (suc (suc zero)) p h = refl
 parent-is (suc (suc (suc k))) p h = refl
 
-module _ (v : Tables) (s : Shaped v) (t : Tidy v) (h : Sound (stateOf v)) where
+module _ (v : Tables) (s : Shaped v) (h : OutsideSound (stateOf v)) where
   abbrev domainRead : ℕ → state.Domain
   domainRead i = domainFrom (v .sizes .slots) (v .sizes .records) (v .records) (getD (v .domains) i noDomain)
 
@@ -61,13 +61,6 @@ module _ (v : Tables) (s : Shaped v) (t : Tidy v) (h : Sound (stateOf v)) where
   region-marks : Marked (v .sizes .regions) (v .regionPool)
   unfolding stateOf poolFrom regionsFrom
   region-marks = marks (v .sizes .regions) (v .regionPool) regionRead (h .regionPool .once)
-
-  record-uses : (i : ℕ) → i < v .sizes .records → taken (v .recordPool) i ≡ true → 0 < recordUses (domainsFrom v) i
-  unfolding stateOf poolFrom
-  record-uses i b e = elim (cmp 0 (count (eqb i) (freeFrom (v .sizes .records) (v .recordPool)))) [
-    | lt o ↦ absurd (false-is (t .recordMarks i b ∙ on (freeFrom (v .sizes .records) (v .recordPool)) i o) (true-is e))
-    | ge o ↦ omega (arith, h .recordPool .once i, ap oneIf (ltb-t i (v .sizes .records) b))
-  ]
 
   slot-marks : (i : ℕ) → i < v .sizes .domains → taken (v .domainPool) i ≡ true → (j : ℕ) → j < v .sizes .slots → getD (getD (v .domains) i noDomain .slots) j noSlot .kind ≡ 1 → 0 < count (eqb j) (listFrom (v .sizes .slots) (getD (v .domains) i noDomain) .free)
   unfolding stateOf domainsFrom
@@ -113,9 +106,28 @@ module _ (v : Tables) (s : Shaped v) (t : Tidy v) (h : Sound (stateOf v)) where
         ap (λ (x : state.Region). count (eqb i) (x .children)) (parent-read .2),
       )
 
+  pub outside-walked : OutsideWalked v
+  outside-walked = record {
+    domainMarks = domain-marks;
+    regionMarks = region-marks;
+    slotMarks = slot-marks;
+    childrenEnd = children-end;
+    parentTaken = λ i p b e k q. let r = parent-read i b e p k q in (r .0, r .1);
+    listed = λ i p b e k q. in-list i b e p k q;
+  }
+
+module _ (v : Tables) (t : TrackersTidy v) (h : TrackersSound (stateOf v)) where
+  record-uses : (i : ℕ) → i < v .sizes .records → taken (v .recordPool) i ≡ true → 0 < recordUses (domainsFrom v) i
+  unfolding stateOf poolFrom
+  record-uses i b e = elim (cmp 0 (count (eqb i) (freeFrom (v .sizes .records) (v .recordPool)))) [
+    | lt o ↦ absurd (false-is (t .recordMarks i b ∙ on (freeFrom (v .sizes .records) (v .recordPool)) i o) (true-is e))
+    | ge o ↦ omega (arith, h .recordPool .once i, ap oneIf (ltb-t i (v .sizes .records) b))
+  ]
+
+module _ (v : Tables) (h : QueueSound (v .sizes .updates) (stateOf v .domainPool) (stateOf v .domains) (stateOf v .queue)) where
   read-place : v .read < v .sizes .updates + 1
   unfolding stateOf queueFrom
-  read-place = h .queue .readPlace
+  read-place = h .readPlace
 
   -- a write place outside gives a queue that is too long
   write-place : v .write < v .sizes .updates + 1
@@ -125,18 +137,12 @@ module _ (v : Tables) (s : Shaped v) (t : Tidy v) (h : Sound (stateOf v)) where
       let places = placesFrom n (v .write) n (v .read) in
       elim (cmp (v .write) n) [
         | lt b ↦ b
-        | ge b ↦ absurd (omega (arith, h .queue .fits, length-map places (λ k. updateFrom (getD (v .ring) k noUpdate)), places-outside n (v .write) b n (v .read) read-place))
+        | ge b ↦ absurd (omega (arith, h .fits, length-map places (λ k. updateFrom (getD (v .ring) k noUpdate)), places-outside n (v .write) b n (v .read) read-place))
       ]
 
-  pub sound-walked : Walked v
-  sound-walked = record {
-    read = read-place;
-    write = write-place;
-    domainMarks = domain-marks;
-    regionMarks = region-marks;
-    slotMarks = slot-marks;
-    childrenEnd = children-end;
-    parentTaken = λ i p b e k q. let r = parent-read i b e p k q in (r .0, r .1);
-    listed = λ i p b e k q. in-list i b e p k q;
-    recordsUsed = record-uses;
-  }
+  pub queue-walked : QueueWalked v
+  queue-walked = record { read = read-place; write = write-place }
+
+pub sound-walked : (v : Tables) → Shaped v → Tidy v → Sound (stateOf v) → Walked v
+unfolding stateOf
+sound-walked v s t h = record { outside = outside-walked v s (h .outside); queue = queue-walked v (h .queue); recordsUsed = record-uses v (t .tracked) (h .tracked) }

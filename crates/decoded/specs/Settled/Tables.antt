@@ -16,7 +16,7 @@ use Rattle.laws.specs.Cases.{lt, ge, cmp, ltb-t, true-is, false-is}
 use Rattle.laws.specs.Stack.{once-at-most}
 use Rattle.laws.specs.Words.SameDomains.{Listed}
 use Rattle.tables.specs.declared.Update.{Update}
-use Rattle.tables.specs.Tables.{noDomain, noSlot, noRegion, noRecord, noUpdate}
+use Rattle.tables.specs.Tables.{Domain, noDomain, noSlot, noRegion, noRecord, noUpdate}
 use Rattle.decoded.specs.Rows.{getD-up}
 use Rattle.decoded.specs.Queue.Round.{along-at}
 use Rattle.decoded.specs.Queue.Ring.{beyond}
@@ -29,7 +29,7 @@ use Rattle.decoded.specs.Decode.Trackers.{tracker-fits, tracker-stored}
 use Rattle.decoded.specs.Decode.Queue.{elem-at}
 use Rattle.decoded.specs.Decode.Places.{along}
 use Rattle.decoded.specs.Decode.Law.{record-once, record-beyond, record-row}
-use Rattle.decoded.specs.Settled.Ends.{stackEnd, stacked-ends}
+use Rattle.decoded.specs.Settled.Ends.{stackEnd, chainEnd, stacked-ends}
 use Rattle.decoded.specs.Settled.Tidy.{PoolTidy, Marked, SlotTidy, DomainTidy, RegionTidy, UpdateTidy, Tidy}
 use Rattle.decoded.specs.Settled.Pools.{not-on, on}
 use Rattle.decoded.specs.Settled.Records.{stored-ends}
@@ -100,18 +100,20 @@ module _ (s : State) (h : Sound s) where
   unfolding tablesOf ringFor
   place-row k b = getD-up (placeFor (s .sizes .updates) (s .queue)) (s .sizes .updates + 1) k noUpdate b
 
-  domain-tidy : (i : ℕ) (x : state.Domain) → In (s .domains) i x → DomainTidy (s .sizes .slots) (s .sizes .records) (tablesOf s .records) (domainFor (s .sizes .slots) (some x))
+  domain-tidy : (i : ℕ) (x : state.Domain) → In (s .domains) i x → DomainTidy (s .sizes .slots) (domainFor (s .sizes .slots) (some x))
   domain-tidy i x at =
       let m = s .sizes .slots in
       let l = x .locals in
-      let y = h .lists i x at in
+      let y = h .outside .lists i x at in
       let listed : Listed m l = record { heldLength = y .heldLength; once = y .once } in
       record {
         fits = omega arith;
         ends = ap (λ k. stackEnd (afterSlot (slotsFor m l)) k (slotOr0 (firstOf (l .free)))) (list-steps m l listed) ∙ stacked-ends (afterSlot (slotsFor m l)) (l .free) (list-stacked m l listed);
         slots = λ j b. subst SlotTidy (sym (getD-up (λ k. slotFor (l .free) k (slotOf (l .held) k)) m j noSlot b)) (slot-tidy (l .free) j (slotOf (l .held) j));
-        trackerEnds = stored-ends (λ k. getD (tablesOf s .records) k noRecord) (s .sizes .records) (x .tracker) (tracker-fits (s .domains) i x at (record-once s h) (s .sizes .records) (record-beyond s h)) (tracker-stored (s .domains) i x at (record-once s h) (λ k. getD (tablesOf s .records) k noRecord) (record-row s h) [] (x .tracker) refl);
       }
+
+  tracker-ends : (i : ℕ) (x : state.Domain) → In (s .domains) i x → chainEnd (λ k. getD (tablesOf s .records) k noRecord .next) (s .sizes .records) (domainFor (s .sizes .slots) (some x) .head .tracker) ≡ 0
+  tracker-ends i x at = stored-ends (λ k. getD (tablesOf s .records) k noRecord) (s .sizes .records) (x .tracker) (tracker-fits (s .domains) i x at (record-once s h) (s .sizes .records) (record-beyond s h)) (tracker-stored (s .domains) i x at (record-once s h) (λ k. getD (tablesOf s .records) k noRecord) (record-row s h) [] (x .tracker) refl)
 
   -- how many are queued
   behind : along (s .sizes .updates + 1) (tablesOf s .read) (tablesOf s .write) ≡ length (s .queue .items)
@@ -129,26 +131,32 @@ module _ (s : State) (h : Sound s) where
   free-record i b t =
       getD-up (recordIn (s .domains)) (s .sizes .records) i noRecord b
       ∙ elim (cmp 0 (recordUses (s .domains) i)) [
-        | lt o ↦ absurd (false-is t (true-is (taken-used (s .sizes .records) (recordUses (s .domains)) (s .recordPool) (h .recordPool .once) i b (omega (arith, record-once s h i)))))
+        | lt o ↦ absurd (false-is t (true-is (taken-used (s .sizes .records) (recordUses (s .domains)) (s .recordPool) (h .tracked .recordPool .once) i b (omega (arith, record-once s h i)))))
         | ge o ↦ record-unused (s .domains) i (omega arith)
       ]
 
   pub tables-tidy : Tidy (tablesOf s)
   unfolding tablesOf
   tables-tidy = record {
-    domainPool = pool-tidy (s .sizes .domains) (inUse (s .domains)) (s .domainPool) (h .domainPool .once);
-    regionPool = pool-tidy (s .sizes .regions) (inUse (s .regions)) (s .regionPool) (h .regionPool .once);
-    recordPool = pool-tidy (s .sizes .records) (recordUses (s .domains)) (s .recordPool) (h .recordPool .once);
-    recordMarks = pool-marked (s .sizes .records) (recordUses (s .domains)) (s .recordPool) (h .recordPool .once);
-    domainsUsed = λ i b t.
-        let x = taken-in (s .sizes .domains) (s .domains) (s .domainPool) (h .domainPool .once) i b t in
-        subst (DomainTidy (s .sizes .slots) (s .sizes .records) (tablesOf s .records)) (sym (domain-row i b ∙ ap (domainFor (s .sizes .slots)) (x .1))) (domain-tidy i (x .0) (x .1));
-    domainsFree = λ i b t. domain-row i b ∙ ap (domainFor (s .sizes .slots)) (free-in (s .sizes .domains) (s .domains) (s .domainPool) (h .domainPool .once) i b t);
-    regionsUsed = λ i b t.
-        let x = taken-in (s .sizes .regions) (s .regions) (s .regionPool) (h .regionPool .once) i b t in
-        subst RegionTidy (sym (region-row i b ∙ ap (regionFor (s .regions) i) (x .1))) (region-go (s .regions) i (x .0 .kind) (x .0) refl);
-    regionsFree = λ i b t. region-row i b ∙ ap (regionFor (s .regions) i) (free-in (s .sizes .regions) (s .regions) (s .regionPool) (h .regionPool .once) i b t);
-    recordsFree = free-record;
-    queued = λ k b o. is-queued k b (omega (arith, behind));
-    unqueued = λ k b o. is-unqueued k b (omega (arith, behind));
+    outside = record {
+      domainPool = pool-tidy (s .sizes .domains) (inUse (s .domains)) (s .domainPool) (h .outside .domainPool .once);
+      regionPool = pool-tidy (s .sizes .regions) (inUse (s .regions)) (s .regionPool) (h .outside .regionPool .once);
+      domainsUsed = λ i b t.
+          let x = taken-in (s .sizes .domains) (s .domains) (s .domainPool) (h .outside .domainPool .once) i b t in
+          subst (DomainTidy (s .sizes .slots)) (sym (domain-row i b ∙ ap (domainFor (s .sizes .slots)) (x .1))) (domain-tidy i (x .0) (x .1));
+      domainsFree = λ i b t. domain-row i b ∙ ap (domainFor (s .sizes .slots)) (free-in (s .sizes .domains) (s .domains) (s .domainPool) (h .outside .domainPool .once) i b t);
+      regionsUsed = λ i b t.
+          let x = taken-in (s .sizes .regions) (s .regions) (s .regionPool) (h .outside .regionPool .once) i b t in
+          subst RegionTidy (sym (region-row i b ∙ ap (regionFor (s .regions) i) (x .1))) (region-go (s .regions) i (x .0 .kind) (x .0) refl);
+      regionsFree = λ i b t. region-row i b ∙ ap (regionFor (s .regions) i) (free-in (s .sizes .regions) (s .regions) (s .regionPool) (h .outside .regionPool .once) i b t);
+    };
+    tracked = record {
+      recordPool = pool-tidy (s .sizes .records) (recordUses (s .domains)) (s .recordPool) (h .tracked .recordPool .once);
+      recordMarks = pool-marked (s .sizes .records) (recordUses (s .domains)) (s .recordPool) (h .tracked .recordPool .once);
+      trackersEnd = λ i b t.
+          let x = taken-in (s .sizes .domains) (s .domains) (s .domainPool) (h .outside .domainPool .once) i b t in
+          subst (λ (y : Domain). chainEnd (λ k. getD (tablesOf s .records) k noRecord .next) (s .sizes .records) (y .head .tracker) ≡ 0) (sym (domain-row i b ∙ ap (domainFor (s .sizes .slots)) (x .1))) (tracker-ends i (x .0) (x .1));
+      recordsFree = free-record;
+    };
+    queue = record { queued = λ k b o. is-queued k b (omega (arith, behind)); unqueued = λ k b o. is-unqueued k b (omega (arith, behind)) };
   }

@@ -4,7 +4,6 @@ use mathlib.Core.Path.{_≡_}
 use Prim.Native.Nat.{ℕ, suc, _+_, _-_, _≤_, _<_}
 use mathlib.Core.Bool.{true, false, not}
 use mathlib.Core.Option.{none}
-use mathlib.Core.List.{List}
 use lib.Dec.{eqb}
 use lib.ListN.{getD}
 use Rattle.model.specs.Lists.{any, count}
@@ -41,12 +40,11 @@ pub record SlotTidy (x : Slot) : Type 0 where
   pub noneClear : x .kind ≡ 0 → x .handle .slot ≡ 0
   pub generationClear : x .kind ≤ 1 → x .handle .generation ≡ 0
 
--- A domain in use, with m slots, among n records: its free stack as that of a pool, and the walk along its tracker ends.
-pub record DomainTidy (m n : ℕ) (l : List Region) (x : Domain) : Type 0 where
+-- A domain in use, with m slots: its free stack as that of a pool.
+pub record DomainTidy (m : ℕ) (x : Domain) : Type 0 where
   pub fits : x .head .count ≤ m
   pub ends : stackEnd (afterSlot (x .slots)) (m - x .head .count) (x .head .head) ≡ 0
   pub slots : (j : ℕ) → j < m → SlotTidy (getD (x .slots) j noSlot)
-  pub trackerEnds : chainEnd (λ i. getD l i noRecord .next) n (x .head .tracker) ≡ 0
 
 -- a region in use
 pub record RegionTidy (r : RegionCapa) : Type 0 where
@@ -81,29 +79,48 @@ place v k = getD (v .ring) k noUpdate
 abbrev pub behind : Tables → ℕ → ℕ
 behind v k = along (v .sizes .updates + 1) (v .read) k
 
--- Free rows, and places where nothing is queued, are all zero.
-pub record Tidy (v : Tables) : Type 0 where
+-- Free rows, and places where nothing is queued, are all zero. The parts are those of `Sound`: what is outside the trackers and the ring; the
+-- trackers, whose walks end, with their pool; the ring.
+pub record OutsideTidy (v : Tables) : Type 0 where
   pub domainPool : PoolTidy (v .sizes .domains) (v .domainPool)
   pub regionPool : PoolTidy (v .sizes .regions) (v .regionPool)
-  pub recordPool : PoolTidy (v .sizes .records) (v .recordPool)
-  pub recordMarks : Marked (v .sizes .records) (v .recordPool)
-  pub domainsUsed : (i : ℕ) → i < v .sizes .domains → taken (v .domainPool) i ≡ true → DomainTidy (v .sizes .slots) (v .sizes .records) (v .records) (domainRow v i)
+  pub domainsUsed : (i : ℕ) → i < v .sizes .domains → taken (v .domainPool) i ≡ true → DomainTidy (v .sizes .slots) (domainRow v i)
   pub domainsFree : (i : ℕ) → i < v .sizes .domains → taken (v .domainPool) i ≡ false → domainRow v i ≡ domainFor (v .sizes .slots) none
   pub regionsUsed : (i : ℕ) → i < v .sizes .regions → taken (v .regionPool) i ≡ true → RegionTidy (regionRow v i)
   pub regionsFree : (i : ℕ) → i < v .sizes .regions → taken (v .regionPool) i ≡ false → regionRow v i ≡ noRegion
+
+pub record TrackersTidy (v : Tables) : Type 0 where
+  pub recordPool : PoolTidy (v .sizes .records) (v .recordPool)
+  pub recordMarks : Marked (v .sizes .records) (v .recordPool)
+  pub trackersEnd : (d : ℕ) → d < v .sizes .domains → taken (v .domainPool) d ≡ true → chainEnd (λ i. recordRow v i .next) (v .sizes .records) (domainRow v d .head .tracker) ≡ 0
   pub recordsFree : (i : ℕ) → i < v .sizes .records → taken (v .recordPool) i ≡ false → recordRow v i ≡ noRecord
+
+pub record QueueTidy (v : Tables) : Type 0 where
   pub queued : (k : ℕ) → k < v .sizes .updates + 1 → behind v k < behind v (v .write) → UpdateTidy (place v k)
   pub unqueued : (k : ℕ) → k < v .sizes .updates + 1 → behind v (v .write) ≤ behind v k → place v k ≡ noUpdate
 
--- The ring's two places lie in it; the free slots of the tables and lists are those on the free stacks; the walk along a child list ends; a region
--- that is not a root stands in the list of a region in use, which its parent link names; a record in use is in a tracker.
-pub record Walked (v : Tables) : Type 0 where
-  pub read : v .read < v .sizes .updates + 1
-  pub write : v .write < v .sizes .updates + 1
+pub record Tidy (v : Tables) : Type 0 where
+  pub outside : OutsideTidy v
+  pub tracked : TrackersTidy v
+  pub queue : QueueTidy v
+
+-- The free slots of the tables and lists are those on the free stacks; the walk along a child list ends; a region that is not a root stands in the
+-- list of a region in use, which its parent link names.
+pub record OutsideWalked (v : Tables) : Type 0 where
   pub domainMarks : Marked (v .sizes .domains) (v .domainPool)
   pub regionMarks : Marked (v .sizes .regions) (v .regionPool)
   pub slotMarks : (i : ℕ) → i < v .sizes .domains → taken (v .domainPool) i ≡ true → (j : ℕ) → j < v .sizes .slots → getD (domainRow v i .slots) j noSlot .kind ≡ 1 → 0 < count (eqb j) (listFrom (v .sizes .slots) (domainRow v i) .free)
   pub childrenEnd : (i : ℕ) → i < v .sizes .regions → taken (v .regionPool) i ≡ true → chainEnd (λ k. regionRow v k .next) (v .sizes .regions) (regionRow v i .child) ≡ 0
   pub parentTaken : (i p : ℕ) → i < v .sizes .regions → taken (v .regionPool) i ≡ true → 2 ≤ regionRow v i .kind → regionRow v i .parent ≡ suc p → (p < v .sizes .regions) × (taken (v .regionPool) p ≡ true)
   pub listed : (i p : ℕ) → i < v .sizes .regions → taken (v .regionPool) i ≡ true → 2 ≤ regionRow v i .kind → regionRow v i .parent ≡ suc p → 0 < count (eqb i) (childrenFrom (v .sizes .regions) (v .regions) (regionRow v p .child))
+
+-- The ring's two places lie in it.
+pub record QueueWalked (v : Tables) : Type 0 where
+  pub read : v .read < v .sizes .updates + 1
+  pub write : v .write < v .sizes .updates + 1
+
+-- A record in use is in a tracker.
+pub record Walked (v : Tables) : Type 0 where
+  pub outside : OutsideWalked v
+  pub queue : QueueWalked v
   pub recordsUsed : (i : ℕ) → i < v .sizes .records → taken (v .recordPool) i ≡ true → 0 < recordUses (domainsFrom v) i

@@ -11,7 +11,8 @@ use Rattle.model.specs.Layout.{words}
 use Rattle.model.specs.Sound.{Sound}
 use Rattle.words.specs.Runs.{length-part}
 use Rattle.words.specs.Rows.{rows, length-rows}
-use Rattle.tables.specs.View.{sizesOf, slotOf, regionOf, recordOf, updateOf, arenaOf, domainOf, stride, ofParts, view, Sized}
+use Rattle.sizes.specs.Sizes.{sizesOf, stride}
+use Rattle.tables.specs.View.{slotOf, regionOf, recordOf, updateOf, arenaOf, domainOf, ofParts, view, Sized}
 use Rattle.tables.specs.Sections.{section, section-length}
 use Rattle.decoded.specs.Shape.{PoolShaped, Shaped}
 use Rattle.decoded.specs.Words.{words-held, held-words}

@@ -89,16 +89,18 @@ module _ (s : State) (d : ℕ) (x y : Domain) (e : In (s .domains) d x) (m : y .
 
   pub put-others : y .tracker ≡ x .tracker → OthersSound s → OthersSound (putDomain d y s)
   put-others t h = record {
-    recordPool = record {
-      gensLength = h .recordPool .gensLength;
-      gensWords = h .recordPool .gensWords;
-      once = λ i. omega (arith, h .recordPool .once i, uses-set (s .domains) d (some y) low i, ap (λ o. usesIn o i) e, ap (λ l. count (λ (q : Record). eqb i (q .slot)) l) t);
-    };
     regions = h .regions;
-    trackers = λ k z f. elim (was (s .domains) d y low k z f) [
-      | this o q ↦ rw o (subst (λ w. TrackerSound (s .regions) d (w .tracker)) q (subst (TrackerSound (s .regions) d) (sym t) (h .trackers d x e)))
-      | that o g ↦ h .trackers k z g
-    ];
+    tracked = record {
+      recordPool = record {
+        gensLength = h .tracked .recordPool .gensLength;
+        gensWords = h .tracked .recordPool .gensWords;
+        once = λ i. omega (arith, h .tracked .recordPool .once i, uses-set (s .domains) d (some y) low i, ap (λ o. usesIn o i) e, ap (λ l. count (λ (q : Record). eqb i (q .slot)) l) t);
+      };
+      trackers = λ k z f. elim (was (s .domains) d y low k z f) [
+        | this o q ↦ rw o (subst (λ w. TrackerSound (s .regions) d (w .tracker)) q (subst (TrackerSound (s .regions) d) (sym t) (h .tracked .trackers d x e)))
+        | that o g ↦ h .tracked .trackers k z g
+      ];
+    };
   }
 
   module _ (own man own′ man′ : Shares) (h : Held own man s)

@@ -10,7 +10,7 @@ use Rattle.model.specs.Lists.{oneIf, isSome, count, slotOf, In}
 use Rattle.model.specs.State.{Word, Domain, Region, State, domainAt, regionAt}
 use Rattle.model.specs.Pool.{handleOf}
 use Rattle.model.specs.Making.{goodSizes}
-use Rattle.model.specs.Sound.{Sound, PoolSound, RegionSound, ListSound, TrackerSound, QueueSound, Managed, names, inUse, recordUses, isRegionOf, isManagementOf}
+use Rattle.model.specs.Sound.{Sound, PoolSound, RegionSound, ListSound, TrackersSound, QueueSound, Managed, names, inUse, isRegionOf, isManagementOf}
 use Rattle.laws.specs.Tree.Steps.{region-at}
 
 -- how many slots of a kind, by the slot of what they name and the list
@@ -44,9 +44,8 @@ CapasSound s = Held (ownedBy s) (managedBy s) s
 
 -- the other clauses of Sound
 pub record OthersSound (s : State) : Type 0 where
-  pub recordPool : PoolSound (s .sizes .records) (recordUses (s .domains)) (s .recordPool)
   pub regions : (i : ℕ) (g : Region) → In (s .regions) i g → RegionSound (s .regions) i g
-  pub trackers : (d : ℕ) (x : Domain) → In (s .domains) d x → TrackerSound (s .regions) d (x .tracker)
+  pub tracked : TrackersSound s
 
 pub domain-at : (s : State) (d : ℕ) (x : Domain) → In (s .domains) d x → domainAt s d ≡ x
 domain-at s d x e = rw e
@@ -55,42 +54,43 @@ domain-at s d x e = rw e
 
 pub capas-sound : (s : State) → Sound s → CapasSound s
 capas-sound s h = record {
-  sizesGood = h .sizesGood;
-  domainsLength = h .domainsLength;
-  regionsLength = h .regionsLength;
-  domainPool = h .domainPool;
-  regionPool = h .regionPool;
-  ownerLive = λ i g e. h .owners i g e .ownerLive;
-  regionSlots = λ i g e d x f. h .owners i g e .oneSlot d x f ∙ ap (λ (r : Region). oneIf (eqb (r .owner) d)) (sym (region-at s i g e));
-  managerLive = λ e y f. h .managers e y f .managerLive;
-  managementSlots = λ e y f d x k. h .managers e y f .oneManagement d x k ∙ ap (λ (z : Domain). oneIf (names (z .manager) d)) (sym (domain-at s e y f));
-  managed = λ d x e. h .managers d x e .managed;
-  lists = h .lists;
-  coresWords = h .coresWords;
+  sizesGood = h .outside .sizesGood;
+  domainsLength = h .outside .domainsLength;
+  regionsLength = h .outside .regionsLength;
+  domainPool = h .outside .domainPool;
+  regionPool = h .outside .regionPool;
+  ownerLive = λ i g e. h .outside .owners i g e .ownerLive;
+  regionSlots = λ i g e d x f. h .outside .owners i g e .oneSlot d x f ∙ ap (λ (r : Region). oneIf (eqb (r .owner) d)) (sym (region-at s i g e));
+  managerLive = λ e y f. h .outside .managers e y f .managerLive;
+  managementSlots = λ e y f d x k. h .outside .managers e y f .oneManagement d x k ∙ ap (λ (z : Domain). oneIf (names (z .manager) d)) (sym (domain-at s e y f));
+  managed = λ d x e. h .outside .managers d x e .managed;
+  lists = h .outside .lists;
+  coresWords = h .outside .coresWords;
   queue = h .queue;
 }
 
 pub others-sound : (s : State) → Sound s → OthersSound s
-others-sound s h = record { recordPool = h .recordPool; regions = h .regions; trackers = h .trackers }
+others-sound s h = record { regions = h .outside .regions; tracked = h .tracked }
 
 pub sound-of : (s : State) → CapasSound s → OthersSound s → Sound s
 sound-of s h k = record {
-  sizesGood = h .sizesGood;
-  domainsLength = h .domainsLength;
-  regionsLength = h .regionsLength;
-  domainPool = h .domainPool;
-  regionPool = h .regionPool;
-  recordPool = k .recordPool;
-  regions = k .regions;
-  owners = λ i g e. record { ownerLive = h .ownerLive i g e; oneSlot = λ d x f. h .regionSlots i g e d x f ∙ ap (λ (r : Region). oneIf (eqb (r .owner) d)) (region-at s i g e) };
-  managers = λ e y f. record {
-    managerLive = h .managerLive e y f;
-    oneManagement = λ d x k. h .managementSlots e y f d x k ∙ ap (λ (z : Domain). oneIf (names (z .manager) d)) (domain-at s e y f);
-    managed = h .managed e y f;
+  outside = record {
+    sizesGood = h .sizesGood;
+    domainsLength = h .domainsLength;
+    regionsLength = h .regionsLength;
+    domainPool = h .domainPool;
+    regionPool = h .regionPool;
+    regions = k .regions;
+    owners = λ i g e. record { ownerLive = h .ownerLive i g e; oneSlot = λ d x f. h .regionSlots i g e d x f ∙ ap (λ (r : Region). oneIf (eqb (r .owner) d)) (region-at s i g e) };
+    managers = λ e y f. record {
+      managerLive = h .managerLive e y f;
+      oneManagement = λ d x k. h .managementSlots e y f d x k ∙ ap (λ (z : Domain). oneIf (names (z .manager) d)) (domain-at s e y f);
+      managed = h .managed e y f;
+    };
+    lists = h .lists;
+    coresWords = h .coresWords;
   };
-  lists = h .lists;
-  trackers = k .trackers;
-  coresWords = h .coresWords;
+  tracked = k .tracked;
   queue = h .queue;
 }
 

@@ -13,12 +13,12 @@ use Rattle.model.specs.Lists.{oneIf, isSome, orElse, slotOf, In}
 use Rattle.model.specs.State.{Word, Handle, management, Domain, Region, State, withDomains, withLocals, noneDomain, domainAt}
 use Rattle.model.specs.Pool.{handleOf}
 use Rattle.model.specs.Outcome.{ok, _>>=_}
+use Rattle.model.specs.Fields.{Field}
 use Rattle.model.specs.Locals.{hasCapacity, insertCapa}
-use Rattle.model.specs.Counts.{countsAt, regionReach}
+use Rattle.model.specs.Counts.{countsAt, regionCount}
 use Rattle.model.specs.Calls.{newDomain, openDomain}
 use Rattle.model.specs.Sound.{Sound, LiveOrOlder, TrackerSound, names}
 use Rattle.laws.specs.Accepted.{All, accepted, bind}
-use Rattle.laws.specs.Tracker.Fields.{Field}
 use Rattle.laws.specs.Tree.Facts.{self, other}
 use Rattle.laws.specs.Tree.Slots.{none-some, some-same, is-live}
 use Rattle.laws.specs.Tree.Steps.{region-at}
@@ -57,7 +57,7 @@ module _ (s : State) (h : Sound s) (i : ℕ) (is : List ℕ) (next : s .domainPo
       unnamed (some k) f = other k i (f k refl)
 
   -- no region counts for the new domain
-  nothing : (p : ℕ) → regionReach (s .regions) i p ≡ 0
+  nothing : (p : ℕ) → regionCount Field.Reach (s .regions) i p ≡ 0
   nothing p = sym (stored s h p Field.Reach i) ∙ ap (λ (w : Domain). countsAt (w .tracker) p .reach) nobody
 
   empty-tracker : TrackerSound (s .regions) i []
@@ -71,16 +71,18 @@ module _ (s : State) (h : Sound s) (i : ℕ) (is : List ℕ) (next : s .domainPo
 
   pub others : OthersSound t
   others = record {
-    recordPool = record {
-      gensLength = h .recordPool .gensLength;
-      gensWords = h .recordPool .gensWords;
-      once = λ k. omega (arith, h .recordPool .once k, uses-set (s .domains) i (some (newOne m c s)) low k, ap (λ o. usesIn o k) free);
+    regions = h .outside .regions;
+    tracked = record {
+      recordPool = record {
+        gensLength = h .tracked .recordPool .gensLength;
+        gensWords = h .tracked .recordPool .gensWords;
+        once = λ k. omega (arith, h .tracked .recordPool .once k, uses-set (s .domains) i (some (newOne m c s)) low k, ap (λ o. usesIn o k) free);
+      };
+      trackers = λ k z f. elim (was (s .domains) i (newOne m c s) low k z f) [
+        | this o q ↦ rw o (subst (λ (w : Domain). TrackerSound (s .regions) i (w .tracker)) q empty-tracker)
+        | that o g ↦ h .tracked .trackers k z g
+      ];
     };
-    regions = h .regions;
-    trackers = λ k z f. elim (was (s .domains) i (newOne m c s) low k z f) [
-      | this o q ↦ rw o (subst (λ (w : Domain). TrackerSound (s .regions) i (w .tracker)) q empty-tracker)
-      | that o g ↦ h .trackers k z g
-    ];
   }
 
   -- in every other slot the manager is as it was

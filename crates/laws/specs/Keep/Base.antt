@@ -24,7 +24,7 @@ pub record Base (s : State) : Type 0 where
   pub domains : DomainTable s
 
 pub sound-base : (s : State) → Sound s → Base s
-sound-base s h = record { ring = sound-ring s h; regions = record { size = h .regionsLength; pool = h .regionPool }; domains = record { size = h .domainsLength; pool = h .domainPool } }
+sound-base s h = record { ring = sound-ring s h; regions = record { size = h .outside .regionsLength; pool = h .outside .regionPool }; domains = record { size = h .outside .domainsLength; pool = h .outside .domainPool } }
 
 -- ---- the domains are the same, but for their trackers
 

@@ -68,7 +68,7 @@ module _ (s : State) (sound : Sound s) (d : ℕ) (x : Domain) (e : In (s .domain
       let (g, i) = live-is (slotOf (s .regions) (h .slot)) (and-l (isSome (slotOf (s .regions) (h .slot))) (eqb (getD (s .regionPool .gens) (h .slot) 0) (h .gen)) t) in
       let gen : T (eqb (getD (s .regionPool .gens) (h .slot) 0) (h .gen)) = and-r (isSome (slotOf (s .regions) (h .slot))) (eqb (getD (s .regionPool .gens) (h .slot) 0) (h .gen)) t in
       let own : T (isRegionOf (handleOf (s .regionPool) (h .slot)) (some (region h))) = rw (eqb-t (h .slot) (h .slot) refl) gen in
-      (g, i, same (g .owner) d (omega (arith, sound .owners (h .slot) g i .oneSlot d x e, count-in (isRegionOf (handleOf (s .regionPool) (h .slot))) (x .locals .held) l (region h) (rw (domain-at s d x e) at m) own)))
+      (g, i, same (g .owner) d (omega (arith, sound .outside .owners (h .slot) g i .oneSlot d x e, count-in (isRegionOf (handleOf (s .regionPool) (h .slot))) (x .locals .held) l (region h) (rw (domain-at s d x e) at m) own)))
 
   pub held-own : (l : ℕ) → All (λ i. (g : Region) × In (s .regions) i g × (g .owner ≡ d)) (regionHeld s d l)
   unfolding regionHeld

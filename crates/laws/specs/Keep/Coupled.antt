@@ -8,19 +8,18 @@ use mathlib.Core.List.{List}
 use lib.Dec.{T}
 use Rattle.model.specs.Lists.{isSome, slotOf, In, orElse}
 use Rattle.model.specs.State.{State, Queue, withQueue, Domain, Region, domainAt, noneDomain}
-use Rattle.model.specs.Counts.{storedCounts}
+use Rattle.model.specs.Fields.{Field}
+use Rattle.model.specs.Counts.{regionCount}
 use Rattle.model.specs.Sound.{Sound, TrackerSound}
-use Rattle.laws.specs.Tracker.Fields.{Field}
 use Rattle.laws.specs.Tracker.Form.{Form, sound-form}
 use Rattle.laws.specs.Tracker.Stored.{tracker-sound}
-use Rattle.laws.specs.Tree.Shares.{tallyOf, each-agree}
 use Rattle.laws.specs.Tree.Facts.{Regions}
 use Rattle.laws.specs.Tree.Stored.{stored}
 use Rattle.laws.specs.Keep.Tracked.{Tracked, domain-at}
 
 -- the regions' counts, as a function of field, domain and address
 abbrev pub told : List (Option Region) → Field → ℕ → ℕ → ℕ
-told rs f d a = tallyOf f rs d a
+told rs f d a = regionCount f rs d a
 
 abbrev pub Coupled : State → Type 0
 Coupled s = Tracked s (told (s .regions))
@@ -44,14 +43,14 @@ queued-good s q h = record { tracked = record { form = h .tracked .form; counts 
 
 form-in : (s : State) → Sound s → (d : ℕ) (o : Option Domain) → slotOf (s .domains) d ≡ o → Form (orElse o noneDomain .tracker)
 form-in s h d none e = record { rising = tt; merged = tt; reached = tt; uncacheable = tt }
-form-in s h d (some x) e = sound-form (s .regions) d (x .tracker) (h .trackers d x e)
+form-in s h d (some x) e = sound-form (s .regions) d (x .tracker) (h .tracked .trackers d x e)
 
 pub sound-coupled : (s : State) → Sound s → Coupled s
-sound-coupled s h = record { form = λ d. form-in s h d (slotOf (s .domains) d) refl; counts = λ f d a. stored s h a f d; pool = h .recordPool }
+sound-coupled s h = record { form = λ d. form-in s h d (slotOf (s .domains) d) refl; counts = λ f d a. stored s h a f d; pool = h .tracked .recordPool }
 
 pub sound-good : (s : State) → Sound s → Good s
-sound-good s h = record { tracked = sound-coupled s h; regions = h .regions; owners = λ i g e. h .owners i g e .ownerLive }
+sound-good s h = record { tracked = sound-coupled s h; regions = h .outside .regions; owners = λ i g e. h .outside .owners i g e .ownerLive }
 
 module _ (s : State) (h : Coupled s) where
   pub coupled-tracker : (d : ℕ) (x : Domain) → In (s .domains) d x → TrackerSound (s .regions) d (x .tracker)
-  coupled-tracker d x e = rw (domain-at s d x e) at (tracker-sound (s .regions) d (domainAt s d .tracker) (h .form d) (λ a. each-agree (s .regions) d a (storedCounts s d a) (λ f. h .counts f d a)))
+  coupled-tracker d x e = rw (domain-at s d x e) at (tracker-sound (s .regions) d (domainAt s d .tracker) (h .form d) (λ a f. h .counts f d a))

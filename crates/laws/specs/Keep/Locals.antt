@@ -11,6 +11,7 @@ use lib.ListN.{length, set}
 use Rattle.model.specs.Lists.{oneIf, count, isSome, slotOf, In}
 use Rattle.model.specs.Outcome.{Refusal, noRegion}
 use Rattle.model.specs.State.{State, Pool, Domain, Region, Kind, Access, Capa, LocalList, domainAt, putDomain, withLocals, withRegions}
+use Rattle.model.specs.Fields.{Field}
 use Rattle.model.specs.Pool.{allocate}
 use Rattle.model.specs.Locals.{insertLocal, insertCapa, hasCapacity}
 use Rattle.model.specs.Regions.{newRegion}
@@ -19,7 +20,7 @@ use Rattle.laws.specs.Accepted.{All, accepted, refused, bind, bind-any, 
 use Rattle.laws.specs.Cases.{lt, ge, cmp}
 use Rattle.laws.specs.Stack.{one, once-at-most, none-beyond}
 use Rattle.laws.specs.Words.SameTrackers.{uses}
-use Rattle.laws.specs.Tracker.Fields.{Field, countAt}
+use Rattle.laws.specs.Tracker.Fields.{countAt}
 use Rattle.laws.specs.Tree.Slots.{in-length}
 use Rattle.laws.specs.Keep.Slots.{live-put}
 use Rattle.laws.specs.Keep.Tracked.{Tracked, trackerIn, tracker-here, tracker-there, uses-set, domain-at}

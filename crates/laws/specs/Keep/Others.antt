@@ -106,7 +106,7 @@ module _ (s : State) (sound : Sound s) where
   domain-whole m cores w =
       let good = sound-good s sound in
       let r = sound-base s sound in
-      bind (both (table-takes (s .sizes .domains) (s .domains) (s .domainPool) (r .domains) noDomainRoom) (both (allocate-free (s .domains) (s .sizes .domains) (s .domainPool) (sound .domainsLength) (sound .domainPool) noDomainRoom) (allocate-gens noDomainRoom (s .domainPool .gens) (s .domainPool .free)))) (λ (i, p) (t, ((l, free), g)).
+      bind (both (table-takes (s .sizes .domains) (s .domains) (s .domainPool) (r .domains) noDomainRoom) (both (allocate-free (s .domains) (s .sizes .domains) (s .domainPool) (sound .outside .domainsLength) (sound .outside .domainPool) noDomainRoom) (allocate-gens noDomainRoom (s .domainPool .gens) (s .domainPool .free)))) (λ (i, p) (t, ((l, free), g)).
       accepted ((new-good s good i l free p _ refl, new-base s good i l free p _ refl r w g (t _)), new-live s good i l free p _ refl))
 
   pub open-keeps : (h : Option Handle) (cores : ℕ) → Word cores → All After (openDomain h cores s)

@@ -12,13 +12,14 @@ use Rattle.model.specs.Lists.{isSome, slotOf, In, without}
 use Rattle.rights.specs.Rights.{has, CLEANUP}
 use Rattle.model.specs.Outcome.{ok}
 use Rattle.model.specs.State.{State, Queue, Domain, Region, Kind, Root, Alias, Carve, parentOf, regionAt, withRegions, withQueue, withChildren}
+use Rattle.model.specs.Fields.{Field}
 use Rattle.model.specs.Tree.{accessOf, removeChild}
-use Rattle.model.specs.Counts.{storedCounts}
+use Rattle.model.specs.Counts.{storedCounts, regionCount}
 use Rattle.model.specs.Regions.{activate, deactivate, giveBack, leaveParent, freeRegion, revokeLeaf, revokeRegion, liveRegions}
 use Rattle.laws.specs.Accepted.{All, accepted, bind, bind-any, weaken, branch}
-use Rattle.laws.specs.Tracker.Fields.{Field, Enough}
+use Rattle.laws.specs.Tracker.Fields.{Enough}
 use Rattle.laws.specs.Tree.Slots.{none-some, some-same, in-length, live-is}
-use Rattle.laws.specs.Tree.Shares.{share, tallyOf}
+use Rattle.laws.specs.Tree.Shares.{share}
 use Rattle.laws.specs.Tree.Facts.{Regions}
 use Rattle.laws.specs.Tree.Change.{childOut}
 use Rattle.laws.specs.Tree.Laws.{leaf-law, alias-goes, carve-goes}
@@ -75,7 +76,7 @@ module _ (s : State) (good : Good s) (i p : ℕ) (g h : Region) (e : In (s .regi
 
   -- what is left once its domain has lost the range
   abbrev left : Field → ℕ → ℕ → ℕ
-  left f d a = tallyOf f (s .regions) d a - share f (some g) d a
+  left f d a = regionCount f (s .regions) d a - share f (some g) d a
 
   abbrev pub out : State
   out = leaveParent i s
@@ -90,7 +91,7 @@ module _ (s : State) (good : Good s) (i p : ℕ) (g h : Region) (e : In (s .regi
   owner-in : (t : State) → Aside s t → (k : ℕ) (y : Region) → In (s .regions) k y → (x : Domain) × In (t .domains) (y .owner) x
   owner-in t b k y m = live-is (slotOf (t .domains) (y .owner)) (aside-live b (y .owner) (good .owners k y m))
 
-  counted : (f : Field) (d a : ℕ) → share f (some g) d a ≤ tallyOf f (s .regions) d a
+  counted : (f : Field) (d a : ℕ) → share f (some g) d a ≤ regionCount f (s .regions) d a
   counted =
       let x = owner-in out (out-beside .1) i g e in
       lost-le out (told (s .regions)) left (out-beside .0) (g .owner) (x .0) (x .1) (accessOf g) (good .regions i g e .nonempty) had

@@ -29,10 +29,10 @@ pub record Ring (s : State) : Type 0 where
   pub slots : length (s .domains) ≤ 32
 
 pub sound-ring : (s : State) → Sound s → Ring s
-sound-ring s h = record { queue = h .queue; cores = h .coresWords; gens = h .domainPool .gensWords; sizesGood = h .sizesGood; slots = omega (arith, h .domainsLength, leb→le (s .sizes .domains) 32 few) }
+sound-ring s h = record { queue = h .queue; cores = h .outside .coresWords; gens = h .outside .domainPool .gensWords; sizesGood = h .outside .sizesGood; slots = omega (arith, h .outside .domainsLength, leb→le (s .sizes .domains) 32 few) }
   where
     few : T (leb (s .sizes .domains) 32)
-    few = let t = h .sizesGood in search (and-l, and-r) depth 12
+    few = let t = h .outside .sizesGood in search (and-l, and-r) depth 12
 
 -- ---- lists with one more at the end
 

@@ -9,10 +9,11 @@ use lib.Dec.{T}
 use lib.ListN.{set}
 use Rattle.model.specs.Lists.{isSome, slotOf, In}
 use Rattle.model.specs.State.{State, Domain, Region, Access, putRegion, withOwner}
+use Rattle.model.specs.Fields.{Field}
 use Rattle.model.specs.Counts.{storedCounts}
 use Rattle.model.specs.Regions.{activate, deactivate, sendRegion}
 use Rattle.laws.specs.Accepted.{All, weaken}
-use Rattle.laws.specs.Tracker.Fields.{Field, Enough}
+use Rattle.laws.specs.Tracker.Fields.{Enough}
 use Rattle.laws.specs.Tree.Slots.{in-length, live-is, is-live}
 use Rattle.laws.specs.Tree.Shares.{grant}
 use Rattle.laws.specs.Tree.Facts.{Regions}

@@ -9,12 +9,13 @@ use lib.Dec.{T, eqb, eqb→eq}
 use Rattle.model.specs.Lists.{In}
 use Rattle.model.specs.Outcome.{_>>=_}
 use Rattle.model.specs.State.{State, Domain, Region, Access}
-use Rattle.model.specs.Counts.{storedCounts}
+use Rattle.model.specs.Fields.{Field}
+use Rattle.model.specs.Counts.{storedCounts, regionCount}
 use Rattle.model.specs.Regions.{activate, deactivate}
 use Rattle.model.specs.Calls.{exchangeRights}
 use Rattle.laws.specs.Accepted.{All, accepted, bind, weaken, branch-on}
-use Rattle.laws.specs.Tracker.Fields.{Field, Enough}
-use Rattle.laws.specs.Tree.Shares.{grant, tallyOf, each-agree}
+use Rattle.laws.specs.Tracker.Fields.{Enough}
+use Rattle.laws.specs.Tree.Shares.{grant}
 use Rattle.laws.specs.Tree.Facts.{Regions}
 use Rattle.laws.specs.Tree.Spare.{Spare, spare-enough}
 use Rattle.laws.specs.Keep.Aside.{Beside, aside-live, aside-in, beside-self, beside-then}
@@ -27,7 +28,7 @@ Spares rs d b e r = (a : ℕ) → b ≤ a → a < e → Spare rs d a r
 
 -- what the regions rs can spare can be lost, where the trackers store their counts
 pub spare-stored : (s : State) (rs : List (Option Region)) → Tracked s (told rs) → (d a r : ℕ) → Spare rs d a r → Enough r (storedCounts s d a)
-spare-stored s rs h d a r p = spare-enough rs d a r (storedCounts s d a) p (each-agree rs d a (storedCounts s d a) (λ f. h .counts f d a))
+spare-stored s rs h d a r p = spare-enough rs d a r (storedCounts s d a) p (λ f. h .counts f d a)
 
 -- ---- a step on a tracker leaves the regions and the live domains
 
@@ -43,23 +44,23 @@ module _ (rs : List (Option Region)) (s : State) (h : Behind rs s) (d : ℕ) (x 
   abbrev range : ℕ → Field → ℕ → ℕ → ℕ
   range r f k b = grant f d (a .start) (a .end) r k b
 
-  pub gain-settles : ((f : Field) (k b : ℕ) → tallyOf f (s .regions) k b ≡ tallyOf f rs k b + range (a .rights) f k b) → All (λ t. Good t × Beside s t) (activate d a s)
+  pub gain-settles : ((f : Field) (k b : ℕ) → regionCount f (s .regions) k b ≡ regionCount f rs k b + range (a .rights) f k b) → All (λ t. Good t × Beside s t) (activate d a s)
   gain-settles m = weaken (activate-tracked s (told rs) (told (s .regions)) (h .tracked) d x e a z m) (λ t (k, b). (good-beside s t b (h .regions) (h .owners) k, b))
 
   -- ---- the same range with other rights r is lost, and this one gained
 
-  module _ (r : ℕ) (p : Spares rs d (a .start) (a .end) r) (m : (f : Field) (k b : ℕ) → tallyOf f (s .regions) k b + range r f k b ≡ tallyOf f rs k b + range (a .rights) f k b) where
+  module _ (r : ℕ) (p : Spares rs d (a .start) (a .end) r) (m : (f : Field) (k b : ℕ) → regionCount f (s .regions) k b + range r f k b ≡ regionCount f rs k b + range (a .rights) f k b) where
     abbrev old : Access
     old = record { start = a .start; end = a .end; rights = r }
 
     -- what is left between the two
     abbrev left : Field → ℕ → ℕ → ℕ
-    left f k b = tallyOf f rs k b - range r f k b
+    left f k b = regionCount f rs k b - range r f k b
 
     had : (b : ℕ) → a .start ≤ b → b < a .end → Enough r (storedCounts s d b)
     had b u v = spare-stored s rs (h .tracked) d b r (p b u v)
 
-    counted : (f : Field) (k b : ℕ) → range r f k b ≤ tallyOf f rs k b
+    counted : (f : Field) (k b : ℕ) → range r f k b ≤ regionCount f rs k b
     counted = lost-le s (told rs) left (h .tracked) d x e old z had
 
     equal : T (eqb r (a .rights)) → Good s

@@ -13,6 +13,7 @@ use lib.ListN.{length, set, length-set}
 use lib.Seq.{getD-set-same, getD-set-other}
 use Rattle.model.specs.Lists.{if_then_else_, any, orElse, slotOf, In}
 use Rattle.model.specs.State.{State, Domain, Record, Access, Update, Queue, noneDomain, domainAt, putDomain, withTracker, withRecordPool, withQueue}
+use Rattle.model.specs.Fields.{Field, counter}
 use Rattle.model.specs.Pool.{handleOf}
 use Rattle.model.specs.Tracker.{Walk}
 use Rattle.model.specs.Updates.{push, pushPermission, isPermissionOf}
@@ -22,7 +23,7 @@ use Rattle.model.specs.Regions.{putWalk, activate, deactivate}
 use Rattle.laws.specs.Accepted.{All, accepted, bind, bind-any, and-then, branch, both}
 use Rattle.laws.specs.Cases.{within, within-lo, within-in, within-hi, within-same, below, inside, above, pos, eqb-t, eqb-f}
 use Rattle.laws.specs.Words.SameTrackers.{uses}
-use Rattle.laws.specs.Tracker.Fields.{Field, counter, countAt, Enough, gain-count, lose-count}
+use Rattle.laws.specs.Tracker.Fields.{countAt, Enough, gain-count, lose-count}
 use Rattle.laws.specs.Tracker.Form.{Form, gain-form, lose-form}
 use Rattle.laws.specs.Tracker.Pools.{Moved}
 use Rattle.laws.specs.Tracker.Slots.{gain-slots, lose-slots}

@@ -6,8 +6,7 @@ use mathlib.Core.List.{List, [], _∷_}
 use native.Mathlib.Omega.{arith}
 use lib.Dec.{T, leb, leb→le, le→leb, not-T}
 use lib.Ieee.Fits.{and-l, and-r}
-use Rattle.model.specs.Lists.{if_then_else_, Each}
-use Rattle.laws.specs.SoundTest.{every}
+use Rattle.model.specs.Lists.{if_then_else_, Each, every}
 use Rattle.laws.specs.Cases.{lt, ge, cmp, is-true, is-false}
 
 -- the last of b and the points of l that are not above a

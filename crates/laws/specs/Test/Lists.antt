@@ -9,9 +9,9 @@ use native.Mathlib.Omega.{arith}
 use lib.Dec.{T, ltb, eqb, eqb→eq, eqb-refl}
 use lib.ListN.{length, List·getD-eq-default}
 use lib.Ieee.Fits.{and-l, and-r, and-i}
-use Rattle.model.specs.Lists.{oneIf, count, Each, countUp, In}
+use Rattle.model.specs.Lists.{oneIf, count, Each, countUp, In, every}
 use Rattle.model.specs.Sound.{OnceEach, inUse}
-use Rattle.laws.specs.SoundTest.{conj, every, live, once}
+use Rattle.laws.specs.SoundTest.{conj, live, once}
 use Rattle.laws.specs.Cases.{lt, ge, cmp, ltb-f, true-is}
 
 -- the test of an equation

@@ -1,57 +1,27 @@
 -- The reach and the four right counts after a gain and after a loss: one law over the field, from the law at each address.
 -- Invariant of a loss: the counts hold what is taken (`Enough`), so that nothing is cut off at 0.
-use mathlib.Core.Path.{_≡_, refl}
+use mathlib.Core.Path.{_≡_}
 use Prim.Native.Nat.{ℕ, _+_, _-_, _≤_, _<_}
 use mathlib.Core.Option.{Option, none, some}
 use mathlib.Core.List.{List}
 use native.Mathlib.Omega.{arith}
-use Rattle.rights.specs.Rights.{READ, WRITE, EXEC, SUPER}
 use Rattle.model.specs.State.{Counts, Record, Pool}
-use Rattle.model.specs.Tracker.{one, newCounts, raise, lower, gain, lose}
-use Rattle.model.specs.Counts.{noCounts, countsAt}
+use Rattle.model.specs.Fields.{Field, get, counter}
+use Rattle.model.specs.Tracker.{gain, lose}
+use Rattle.model.specs.Counts.{countsAt}
 use Rattle.model.specs.Sound.{Rising}
 use Rattle.laws.specs.Accepted.{All, weaken}
 use Rattle.laws.specs.Cases.{within, W, lt, ge, cmp, below, inside, above, pos, eqb-t, eqb-f}
+use Rattle.laws.specs.Fields.{get-none, get-new, get-raise, get-lower}
 use Rattle.laws.specs.Tracker.Look.{look, countsOf, counts-look}
 use Rattle.laws.specs.Tracker.One.{gained, lost}
 use Rattle.laws.specs.Tracker.Laws.{gain-law, lose-law}
-
-pub data Field : Type 0 where
-  Reach Read Write Exec Super : Field
-
-abbrev pub get : Field → Counts → ℕ
-get Field.Reach k = k .reach
-get Field.Read k = k .read
-get Field.Write k = k .write
-get Field.Exec k = k .exec
-get Field.Super k = k .super
-
--- what one range with rights r counts for
-abbrev pub counter : Field → ℕ → ℕ
-counter Field.Reach r = 1
-counter Field.Read r = one r READ
-counter Field.Write r = one r WRITE
-counter Field.Exec r = one r EXEC
-counter Field.Super r = one r SUPER
 
 -- the stored count at an address
 abbrev pub countAt : Field → List Record → ℕ → ℕ
 countAt f l a = get f (countsAt l a)
 
 -- ---- one set of counts
-
-record Counted (f : Field) (r : ℕ) (k : Counts) : Type 0 where
-  none : get f noCounts ≡ 0
-  new : get f (newCounts r) ≡ counter f r
-  raised : get f (raise r k) ≡ get f k + counter f r
-  lowered : get f (lower r k) ≡ get f k - counter f r
-
-counted-by : (f : Field) (r : ℕ) (k : Counts) → Counted f r k
-counted-by Field.Reach r k = record { none = refl; new = refl; raised = refl; lowered = refl }
-counted-by Field.Read r k = record { none = refl; new = refl; raised = refl; lowered = refl }
-counted-by Field.Write r k = record { none = refl; new = refl; raised = refl; lowered = refl }
-counted-by Field.Exec r k = record { none = refl; new = refl; raised = refl; lowered = refl }
-counted-by Field.Super r k = record { none = refl; new = refl; raised = refl; lowered = refl }
 
 -- A range with rights r may be taken from these counts, and the last one leaves nothing.
 pub record Enough (r : ℕ) (k : Counts) : Type 0 where
@@ -63,14 +33,14 @@ pub enough : (r : ℕ) (k : Counts) (others : Field → ℕ) → ((f : Field) �
 enough r k others h m = record { counted = λ f. omega (arith, h f); last = λ e f. omega (arith, h f, h Field.Reach, m f) }
 
 gained-count : (f : Field) (r : ℕ) (x : Option Counts) → get f (countsOf (gained r x)) ≡ get f (countsOf x) + counter f r
-gained-count f r none = omega (arith, counted-by f r noCounts)
-gained-count f r (some k) = counted-by f r k .raised
+gained-count f r none = omega (arith, get-new f r, get-none f)
+gained-count f r (some k) = get-raise f r k
 
 lost-count : (f : Field) (r : ℕ) (x : Option Counts) → Enough r (countsOf x) → get f (countsOf (lost r x)) + counter f r ≡ get f (countsOf x)
 lost-count f r none h = absurd (omega (arith, h .counted Field.Reach))
 lost-count f r (some k) h = let i = h .counted f in let i′ = h .counted Field.Reach in elim (cmp 1 (k .reach)) [
-  | lt j ↦ rw (eqb-f (k .reach - 1) 0 (omega arith)) (omega (arith, counted-by f r k))
-  | ge j ↦ rw (eqb-t (k .reach - 1) 0 (omega arith)) (omega (arith, counted-by f r k, h .last (omega arith) f))
+  | lt j ↦ rw (eqb-f (k .reach - 1) 0 (omega arith)) (omega (arith, get-lower f r k))
+  | ge j ↦ rw (eqb-t (k .reach - 1) 0 (omega arith)) (omega (arith, get-none f, h .last (omega arith) f))
 ]
 
 -- ---- gain and loss

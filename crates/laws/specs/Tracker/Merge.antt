@@ -6,11 +6,13 @@ use mathlib.Core.Bool.{not}
 use mathlib.Core.Option.{Option, some}
 use mathlib.Core.List.{List, [], _∷_}
 use native.Mathlib.Omega.{arith}
-use lib.Dec.{T, eqb→eq, eqb-refl}
+use lib.Dec.{T, eqb, eqb→eq, eqb-refl}
 use lib.Ieee.Fits.{and-l, and-r, and-i}
 use Rattle.model.specs.State.{Counts, Record, Pool}
+use Rattle.model.specs.Fields.{Field, get, each}
 use Rattle.model.specs.Tracker.{withEnd, sameCounts, mergeable, mergeInto, coalesce}
 use Rattle.model.specs.Sound.{Rising, Merged}
+use Rattle.laws.specs.Fields.{every-field}
 use Rattle.laws.specs.Accepted.{All, accepted, bind, bind-any, weaken, branch-on}
 use Rattle.laws.specs.Cases.{within, W, lt, ge, cmp, below, inside, above, pos}
 use Rattle.laws.specs.Tracker.Look.{look}
@@ -19,13 +21,9 @@ use Rattle.laws.specs.Tracker.Look.{look}
 
 same→eq : (j k : Counts) → T (sameCounts j k) → j ≡ k
 same→eq j k t =
-    let a : j .reach ≡ k .reach = eqb→eq _ _ (search (and-l, and-r)) in
-    let b : j .read ≡ k .read = eqb→eq _ _ (search (and-l, and-r)) in
-    let c : j .write ≡ k .write = eqb→eq _ _ (search (and-l, and-r)) in
-    let d : j .exec ≡ k .exec = eqb→eq _ _ (search (and-l, and-r)) in
-    let e : j .super ≡ k .super = eqb→eq _ _ (search (and-l, and-r)) in
-    let f : j .uncacheable ≡ k .uncacheable = eqb→eq _ _ (search (and-l, and-r)) in
-    λ i. record { reach = a i; read = b i; write = c i; exec = d i; super = e i; uncacheable = f i }
+    let e : (f : Field) → get f j ≡ get f k = λ f. eqb→eq _ _ (every-field (λ g. eqb (get g j) (get g k)) (search and-l) f) in
+    let u : j .uncacheable ≡ k .uncacheable = eqb→eq _ _ (search and-r) in
+    λ i. each (λ f. e f i) (u i)
 
 mergeable→ : (q n : Record) → T (mergeable q n) → (q .end ≡ n .start) × (q .counts ≡ n .counts)
 mergeable→ q n t = (eqb→eq _ _ (search and-l), same→eq _ _ (search (and-l, and-r)))

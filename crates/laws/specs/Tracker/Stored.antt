@@ -7,6 +7,7 @@ use native.Mathlib.Omega.{arith}
 use lib.Dec.{T}
 use Rattle.model.specs.Lists.{any, Each}
 use Rattle.model.specs.State.{Record, Region}
+use Rattle.model.specs.Fields.{Field}
 use Rattle.model.specs.Counts.{holds, countsAt, Agree}
 use Rattle.model.specs.Sound.{Rising, TrackerSound}
 use Rattle.laws.specs.Cases.{within-in, within-hi, Test, test}
@@ -39,5 +40,5 @@ module _ (rs : List (Option Region)) (d : ℕ) where
     reached = f .reached;
     counted = agree-each 0 l (f .rising) (λ a i. h a);
     uncacheable = f .uncacheable;
-    covered = λ a k. reach-held l a (let e = h a .reach in omega arith);
+    covered = λ a k. reach-held l a (let e = h a Field.Reach in omega arith);
   }

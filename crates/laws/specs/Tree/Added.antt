@@ -11,18 +11,19 @@ use lib.Dec.{eqb}
 use lib.ListN.{length}
 use Rattle.model.specs.Lists.{if_then_else_, oneIf, slotOf}
 use Rattle.model.specs.State.{Region}
+use Rattle.model.specs.Fields.{Field, counter}
 use Rattle.model.specs.Tree.{isCarve}
+use Rattle.model.specs.Counts.{regionCount}
 use Rattle.laws.specs.Cases.{within, within-lo, within-in, within-hi, within-same, below, inside, above, pos}
-use Rattle.laws.specs.Tracker.Fields.{Field, counter}
 use Rattle.laws.specs.Tree.Sum.{sum, sum-one, sum-two}
-use Rattle.laws.specs.Tree.Shares.{grant, share, carve, carveOf, carved, clear, clear-0, clear-s, clear-zero, weight, tallyOf, tally-is}
+use Rattle.laws.specs.Tree.Shares.{grant, share, carve, carveOf, carved, clear, clear-0, clear-s, clear-zero, weight, tally-is}
 use Rattle.laws.specs.Tree.Facts.{self, other}
 use Rattle.laws.specs.Tree.Change.{bare, Changed, same-share, carved-change}
 
 -- ---- one slot changes, and no carve comes or goes
 
 module _ (rs rs′ : List (Option Region)) (i : ℕ) (x y : Option Region) (t : Changed rs rs′ i x y) where
-  pub tally-change : (f : Field) (d a : ℕ) → ((k : ℕ) → carved rs′ k a ≡ carved rs k a) → tallyOf f rs′ d a + clear (carved rs i a) (share f x d a) ≡ tallyOf f rs d a + clear (carved rs i a) (share f y d a)
+  pub tally-change : (f : Field) (d a : ℕ) → ((k : ℕ) → carved rs′ k a ≡ carved rs k a) → regionCount f rs′ d a + clear (carved rs i a) (share f x d a) ≡ regionCount f rs d a + clear (carved rs i a) (share f y d a)
   tally-change f d a e =
       omega (
         arith,
@@ -42,10 +43,10 @@ module _ (rs rs′ : List (Option Region)) (i : ℕ) (g : Region) (t : Changed r
   carved-now k = omega (arith, carved-change rs rs′ i none (some g) t k a)
 
   -- where it carves nothing its owner gains its share
-  alone : ((k : ℕ) → carve (some g) k a ≡ 0) → (f : Field) (d : ℕ) → tallyOf f rs′ d a ≡ tallyOf f rs d a + share f (some g) d a
+  alone : ((k : ℕ) → carve (some g) k a ≡ 0) → (f : Field) (d : ℕ) → regionCount f rs′ d a ≡ regionCount f rs d a + share f (some g) d a
   alone z f d = omega (arith, tally-change rs rs′ i none (some g) t f d a (λ k. omega (arith, carved-now k, z k)), clear-zero (carved rs i a), clear-0 (carved rs i a) (share f (some g) d a) fresh)
 
-  pub tally-plain : isCarve (g .kind) ≡ false → (f : Field) (d : ℕ) → tallyOf f rs′ d a ≡ tallyOf f rs d a + share f (some g) d a
+  pub tally-plain : isCarve (g .kind) ≡ false → (f : Field) (d : ℕ) → regionCount f rs′ d a ≡ regionCount f rs d a + share f (some g) d a
   tally-plain z f d = alone (λ k. within-same (g .start) (g .end) a (carveOf (g .kind) k) 0 (rw z)) f d
 
   -- a carve of p, whose region is h
@@ -54,10 +55,10 @@ module _ (rs rs′ : List (Option Region)) (i : ℕ) (g : Region) (t : Changed r
     abbrev loss : Field → ℕ → ℕ
     loss f d = grant f (h .owner) (g .start) (g .end) (h .rights) d a
 
-    outside : ((v : ℕ) → within (g .start) (g .end) a v 0 ≡ 0) → (f : Field) (d : ℕ) → tallyOf f rs′ d a + loss f d ≡ tallyOf f rs d a + share f (some g) d a
+    outside : ((v : ℕ) → within (g .start) (g .end) a v 0 ≡ 0) → (f : Field) (d : ℕ) → regionCount f rs′ d a + loss f d ≡ regionCount f rs d a + share f (some g) d a
     outside z f d = omega (arith, alone (λ k. z (carveOf (g .kind) k)) f d, z (if eqb (h .owner) d then counter f (h .rights) else 0))
 
-    within-carve : g .start ≤ a → a < g .end → carved rs p a ≡ 0 → (f : Field) (d : ℕ) → tallyOf f rs′ d a + loss f d ≡ tallyOf f rs d a + share f (some g) d a
+    within-carve : g .start ≤ a → a < g .end → carved rs p a ≡ 0 → (f : Field) (d : ℕ) → regionCount f rs′ d a + loss f d ≡ regionCount f rs d a + share f (some g) d a
     within-carve u v free f d =
         let w : (b : ℕ) → within (g .start) (g .end) a b 0 ≡ b = λ b. within-in _ _ _ _ _ u v in
         let c : (k : ℕ) → carved rs′ k a ≡ carved rs k a + oneIf (eqb p k) = λ k. carved-now k ∙ ap (λ (b : ℕ). carved rs k a + b) (w (carveOf (g .kind) k) ∙ hangs k) in
@@ -76,7 +77,7 @@ module _ (rs rs′ : List (Option Region)) (i : ℕ) (g : Region) (t : Changed r
               rw (z, same-share f (slotOf rs′ k) (slotOf rs k) d a (t .others k n))),
         )
 
-    pub tally-carve : (g .start ≤ a → a < g .end → carved rs p a ≡ 0) → (f : Field) (d : ℕ) → tallyOf f rs′ d a + loss f d ≡ tallyOf f rs d a + share f (some g) d a
+    pub tally-carve : (g .start ≤ a → a < g .end → carved rs p a ≡ 0) → (f : Field) (d : ℕ) → regionCount f rs′ d a + loss f d ≡ regionCount f rs d a + share f (some g) d a
     tally-carve free f d = elim (pos (g .start) (g .end) a) [
       | below u ↦ outside (λ v. within-lo _ _ _ _ _ u) f d
       | inside u v ↦ within-carve u v (free u v) f d

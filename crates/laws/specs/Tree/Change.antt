@@ -11,11 +11,12 @@ use lib.ListN.{length, set, length-set}
 use lib.Seq.{getD-set-same, getD-set-other}
 use Rattle.model.specs.Lists.{slotOf, In, without}
 use Rattle.model.specs.State.{Region, withChildren}
+use Rattle.model.specs.Fields.{Field}
 use Rattle.model.specs.Tree.{insertSorted}
-use Rattle.laws.specs.Tracker.Fields.{Field}
+use Rattle.model.specs.Counts.{regionCount}
 use Rattle.laws.specs.Tree.Sum.{sum, sum-same, sum-one}
 use Rattle.laws.specs.Tree.Slots.{in-length}
-use Rattle.laws.specs.Tree.Shares.{share, carve, carved, carved-is, weight, tallyOf, tally-is}
+use Rattle.laws.specs.Tree.Shares.{share, carve, carved, carved-is, weight, tally-is}
 
 -- a slot's region without its child list
 abbrev pub bare : Option Region → Option Region
@@ -117,7 +118,7 @@ module _ (rs rs′ : List (Option Region)) (t : Alike rs rs′) where
   carved-alike : (p a : ℕ) → carved rs′ p a ≡ carved rs p a
   carved-alike p a = carved-is rs′ p a ∙ ap (sum (λ k. carve (slotOf rs′ k) p a)) (t .size) ∙ sum-same _ _ (length rs) (λ k h. same-carve (slotOf rs′ k) (slotOf rs k) p a (t .slots k)) ∙ sym (carved-is rs p a)
 
-  pub tally-alike : (f : Field) (d a : ℕ) → tallyOf f rs′ d a ≡ tallyOf f rs d a
+  pub tally-alike : (f : Field) (d a : ℕ) → regionCount f rs′ d a ≡ regionCount f rs d a
   tally-alike f d a =
       tally-is f rs′ d a
       ∙ ap (sum (weight f rs′ d a)) (t .size)

@@ -12,11 +12,11 @@ use Rattle.rights.specs.Rights.{HASH, CLEANUP, VITAL, bit, union, most, allowed
 use Rattle.rights.specs.Laws.{allowed-bits}
 use Rattle.model.specs.Lists.{oneIf, count, slotOf, In}
 use Rattle.model.specs.State.{Region, Kind, Root, Alias, Carve, parentOf}
+use Rattle.model.specs.Fields.{Field, counter}
 use Rattle.model.specs.Tree.{isCarve, accessOf, overlaps}
 use Rattle.model.specs.Sound.{RegionSound, Rooted, names}
 use Rattle.laws.specs.Cases.{lt, ge, cmp, eqb-f, ltb-t, holds, fails, test, true-is, is-true}
 use Rattle.laws.specs.Stack.{one, one-at-most}
-use Rattle.laws.specs.Tracker.Fields.{Field, counter}
 use Rattle.laws.specs.Tree.Slots.{none-some, some-same, live-is, each-in}
 use Rattle.laws.specs.Tree.Shares.{childOf, carveOf, child}
 

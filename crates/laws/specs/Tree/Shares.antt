@@ -8,49 +8,16 @@ use mathlib.Core.List.{List, [], _∷_}
 use native.Mathlib.Omega.{arith}
 use lib.Dec.{eqb, leb, leb→le, le→leb, not-T}
 use lib.ListN.{length}
-use Rattle.rights.specs.Rights.{has, READ, WRITE, EXEC, SUPER}
 use Rattle.model.specs.Lists.{if_then_else_, oneIf, any, count, slotOf}
-use Rattle.model.specs.State.{Region, Kind, Root, Alias, Carve, Counts, parentOf}
+use Rattle.model.specs.State.{Region, Kind, Root, Alias, Carve, parentOf}
+use Rattle.model.specs.Fields.{Field, passes, counter}
 use Rattle.model.specs.Tree.{isCarve}
-use Rattle.model.specs.Counts.{holds, carves, countsFor, tally, Agree}
+use Rattle.model.specs.Counts.{holds, carves, countsFor, tally, regionCount}
 use Rattle.model.specs.Sound.{names}
 use Rattle.laws.specs.Cases.{within, W, within-lo, within-in, within-hi, lt, ge, cmp, below, inside, above, pos, is-true, is-false, ltb-t, ltb-f, within-same, Test, test}
-use Rattle.laws.specs.Tracker.Fields.{Field, get, counter}
 use Rattle.laws.specs.Tree.Sum.{sum, sum-same, sum-front}
 use Rattle.laws.specs.Stack.{any-count}
 use Rattle.laws.specs.Tree.Slots.{count-sum}
-
--- ---- the five counts over the regions
-
--- the test that a field makes of a region's rights
-abbrev pub passes : Field → ℕ → Bool
-passes Field.Reach r = true
-passes Field.Read r = has r READ
-passes Field.Write r = has r WRITE
-passes Field.Exec r = has r EXEC
-passes Field.Super r = has r SUPER
-
-pub counter-passes : (f : Field) (r : ℕ) → counter f r ≡ oneIf (passes f r)
-counter-passes Field.Reach r = refl
-counter-passes Field.Read r = refl
-counter-passes Field.Write r = refl
-counter-passes Field.Exec r = refl
-counter-passes Field.Super r = refl
-
--- `regionReach`, or `regionCount` of a flag
-abbrev pub tallyOf : Field → List (Option Region) → ℕ → ℕ → ℕ
-tallyOf f rs d a = tally rs d a (passes f) 0 rs
-
-module _ (rs : List (Option Region)) (d a : ℕ) (k : Counts) where
-  pub agree-each : Agree rs d a k → (f : Field) → get f k ≡ tallyOf f rs d a
-  agree-each h Field.Reach = h .reach
-  agree-each h Field.Read = h .read
-  agree-each h Field.Write = h .write
-  agree-each h Field.Exec = h .exec
-  agree-each h Field.Super = h .super
-
-  pub each-agree : ((f : Field) → get f k ≡ tallyOf f rs d a) → Agree rs d a k
-  each-agree h = record { reach = h Field.Reach; read = h Field.Read; write = h Field.Write; exec = h Field.Exec; super = h Field.Super }
 
 -- ---- what one slot counts for
 
@@ -165,7 +132,6 @@ module _ (f : Field) (rs : List (Option Region)) (d a : ℕ) where
       ∙ holds-within (g .start) (g .end) a (if any (carves k a) rs then 0 else v)
       ∙ ap (λ (n : ℕ). within (g .start) (g .end) a n 0) (clear-any (carves k a) rs v)
       ∙ clear-within (count (carves k a) rs) (g .start) (g .end) a v
-      ∙ ap (λ (n : ℕ). clear (count (carves k a) rs) (within (g .start) (g .end) a (if eqb (g .owner) d then n else 0) 0)) (sym (counter-passes f (g .rights)))
 
   tally-step : (i : ℕ) (x : Option Region) (l : List (Option Region)) (t : ℕ) → t ≡ sum (λ k. one (suc i + k) (slotOf l k)) (length l) → one i x + t ≡ sum (λ k. one (i + k) (slotOf (x ∷ l) k)) (length (x ∷ l))
   tally-step i x l t h =
@@ -183,7 +149,7 @@ module _ (f : Field) (rs : List (Option Region)) (d a : ℕ) where
   tally-from i (none ∷ l) = omega (arith, tally-step i none l (tally rs d a (passes f) (suc i) l) (tally-from (suc i) l))
   tally-from i (some g ∷ l) = tally-step i (some g) l (tally rs d a (passes f) (suc i) l) (tally-from (suc i) l)
 
-  pub tally-is : tallyOf f rs d a ≡ sum weight (length rs)
+  pub tally-is : regionCount f rs d a ≡ sum weight (length rs)
   tally-is = tally-from 0 rs ∙ sum-same _ _ (length rs) (λ k h. ap (λ (n : ℕ). one n (slotOf rs k)) (plus k) ∙ one-is k (slotOf rs k))
     where
       plus : (k : ℕ) → 0 + k ≡ k

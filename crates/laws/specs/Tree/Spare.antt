@@ -10,22 +10,23 @@ use lib.Dec.{eqb}
 use lib.ListN.{length}
 use Rattle.model.specs.Lists.{if_then_else_, slotOf, In}
 use Rattle.model.specs.State.{Region, Counts}
-use Rattle.model.specs.Counts.{Agree}
+use Rattle.model.specs.Fields.{Field, counter, passes}
+use Rattle.model.specs.Counts.{Agree, regionCount}
 use Rattle.laws.specs.Cases.{W, within-in, below, inside, above, pos, eqb-t, eqb-f, Test, test}
 use Rattle.laws.specs.Stack.{one-at-most}
-use Rattle.laws.specs.Tracker.Fields.{Field, counter, Enough, enough}
+use Rattle.laws.specs.Tracker.Fields.{Enough, enough}
 use Rattle.laws.specs.Tree.Sum.{sum, sum-le, sum-one}
 use Rattle.laws.specs.Tree.Slots.{in-length}
-use Rattle.laws.specs.Tree.Shares.{counter-passes, passes, share, carved, clear, clear-0, weight, tallyOf, tally-is, agree-each}
+use Rattle.laws.specs.Tree.Shares.{share, carved, clear, clear-0, weight, tally-is}
 
 -- the counts of d at a are those of rights r and of others
 pub record Spare (rs : List (Option Region)) (d a r : ℕ) : Type 0 where
   pub rest : Field → ℕ
-  pub whole : (f : Field) → tallyOf f rs d a ≡ rest f + counter f r
+  pub whole : (f : Field) → regionCount f rs d a ≡ rest f + counter f r
   pub less : (f : Field) → rest f ≤ rest Field.Reach
 
 pub spare-enough : (rs : List (Option Region)) (d a r : ℕ) (k : Counts) → Spare rs d a r → Agree rs d a k → Enough r k
-spare-enough rs d a r k p h = enough r k (p .rest) (λ f. agree-each rs d a k h f ∙ p .whole f) (p .less)
+spare-enough rs d a r k p h = enough r k (p .rest) (λ f. h f ∙ p .whole f) (p .less)
 
 -- ---- a right counts for no more than the reach
 
@@ -34,7 +35,7 @@ clear-le zero x y h = h
 clear-le (suc c) x y h = omega arith
 
 counter-le : (f : Field) (b : Bool) (r : ℕ) → (if b then counter f r else 0) ≤ (if b then 1 else 0)
-counter-le f true r = omega (arith, counter-passes f r, one-at-most (passes f r))
+counter-le f true r = one-at-most (passes f r)
 counter-le f false r = omega arith
 
 share-le : (f : Field) (x : Option Region) (d a : ℕ) → share f x d a ≤ share Field.Reach x d a
@@ -57,7 +58,7 @@ module _ (rs : List (Option Region)) (k : ℕ) (g : Region) (e : In rs k g) (a :
     | Test.fails t ↦ rw t (clear-le (carved rs j a) _ _ (share-le f (slotOf rs j) (g .owner) a))
   ]
 
-  but-whole : g .start ≤ a → a < g .end → carved rs k a ≡ 0 → (f : Field) → tallyOf f rs (g .owner) a ≡ sum (but f) (length rs) + counter f (g .rights)
+  but-whole : g .start ≤ a → a < g .end → carved rs k a ≡ 0 → (f : Field) → regionCount f rs (g .owner) a ≡ sum (but f) (length rs) + counter f (g .rights)
   but-whole u v z f =
       let own : weight f rs (g .owner) a k ≡ counter f (g .rights) = clear-0 (carved rs k a) _ z ∙ rw e (within-in _ _ _ _ _ u v ∙ rw (eqb-t (g .owner) (g .owner) refl)) in
       let gone : but f k ≡ 0 = rw (eqb-t k k refl) in

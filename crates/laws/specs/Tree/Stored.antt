@@ -7,49 +7,42 @@ use native.Mathlib.Omega.{arith}
 use lib.Dec.{T}
 use Rattle.model.specs.Lists.{isSome, count, orElse, slotOf, In}
 use Rattle.model.specs.State.{State, Domain, Region, noneDomain}
+use Rattle.model.specs.Fields.{Field, get}
 use Rattle.model.specs.Tree.{isRootKind}
-use Rattle.model.specs.Counts.{noCounts, countsAt, storedCounts}
+use Rattle.model.specs.Counts.{countsAt, storedCounts, regionCount}
 use Rattle.model.specs.Sound.{Sound}
 use Rattle.laws.specs.Cases.{lt, ge, cmp}
+use Rattle.laws.specs.Fields.{get-none}
 use Rattle.laws.specs.CountsLaw.{counts-law}
-use Rattle.laws.specs.Tracker.Fields.{Field, get}
 use Rattle.laws.specs.Tree.Sum.{sum, sum-same}
 use Rattle.laws.specs.Tree.Slots.{live-is, in-length}
-use Rattle.laws.specs.Tree.Shares.{tallyOf, agree-each}
 use Rattle.laws.specs.Tree.Total.{coversAs, isAlias, reach-total}
 use Rattle.laws.specs.Tree.FromRoot.{RootAt, counting, count-root}
-
-get-none : (f : Field) → get f noCounts ≡ 0
-get-none Field.Reach = refl
-get-none Field.Read = refl
-get-none Field.Write = refl
-get-none Field.Exec = refl
-get-none Field.Super = refl
 
 module _ (s : State) (h : Sound s) (a : ℕ) where
   -- a live region's owner is live
   owner-live : (i : ℕ) (g : Region) → In (s .regions) i g → T (isSome (slotOf (s .domains) (g .owner)))
-  owner-live i g e = h .owners i g e .ownerLive
+  owner-live i g e = h .outside .owners i g e .ownerLive
 
   -- nothing counts for a dead domain
-  nothing-dead : (f : Field) (d : ℕ) → slotOf (s .domains) d ≡ none → tallyOf f (s .regions) d a ≡ 0
-  nothing-dead f d e = elim (cmp 0 (tallyOf f (s .regions) d a)) [
-    | lt u ↦ let (k, c) = counting (s .regions) (h .regions) a f d u in absurd (rw (c .owner, e) at (owner-live k (c .region) (c .is)))
+  nothing-dead : (f : Field) (d : ℕ) → slotOf (s .domains) d ≡ none → regionCount f (s .regions) d a ≡ 0
+  nothing-dead f d e = elim (cmp 0 (regionCount f (s .regions) d a)) [
+    | lt u ↦ let (k, c) = counting (s .regions) (h .outside .regions) a f d u in absurd (rw (c .owner, e) at (owner-live k (c .region) (c .is)))
     | ge u ↦ omega arith
   ]
 
   -- the stored counts are the regions'
-  stored-go : (f : Field) (d : ℕ) (x : Option Domain) → slotOf (s .domains) d ≡ x → get f (countsAt (orElse x noneDomain .tracker) a) ≡ tallyOf f (s .regions) d a
+  stored-go : (f : Field) (d : ℕ) (x : Option Domain) → slotOf (s .domains) d ≡ x → get f (countsAt (orElse x noneDomain .tracker) a) ≡ regionCount f (s .regions) d a
   stored-go f d none e = get-none f ∙ sym (nothing-dead f d e)
-  stored-go f d (some x) e = agree-each (s .regions) d a (countsAt (x .tracker) a) (counts-law s h d x e a) f
+  stored-go f d (some x) e = counts-law s (h .tracked) d x e a f
 
-  pub stored : (f : Field) (d : ℕ) → get f (storedCounts s d a) ≡ tallyOf f (s .regions) d a
+  pub stored : (f : Field) (d : ℕ) → get f (storedCounts s d a) ≡ regionCount f (s .regions) d a
   stored f d = stored-go f d (slotOf (s .domains) d) refl
 
   pub stored-total : sum (λ d. storedCounts s d a .reach) (s .sizes .domains) ≡ count (coversAs isRootKind a) (s .regions) + count (coversAs isAlias a) (s .regions)
   stored-total =
       sum-same _ _ (s .sizes .domains) (λ d l. stored Field.Reach d)
-      ∙ reach-total (s .regions) (h .regions) a (s .sizes .domains) (λ i g e. let x = live-is (slotOf (s .domains) (g .owner)) (owner-live i g e) in omega (arith, h .domainsLength, in-length (s .domains) (g .owner) (x .0) (x .1)))
+      ∙ reach-total (s .regions) (h .outside .regions) a (s .sizes .domains) (λ i g e. let x = live-is (slotOf (s .domains) (g .owner)) (owner-live i g e) in omega (arith, h .outside .domainsLength, in-length (s .domains) (g .owner) (x .0) (x .1)))
 
   pub stored-root : (f : Field) (d : ℕ) → 0 < get f (storedCounts s d a) → RootAt (s .regions) a f
-  stored-root f d u = count-root (s .regions) (h .regions) a f d (omega (arith, stored f d))
+  stored-root f d u = count-root (s .regions) (h .outside .regions) a f d (omega (arith, stored f d))

@@ -10,11 +10,12 @@ use native.Mathlib.Omega.{arith}
 use lib.Dec.{eqb}
 use Rattle.model.specs.Lists.{if_then_else_, oneIf, count, slotOf, In}
 use Rattle.model.specs.State.{Region, Kind, Carve, withOwner}
+use Rattle.model.specs.Fields.{Field, counter}
 use Rattle.model.specs.Tree.{isCarve, Range, childrenOf, effectiveFrom}
+use Rattle.model.specs.Counts.{regionCount}
 use Rattle.laws.specs.Cases.{within, within-in, lt, ge, cmp}
-use Rattle.laws.specs.Tracker.Fields.{Field, counter}
 use Rattle.laws.specs.Tree.Slots.{none-some, in-length}
-use Rattle.laws.specs.Tree.Shares.{grant, share, carve, carveOf, childOf, child, carved, clear-0, clear-s, tallyOf, within-pos}
+use Rattle.laws.specs.Tree.Shares.{grant, share, carve, carveOf, childOf, child, carved, clear-0, clear-s, within-pos}
 use Rattle.laws.specs.Tree.Facts.{Regions, under, lies, self, own, carve-child, listing}
 use Rattle.laws.specs.Tree.Carved.{carved-none, carved-dead, carved-le}
 use Rattle.laws.specs.Tree.Change.{bare, Changed, turned, carved-change}
@@ -26,15 +27,15 @@ use Rattle.laws.specs.Tree.Effective.{effective-spread}
 
 -- from rs to rs′ the owner of g gains its range, at every domain and address
 abbrev pub Gains : List (Option Region) → List (Option Region) → Region → Type 0
-Gains rs rs′ g = (f : Field) (d a : ℕ) → tallyOf f rs′ d a ≡ tallyOf f rs d a + share f (some g) d a
+Gains rs rs′ g = (f : Field) (d a : ℕ) → regionCount f rs′ d a ≡ regionCount f rs d a + share f (some g) d a
 
 -- and the owner of h loses that range with the rights of h
 abbrev pub Trades : List (Option Region) → List (Option Region) → Region → Region → Type 0
-Trades rs rs′ g h = (f : Field) (d a : ℕ) → tallyOf f rs′ d a + grant f (h .owner) (g .start) (g .end) (h .rights) d a ≡ tallyOf f rs d a + share f (some g) d a
+Trades rs rs′ g h = (f : Field) (d a : ℕ) → regionCount f rs′ d a + grant f (h .owner) (g .start) (g .end) (h .rights) d a ≡ regionCount f rs d a + share f (some g) d a
 
 -- the ranges leave the owner of g and join domain o, with the rights of g
 abbrev pub Moves : List (Option Region) → List (Option Region) → Region → ℕ → List Range → Type 0
-Moves rs rs′ g o l = (f : Field) (d a : ℕ) → tallyOf f rs′ d a + spread (if eqb (g .owner) d then counter f (g .rights) else 0) l a ≡ tallyOf f rs d a + spread (if eqb o d then counter f (g .rights) else 0) l a
+Moves rs rs′ g o l = (f : Field) (d a : ℕ) → regionCount f rs′ d a + spread (if eqb (g .owner) d then counter f (g .rights) else 0) l a ≡ regionCount f rs d a + spread (if eqb o d then counter f (g .rights) else 0) l a
 
 carve-of : (k : Kind) (p : ℕ) → k ≡ Carve p → (q : ℕ) → carveOf k q ≡ oneIf (eqb p q)
 carve-of k p e q = rw e
@@ -60,7 +61,7 @@ module _ (rs : List (Option Region)) (s : Regions rs) where
           tally-carve rs rs′ i g t a (carved-dead rs i a s free) p h (in-length rs p h at) (λ o. none-some (slotOf rs i) h free (rw (← o) at at)) (ap bare at) (l .0) (l .1) (carve-of (g .kind) p e) (uncarved a) f d
 
       -- with the parent's owner and rights nothing changes
-      pub comes-same : g .owner ≡ h .owner → g .rights ≡ h .rights → (f : Field) (d a : ℕ) → tallyOf f rs′ d a ≡ tallyOf f rs d a
+      pub comes-same : g .owner ≡ h .owner → g .rights ≡ h .rights → (f : Field) (d a : ℕ) → regionCount f rs′ d a ≡ regionCount f rs d a
       comes-same o q f d a = omega (arith, comes-carve f d a, ap₂ (λ (u v : ℕ). grant f u (g .start) (g .end) v d a) o q)
 
       pub comes-spare : (a : ℕ) → g .start ≤ a → a < g .end → Spare rs (h .owner) a (h .rights)

@@ -10,10 +10,10 @@ use lib.Dec.{eqb}
 use lib.ListN.{length}
 use Rattle.model.specs.Lists.{if_then_else_, oneIf, count, slotOf, In}
 use Rattle.model.specs.State.{Region, Kind, Root, Alias, Carve}
+use Rattle.model.specs.Fields.{Field}
 use Rattle.model.specs.Tree.{isCarve, isRootKind}
-use Rattle.model.specs.Counts.{holds, regionReach}
+use Rattle.model.specs.Counts.{holds, regionCount}
 use Rattle.laws.specs.Cases.{within, W, below, inside, above, pos}
-use Rattle.laws.specs.Tracker.Fields.{Field}
 use Rattle.laws.specs.Tree.Sum.{sum, sum-same, sum-zero, sum-add, sum-pick, sum-swap}
 use Rattle.laws.specs.Tree.Slots.{in-length, count-sum}
 use Rattle.laws.specs.Tree.Shares.{tally-is, share, carve, carveOf, childOf, carved, carved-is, clear, holds-within}
@@ -106,13 +106,13 @@ module _ (rs : List (Option Region)) (s : Regions rs) (a : ℕ) where
       )
 
   module _ (n : ℕ) (owned : (i : ℕ) (g : Region) → In rs i g → g .owner < n) where
-    by-domain : sum (λ d. regionReach rs d a) n ≡ sum (λ k. clear (carved rs k a) (cover (slotOf rs k) a)) (length rs)
+    by-domain : sum (λ d. regionCount Field.Reach rs d a) n ≡ sum (λ k. clear (carved rs k a) (cover (slotOf rs k) a)) (length rs)
     by-domain =
         sum-same _ _ n (λ d h. tally-is Field.Reach rs d a)
         ∙ sum-swap (λ d k. clear (carved rs k a) (share Field.Reach (slotOf rs k) d a)) n (length rs)
         ∙ sum-same _ _ (length rs) (λ k h. clear-all n a (carved rs k a) (slotOf rs k) (λ g e. owned k g e))
 
-    pub reach-total : sum (λ d. regionReach rs d a) n ≡ count (coversAs isRootKind a) rs + count (coversAs isAlias a) rs
+    pub reach-total : sum (λ d. regionCount Field.Reach rs d a) n ≡ count (coversAs isRootKind a) rs + count (coversAs isAlias a) rs
     reach-total = omega (
       arith,
       by-domain,

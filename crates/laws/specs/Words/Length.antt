@@ -105,9 +105,9 @@ pool-length n used p h =
 pub section-lengths : (s : State) → Sound s → map length (sections s) ≡ widths (s .sizes)
 section-lengths s h =
     let z = s .sizes in
-    let d = pool-length (z .domains) _ (s .domainPool) (h .domainPool) in
-    let r = pool-length (z .regions) _ (s .regionPool) (h .regionPool) in
-    let t = pool-length (z .records) _ (s .recordPool) (h .recordPool) in
+    let d = pool-length (z .domains) _ (s .domainPool) (h .outside .domainPool) in
+    let r = pool-length (z .regions) _ (s .regionPool) (h .outside .regionPool) in
+    let t = pool-length (z .records) _ (s .recordPool) (h .tracked .recordPool) in
     let ds = rows-length _ _ (domain-width (z .slots) (s .domains)) 0 (z .domains) in
     let rs = rows-length _ _ (region-width (s .regions)) 0 (z .regions) in
     let ts = rows-length _ _ (record-width (s .domains)) 0 (z .records) in

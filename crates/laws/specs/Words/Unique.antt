@@ -23,7 +23,7 @@ same-sizes s t e =
 
 -- what is used of the capability lists
 listed : (s : State) → Sound s → (d : ℕ) (x : Domain) → In (s .domains) d x → Listed (s .sizes .slots) (x .locals)
-listed s h d x i = let l = h .lists d x i in record { heldLength = l .heldLength; once = l .once }
+listed s h d x i = let l = h .outside .lists d x i in record { heldLength = l .heldLength; once = l .once }
 
 -- the state with other sizes; used only in proofs
 abbrev withSizes : Sizes → State → State
@@ -36,15 +36,15 @@ same-state s t₀ h k e =
     let z = s .sizes in
     let same = same-parts (sections s) (sections t) (section-lengths s h ∙ sym (section-lengths t k)) (sym (words-join s) ∙ e ∙ words-join t) in
     let part : (w : ℕ) → getD (sections s) w [] ≡ getD (sections t) w [] = λ w. ap (λ l. getD l w []) same in
-    let dp = same-pool (z .domains) _ _ (s .domainPool) (t .domainPool) (h .domainPool) (k .domainPool) (part 1) in
-    let rp = same-pool (z .regions) _ _ (s .regionPool) (t .regionPool) (h .regionPool) (k .regionPool) (part 2) in
-    let tp = same-pool (z .records) _ _ (s .recordPool) (t .recordPool) (h .recordPool) (k .recordPool) (part 3) in
+    let dp = same-pool (z .domains) _ _ (s .domainPool) (t .domainPool) (h .outside .domainPool) (k .outside .domainPool) (part 1) in
+    let rp = same-pool (z .regions) _ _ (s .regionPool) (t .regionPool) (h .outside .regionPool) (k .outside .regionPool) (part 2) in
+    let tp = same-pool (z .records) _ _ (s .recordPool) (t .recordPool) (h .tracked .recordPool) (k .tracked .recordPool) (part 3) in
     let drows = same-rows _ _ _ (domain-width (z .slots) (s .domains)) (domain-width (z .slots) (t .domains)) (z .domains) (part 4) in
     let rrows = same-rows _ _ _ (region-width (s .regions)) (region-width (t .regions)) (z .regions) (part 5) in
     let trows = same-rows _ _ _ (record-width (s .domains)) (record-width (t .domains)) (z .records) (part 6) in
     let qrows = same-rows _ _ _ (place-width (z .updates) (s .queue)) (place-width (z .updates) (t .queue)) (z .updates + 1) (part 7) in
-    let ds = same-domains _ _ _ (s .domains) (t .domains) (h .domainsLength) (k .domainsLength) (dp .1) drows trows (listed s h) (listed t k) (h .recordPool) (k .recordPool) in
-    let rs = same-regions _ (s .regions) (t .regions) (h .regionsLength) (k .regionsLength) (rp .1) rrows (h .regions) (k .regions) in
+    let ds = same-domains _ _ _ (s .domains) (t .domains) (h .outside .domainsLength) (k .outside .domainsLength) (dp .1) drows trows (listed s h) (listed t k) (h .tracked .recordPool) (k .tracked .recordPool) in
+    let rs = same-regions _ (s .regions) (t .regions) (h .outside .regionsLength) (k .outside .regionsLength) (rp .1) rrows (h .outside .regions) (k .outside .regions) in
     let q = same-queue (z .updates) (s .queue) (t .queue) (ap (λ l. getD l 5 0) (part 0)) (h .queue .readPlace) (h .queue .fits) (k .queue .fits) qrows in
     λ i. record { sizes = z; domainPool = dp .0 i; regionPool = rp .0 i; recordPool = tp .0 i; domains = ds i; regions = rs i; queue = q i }
 

@@ -3,7 +3,8 @@ use Prim.Native.Nat.{_+_}
 use Rattle.listing.proofs.Filling.{Filling, filling-start, filling-end, filling-more, free-none, used-start, none-filled}
 use Rattle.readings.proofs.Reading.{records-end, records-none, records-more}
 use Rattle.readings.specs.Readings.{recordsFrom}
-use Rattle.tables.specs.View.{view, sizesOf}
+use Rattle.tables.specs.View.{view}
+use Rattle.sizes.specs.Sizes.{sizesOf}
 use borrow.Author.Needs.{needs}
 use mathlib.Core.Path.{_≡_, sym, _∙_}
 use native.Mathlib.Omega.{arith}

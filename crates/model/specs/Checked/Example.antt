@@ -8,7 +8,7 @@ use Rattle.model.specs.Lists.{countUp}
 use Rattle.model.specs.State.{Sizes, State, cleanup}
 use Rattle.model.specs.Making.{emptyTables}
 use Rattle.model.specs.Layout.{placeWords, words, lengthFor}
-use Rattle.model.specs.Perform.{Call, run}
+use Rattle.model.specs.Perform.{Step, Call, run}
 use Rattle.model.specs.Checked.Compute.{computing}
 use Rattle.model.specs.Checked.Script.{dom, access}
 
@@ -41,7 +41,7 @@ abbrev small : Sizes
 small = record { domains = 2; slots = 2; regions = 3; records = 3; updates = 1 }
 
 abbrev opened : State
-opened = run (emptyTables small) (Call.Open none 5 ∷ Call.Root (dom 0) (access 0 16 3) ∷ Call.Alias (dom 0) 0 (access 4 8 1) ∷ []) .1
+opened = run (emptyTables small) (Call.Do (Step.Open none 5) ∷ Call.Do (Step.Root (dom 0) (access 0 16 3)) ∷ Call.Do (Step.Alias (dom 0) 0 (access 4 8 1)) ∷ []) .1
 
 opened-words : words opened
     -- 1. header: the ring's read place 0, write place 1

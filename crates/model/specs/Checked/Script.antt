@@ -8,7 +8,7 @@ use Rattle.model.specs.Outcome
 use Rattle.model.specs.State.{Sizes, Handle, Access, Domain, Update, permission, cleanup}
 use Rattle.model.specs.Making.{emptyTables}
 use Rattle.model.specs.Readings.{rightsOf}
-use Rattle.model.specs.Perform.{Call, Answer, values, run}
+use Rattle.model.specs.Perform.{Step, Call, Answer, values, run}
 use Rattle.model.specs.Checked.Compute.{computing}
 
 -- domain d's handle before any generation rose; a range with rights
@@ -62,13 +62,13 @@ lines cs = let y = run (emptyTables scriptSizes) cs in callLines 1 (y .0) ++ dom
 -- local 1, 6 to 9 rights 1."
 abbrev pub example : List Call
 example =
-    Call.Open none 0
-    ∷ Call.Open (some (dom 0)) 0
-    ∷ Call.Root (dom 0) (access 0 16 3)
-    ∷ Call.Carve (dom 0) 1 (access 4 8 1)
-    ∷ Call.Alias (dom 0) 1 (access 0 4 3)
-    ∷ Call.Send (dom 0) 2 0
-    ∷ Call.Alias (dom 0) 1 (access 6 9 1)
+    Call.Do (Step.Open none 0)
+    ∷ Call.Do (Step.Open (some (dom 0)) 0)
+    ∷ Call.Do (Step.Root (dom 0) (access 0 16 3))
+    ∷ Call.Do (Step.Carve (dom 0) 1 (access 4 8 1))
+    ∷ Call.Do (Step.Alias (dom 0) 1 (access 0 4 3))
+    ∷ Call.Do (Step.Send (dom 0) 2 0)
+    ∷ Call.Do (Step.Alias (dom 0) 1 (access 6 9 1))
     ∷ []
 
 example-lines : lines example

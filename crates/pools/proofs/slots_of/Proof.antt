@@ -1,7 +1,7 @@
 -- The size that the header has for the pool.
 use Prim.Native.Nat.{_-_}
 use Rattle.arena.specs.Arena.{given}
-use Rattle.tables.specs.View.{sizesOf}
+use Rattle.sizes.specs.Sizes.{sizesOf}
 use borrow.Author.Needs.{needs}
 use Rattle.pools.proofs.slots_of.Statement.{statement}
 use Rattle.pools.proofs.slots_of.Tie as tie

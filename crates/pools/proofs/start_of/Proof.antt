@@ -1,7 +1,7 @@
 -- The widths of the sections before.
 use Prim.Native.Nat.{_-_}
 use Rattle.arena.specs.Arena.{given}
-use Rattle.tables.specs.View.{sizesOf}
+use Rattle.sizes.specs.Sizes.{sizesOf}
 use Rattle.words.specs.Cuts.{offset}
 use borrow.Author.Needs.{needs}
 use native.Mathlib.Omega.{arith}

@@ -2,7 +2,8 @@
 use Prim.Native.Nat.{_+_}
 use Rattle.readings.proofs.Reading.{records-end, records-none, records-more, records-start, count-done, count-more}
 use Rattle.readings.specs.Readings.{recordsFrom}
-use Rattle.tables.specs.View.{view, sizesOf}
+use Rattle.tables.specs.View.{view}
+use Rattle.sizes.specs.Sizes.{sizesOf}
 use borrow.Author.Needs.{needs}
 use lib.ListN.{length}
 use mathlib.Core.Path.{_≡_, ap, _∙_}

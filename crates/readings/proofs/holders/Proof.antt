@@ -1,7 +1,8 @@
 -- The run and the number so far and the holders from here on are the whole.
 use Prim.Native.Nat.{_+_, _≤_}
 use Rattle.readings.proofs.Runs.{Filling, filling-start, filling-end, filling-one, filling-other, holders-start}
-use Rattle.tables.specs.View.{view, sizesOf}
+use Rattle.tables.specs.View.{view}
+use Rattle.sizes.specs.Sizes.{sizesOf}
 use borrow.Author.Needs.{needs}
 use lib.ListN.{length, length-set}
 use mathlib.Core.Logic.{⊎-elim}

@@ -1,22 +1,20 @@
 -- A domain gains, or loses, a range: the walk over its tracker, and where a count left or came to 0 the update that this queues. The walks are the
 -- tracker's; here the answer of a walk, 1 or 0, becomes the model's `putWalk`.
 use mathlib.Core.Path.{_≡_, refl, ap, _∙_}
-use Prim.Native.Nat.{ℕ, _-_, _^_, _<_}
+use Prim.Native.Nat.{ℕ}
 use mathlib.Core.Bool.{Bool, true, false}
 use mathlib.Core.Option.{some, none}
 use lib.ListN.{length-set}
 use lib.Seq.{getD-set-same}
 use Rattle.model.specs.Lists.{if_then_else_, oneIf, Each, slotOf, In}
 use Rattle.model.specs.Outcome.{Outcome, ok, _>>=_}
-use Rattle.model.specs.State.{State, Domain, Counts, putDomain, withTracker, withRecordPool}
+use Rattle.model.specs.State.{State, Domain, putDomain, withTracker, withRecordPool}
 use Rattle.model.specs.Tracker.{Walk, gain, lose}
 use Rattle.model.specs.Updates.{pushPermission}
 use Rattle.model.specs.Regions as model
 use Rattle.model.specs.Regions.{putWalk}
 use Rattle.model.specs.Sound.{Rising}
-use Rattle.laws.specs.Tracker.Fields.{Field, get}
 use Rattle.laws.specs.Tree.Slots.{in-length, live-is}
-use Rattle.laws.specs.Capas.Slots.{each-weaken}
 use Rattle.laws.specs.Capas.Held.{domain-at}
 use Rattle.answers.specs.Answers.{Step, andThen}
 use Rattle.region.specs.Turns.{addRegion, removeRegion}
@@ -34,9 +32,6 @@ use Rattle.refine.specs.Calls.Acts.{plain, Acts, Deacts}
 
 -- ---- what the walks need
 
-raisable : (k : Counts) → ((f : Field) → get f k < 2 ^ 64 - 1) → Raisable k
-raisable k h = record { reach = h Field.Reach; read = h Field.Read; write = h Field.Write; exec = h Field.Exec; super = h Field.Super }
-
 module _ (s : State) (able : Able s) (d : ℕ) (x : Domain) (at : In (s .domains) d x) where
   held : Held s d x
   held = record { long = able .base .domains .size; at = at; few = good-limits (s .sizes) (able .base .ring .sizesGood) .records-high; sound = able .pool }
@@ -45,7 +40,7 @@ module _ (s : State) (able : Able s) (d : ℕ) (x : Domain) (at : In (s .domains
   rising = rw (domain-at s d x at) at (able .form d .rising)
 
   low : Each (λ q. Raisable (q .counts)) (x .tracker)
-  low = each-weaken _ _ (x .tracker) (λ q. raisable (q .counts)) (rw (domain-at s d x at) at (able .low d))
+  low = rw (domain-at s d x at) at (able .low d)
 
   -- ---- a walk is put back, and a change queues the domain
 

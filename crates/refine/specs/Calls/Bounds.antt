@@ -10,25 +10,26 @@ use native.Mathlib.Omega.{arith}
 use native.Mathlib.Decide.{ℕ-discrete}
 use lib.Dec.{eqb, lit<}
 use lib.ListN.{length}
-use Rattle.rights.specs.Rights.{has}
 use Rattle.model.specs.Lists.{if_then_else_, Each, slotOf}
 use Rattle.model.specs.State.{State, Counts, Record, Region, Access, domainAt}
-use Rattle.model.specs.Tracker.{Walk, lower}
-use Rattle.model.specs.Counts.{noCounts}
+use Rattle.model.specs.Fields.{Field, get, passes, counter}
+use Rattle.model.specs.Tracker.{Walk}
+use Rattle.model.specs.Counts.{regionCount}
 use Rattle.model.specs.Regions.{activate, deactivate}
 use Rattle.model.specs.Sound.{PoolSound, recordUses}
 use Rattle.laws.specs.Accepted.{All, bind, weaken, both}
 use Rattle.laws.specs.Cases.{within, W, within-lo, within-in, within-hi, below, inside, above, pos, eqb-t, eqb-f, holds, fails, test}
 use Rattle.laws.specs.Stack.{one-at-most}
+use Rattle.laws.specs.Fields.{get-none, get-lower}
 use Rattle.laws.specs.Tracker.Look.{look, countsOf, counts-look, Has, each-of-look}
-use Rattle.laws.specs.Tracker.Fields.{Field, get, counter, countAt}
+use Rattle.laws.specs.Tracker.Fields.{countAt}
 use Rattle.laws.specs.Tracker.Form.{Form, lose-form}
 use Rattle.laws.specs.Tracker.One.{lost}
 use Rattle.laws.specs.Tracker.Laws.{lose-law}
 use Rattle.laws.specs.Tracker.Slots.{lose-slots}
 use Rattle.laws.specs.Tree.Sum.{sum-le}
 use Rattle.laws.specs.Tree.Slots.{live-is}
-use Rattle.laws.specs.Tree.Shares.{grant, share, carved, clear, tallyOf, tally-is, weight}
+use Rattle.laws.specs.Tree.Shares.{grant, share, carved, clear, tally-is, weight}
 use Rattle.laws.specs.Tree.Send.{held}
 use Rattle.laws.specs.Keep.Aside.{Beside}
 use Rattle.laws.specs.Keep.Tracked.{Tracked, put-queue, put-tracked, activate-tracked}
@@ -82,13 +83,6 @@ bounded-able b s l (k, h) = record {
 
 -- ---- one range
 
-counter-low : (f : Field) (r : ℕ) → counter f r ≤ 1
-counter-low Field.Reach r = omega arith
-counter-low Field.Read r = one-at-most (has r 1)
-counter-low Field.Write r = one-at-most (has r 2)
-counter-low Field.Exec r = one-at-most (has r 4)
-counter-low Field.Super r = one-at-most (has r 8)
-
 within-low : (s e a x : ℕ) → x ≤ 1 → within s e a x 0 ≤ 1
 within-low s e a x h = elim (pos s e a) [
   | below i ↦ omega (arith, within-lo s e a x 0 i)
@@ -100,26 +94,12 @@ if-low : (b : Bool) (x : ℕ) → x ≤ 1 → (if b then x else 0) ≤ 1
 if-low b x h = elim (test b) [ holds t ↦ rw t h | fails t ↦ rw t (omega arith) ]
 
 grant-low : (f : Field) (o s e r d a : ℕ) → grant f o s e r d a ≤ 1
-grant-low f o s e r d a = within-low s e a _ (if-low (eqb o d) (counter f r) (counter-low f r))
+grant-low f o s e r d a = within-low s e a _ (if-low (eqb o d) (counter f r) (one-at-most (passes f r)))
 
 -- a loss leaves no count higher
-lowered-low : (f : Field) (r : ℕ) (k : Counts) → get f (lower r k) ≤ get f k
-lowered-low Field.Reach r k = omega arith
-lowered-low Field.Read r k = omega arith
-lowered-low Field.Write r k = omega arith
-lowered-low Field.Exec r k = omega arith
-lowered-low Field.Super r k = omega arith
-
-none-low : (f : Field) → get f noCounts ≡ 0
-none-low Field.Reach = refl
-none-low Field.Read = refl
-none-low Field.Write = refl
-none-low Field.Exec = refl
-none-low Field.Super = refl
-
 lost-low : (f : Field) (r : ℕ) (x : Option Counts) → get f (countsOf (lost r x)) ≤ get f (countsOf x)
 lost-low f r none = omega arith
-lost-low f r (some k) = elim (test (eqb (k .reach - 1) 0)) [ holds t ↦ rw t (omega (arith, none-low f)) | fails t ↦ rw t (lowered-low f r k) ]
+lost-low f r (some k) = elim (test (eqb (k .reach - 1) 0)) [ holds t ↦ rw t (omega (arith, get-none f)) | fails t ↦ rw t (omega (arith, get-lower f r k)) ]
 
 lost-at : (f : Field) (r s e : ℕ) (l m : List Record) (a : ℕ) → look m a ≡ within s e a (lost r (look l a)) (look l a) → countAt f m a ≤ countAt f l a
 lost-at f r s e l m a h = rw (counts-look m a, counts-look l a, h) (elim (pos s e a) [
@@ -172,7 +152,7 @@ share-low : (f : Field) (x : Option Region) (d a : ℕ) → share f x d a ≤ 1
 share-low f none d a = omega arith
 share-low f (some g) d a = grant-low f (g .owner) (g .start) (g .end) (g .rights) d a
 
-tally-low : (f : Field) (rs : List (Option Region)) (d a : ℕ) → tallyOf f rs d a ≤ length rs
+tally-low : (f : Field) (rs : List (Option Region)) (d a : ℕ) → regionCount f rs d a ≤ length rs
 tally-low f rs d a =
     omega (
       arith,

@@ -26,7 +26,7 @@ use Rattle.tables.specs.declared.RegionCapa.{RegionCapa}
 use Rattle.tables.specs.Tables.{Tables, regionAt}
 use Rattle.answers.specs.Answers.{Step, andThen}
 use Rattle.domain.specs.Activate.{reserve, insert}
-use Rattle.calls.specs.Checks.{liveDomain, regionHeld, capaOf}
+use Rattle.checks.specs.Checks.{liveDomain, regionHeld, capaOf}
 use Rattle.decoded.specs.Tables.{poolOf, capaSlot, tablesOf}
 use Rattle.refine.specs.Arenas.Pools.{handleIn}
 use Rattle.refine.specs.Agrees.{Agrees, agrees-step}

@@ -27,7 +27,7 @@ use Rattle.answers.specs.Answers.{Step, done, refused}
 use Rattle.region.specs.declared.AccessRights.{AccessRights}
 use Rattle.slots.specs.Capas.{capaAt}
 use Rattle.domain.specs.Activate.{reserve}
-use Rattle.calls.specs.Checks.{liveDomain, liveRegion, asRegion, asTarget, regionHeld, targetHeld, roomForRegion}
+use Rattle.checks.specs.Checks.{liveDomain, liveRegion, asRegion, asTarget, regionHeld, targetHeld, roomForRegion}
 use Rattle.decoded.specs.Tables.{handleFor, capaSlot, tablesOf}
 use Rattle.refine.specs.Agrees.{Agrees, agrees-call, agrees-state, ok-then, bind-assoc}
 use Rattle.refine.specs.Calls.Chains.{agrees-check, agrees-unless, require-then}

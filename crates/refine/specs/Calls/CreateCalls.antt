@@ -35,12 +35,12 @@ use Rattle.tables.specs.declared.RegionCapa.{RegionCapa}
 use Rattle.tables.specs.Tables.{Tables, regionAt}
 use Rattle.answers.specs.Answers.{Step, done, andThen}
 use Rattle.region.specs.declared.AccessRights.{AccessRights}
-use Rattle.region.specs.Links.{linkTo}
+use Rattle.tables.specs.Links.{linkTo}
 use Rattle.domain.specs.Activate.{insert, activate, deactivate}
 use Rattle.segment.specs.Children.{insertChild, checkChild}
 use Rattle.segment.specs.Regions.{access, capaFor, newRegion}
-use Rattle.calls.specs.Checks.{liveDomain, regionHeld, roomForRegion, capaOf}
-use Rattle.calls.specs.Calls.{createRootRegion, addChild, aliasRegion, exchangeRights, carveRegion}
+use Rattle.checks.specs.Checks.{liveDomain, regionHeld, roomForRegion, capaOf}
+use Rattle.region_calls.specs.Calls.{heldRegion, createRootRegion, addChild, aliasRegion, exchangeRights, carveRegion}
 use Rattle.decoded.specs.Tables.{capaSlot, tablesOf}
 use Rattle.refine.specs.Arenas.Pools.{handleIn}
 use Rattle.refine.specs.Agrees.{Agrees, agrees-call, agrees-step, agrees-state, bind-assoc}
@@ -67,7 +67,7 @@ behind-able s t k b j = (j, told-formed s t k (b .tracked))
 
 module _ (s : State) (sound : Sound s) (h : Handle) (a : AccessRights) where
   pub create-root-refines : AccessWords (accessFor a) → Agrees (createRootRegion h a (tablesOf s)) (model.createRootRegion (handleIn h) (accessFor a) s)
-  unfolding createRootRegion model.createRootRegion
+  unfolding createRootRegion heldRegion model.createRootRegion
   create-root-refines w =
       let base = sound-base s sound in
       let lists = sound-lists s sound in
@@ -115,7 +115,7 @@ module _ (s : State) (good : Good s) (base : Base s) (lists : Lists s) (d : ℕ)
       (insert-here u d (c .fit) n _ (region-of u i ∙ ap (λ m. capaSlot (region m)) (same-pool i t)))
 
   pub child-refines : Agrees (addChild d p (kindWord k) a (tablesOf s)) (model.addChild d p k (accessFor a) s)
-  unfolding addChild model.addChild
+  unfolding addChild heldRegion model.addChild
   child-refines =
       let (x, e) = live-is (slotOf (s .domains) d) live in
       let parent : linkTo p ≡ link (parentOf k) = link-to p (omega (arith, regions-few s base, in-length (s .regions) p h at)) ∙ sym (ap link under) in

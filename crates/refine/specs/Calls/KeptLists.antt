@@ -25,7 +25,7 @@ use Rattle.refine.specs.Slots.Sweep.{freed-listed, swept-for}
 use Rattle.refine.specs.Calls.Checks.{Lists}
 
 pub sound-lists : (s : State) → Sound s → Lists s
-sound-lists s h d x e = record { heldLength = h .lists d x e .heldLength; once = h .lists d x e .once }
+sound-lists s h d x e = record { heldLength = h .outside .lists d x e .heldLength; once = h .outside .lists d x e .once }
 
 -- a domain's slot number fits in a link
 pub domain-small : (s : State) → Base s → (d : ℕ) (x : Domain) → In (s .domains) d x → d < 2 ^ 64 - 1

@@ -33,7 +33,8 @@ use Rattle.tables.specs.declared.RegionCapa.{RegionCapa}
 use Rattle.tables.specs.Tables.{Tables, regionAt}
 use Rattle.answers.specs.Answers.{Step, andThen}
 use Rattle.domain.specs.Activate.{activate, deactivate, cleanup}
-use Rattle.segment.specs.Regions.{access, freedRegion, leaveParent, giveBack, cleanupIf, revokeLeaf}
+use Rattle.segment.specs.Regions.{access, freedRegion}
+use Rattle.revocation.specs.Revoke.{leaveParent, giveBack, cleanupIf, revokeLeaf}
 use Rattle.refine.specs.Agrees.{Agrees, agrees-step, agrees-call, agrees-state, bind-assoc, bind-same}
 use Rattle.decoded.specs.Tree.Regions.{region-read}
 use Rattle.refine.specs.Tree.Search.{Kids, regions-kids}

@@ -38,9 +38,10 @@ use Rattle.answers.specs.declared.Refusal.the-variants.{NoSlot, NotCarried}
 use Rattle.answers.specs.Answers.{Step, done, refused, andThen}
 use Rattle.slots.specs.Capas.{capaAt, withoutCapa, withEmpty}
 use Rattle.domain.specs.Activate.{insert}
-use Rattle.segment.specs.Regions.{sendRegion, revoke}
-use Rattle.calls.specs.Checks.{liveDomain, liveRegion}
-use Rattle.calls.specs.Calls.{sendCapa, send, revokeUnlessRoot, revokeCapa, revokeLocal}
+use Rattle.segment.specs.Regions.{sendRegion}
+use Rattle.revocation.specs.Revoke.{revoke}
+use Rattle.checks.specs.Checks.{liveDomain, liveRegion}
+use Rattle.capa_calls.specs.Calls.{sendCapa, send, revokeUnlessRoot, revokeCapa, revokeLocal}
 use Rattle.decoded.specs.Tables.{handleFor, capaSlot, tablesOf}
 use Rattle.refine.specs.Arenas.Pools.{handleIn}
 use Rattle.refine.specs.Agrees.{Agrees, agrees-call, agrees-step, ok-then, bind-assoc, bind-same}

@@ -1,24 +1,28 @@
--- The calls that change the tables as one statement: on the tables of a sound state the code's step answers what `perform` answers, and leaves its state.
+-- The steps as one statement: on the tables of a sound state the code's step answers what the model's answers, and leaves its state.
 -- A step answers one number: the new domain's slot, the local slot, or 0. The generation of a new domain is the one that its slot then has.
 use mathlib.Core.Path.{_≡_, refl, _∙_}
 use Prim.Native.Nat.{ℕ}
 use mathlib.Core.Option.{Option, none, some}
+use lib.ListN.{getD}
 use Rattle.model.specs.Outcome.{Outcome, ok, _>>=_}
 use Rattle.model.specs.State.{State, Access}
 use Rattle.model.specs.State as state
 use Rattle.model.specs.Pool.{handleOf}
 use Rattle.model.specs.Updates.{pop}
-use Rattle.model.specs.Calls as model
-use Rattle.model.specs.Perform.{Call, Reply, perform}
-use Rattle.model.specs.CallWords.{CallWords}
+use Rattle.model.specs.Calls as calls
+use Rattle.model.specs.Perform as model
+use Rattle.model.specs.Perform.{Reply, values, performStep}
+use Rattle.model.specs.CallWords.{StepWords}
 use Rattle.model.specs.Sound.{Sound}
 use Rattle.laws.specs.Accepted.{All, accepted, bind-any}
 use Rattle.tables.specs.Tables.{Tables}
 use Rattle.answers.specs.Answers.{Step}
-use Rattle.update.specs.Ring.{popOf}
+use Rattle.ring.specs.Ring.{popOf}
 use Rattle.update.specs.Stored.{ringOf, withRingOf}
 use Rattle.region.specs.declared.AccessRights.{AccessRights}
-use Rattle.calls.specs.Calls.{openDomain, openUnder, openChannel, setCores, createRootRegion, aliasRegion, carveRegion, send, revokeLocal, createRevokeCapa}
+use Rattle.domain_calls.specs.Calls.{openDomain, openUnder, openChannel, setCores}
+use Rattle.region_calls.specs.Calls.{createRootRegion, aliasRegion, carveRegion}
+use Rattle.capa_calls.specs.Calls.{send, revokeLocal, createRevokeCapa}
 use Rattle.decoded.specs.Sizes.{good-limits}
 use Rattle.decoded.specs.Tables.{handleFor, tablesOf}
 use Rattle.refine.specs.Agrees.{Agrees, agrees-call, ok-then, bind-assoc, bind-same, bind-ok}
@@ -31,54 +35,24 @@ use Rattle.refine.specs.Calls.MoveCalls.{send-refines, revoke-refines}
 abbrev pub accessIn : Access → AccessRights
 accessIn a = record { start = a .start; end = a .end; ops = record { 0 = a .rights } }
 
--- the calls that change tables; making and popping have no step, and readings change nothing
-abbrev pub Stepped : Call → Type 0
-Stepped (Call.Make z) = ⊥
-Stepped (Call.Open m cores) = Unit {0}
-Stepped (Call.Channel h to) = Unit {0}
-Stepped (Call.SetCores h cores) = Unit {0}
-Stepped (Call.Root h a) = Unit {0}
-Stepped (Call.Alias h l a) = Unit {0}
-Stepped (Call.Carve h l a) = Unit {0}
-Stepped (Call.Send h l target) = Unit {0}
-Stepped (Call.Revoke h l) = Unit {0}
-Stepped (Call.MakeRevoke h l) = Unit {0}
-Stepped Call.Pop = ⊥
-Stepped (Call.Permissions h) = ⊥
-Stepped (Call.Refcount h from to) = ⊥
-Stepped (Call.CoreMap h) = ⊥
-Stepped (Call.Holders a) = ⊥
-
 -- the code's step
-abbrev pub stepFor : (c : Call) → Stepped c → Tables → Step
-stepFor (Call.Make z) q t = absurd q
-stepFor (Call.Open none cores) q t = openDomain cores t
-stepFor (Call.Open (some h) cores) q t = openUnder (handleFor h) cores t
-stepFor (Call.Channel h to) q t = openChannel (handleFor h) (handleFor to) t
-stepFor (Call.SetCores h cores) q t = setCores (handleFor h) cores t
-stepFor (Call.Root h a) q t = createRootRegion (handleFor h) (accessIn a) t
-stepFor (Call.Alias h l a) q t = aliasRegion (handleFor h) l (accessIn a) t
-stepFor (Call.Carve h l a) q t = carveRegion (handleFor h) l (accessIn a) t
-stepFor (Call.Send h l target) q t = send (handleFor h) l target t
-stepFor (Call.Revoke h l) q t = revokeLocal (handleFor h) l t
-stepFor (Call.MakeRevoke h l) q t = createRevokeCapa (handleFor h) l t
-stepFor Call.Pop q t = absurd q
-stepFor (Call.Permissions h) q t = absurd q
-stepFor (Call.Refcount h from to) q t = absurd q
-stepFor (Call.CoreMap h) q t = absurd q
-stepFor (Call.Holders a) q t = absurd q
+abbrev pub stepFor : model.Step → Tables → Step
+stepFor (model.Open none cores) t = openDomain cores t
+stepFor (model.Open (some h) cores) t = openUnder (handleFor h) cores t
+stepFor (model.Channel h to) t = openChannel (handleFor h) (handleFor to) t
+stepFor (model.SetCores h cores) t = setCores (handleFor h) cores t
+stepFor (model.Root h a) t = createRootRegion (handleFor h) (accessIn a) t
+stepFor (model.Alias h l a) t = aliasRegion (handleFor h) l (accessIn a) t
+stepFor (model.Carve h l a) t = carveRegion (handleFor h) l (accessIn a) t
+stepFor (model.Send h l target) t = send (handleFor h) l target t
+stepFor (model.Revoke h l) t = revokeLocal (handleFor h) l t
+stepFor (model.MakeRevoke h l) t = createRevokeCapa (handleFor h) l t
 
--- the number of a reply
+-- the number of a reply: its first value, 0 if it has none
 abbrev pub slotFrom : Reply → ℕ
-slotFrom Reply.done = 0
-slotFrom (Reply.domain h) = h .slot
-slotFrom (Reply.local l) = l
-slotFrom (Reply.popped u) = 0
-slotFrom (Reply.permissionList l) = 0
-slotFrom (Reply.number n) = 0
-slotFrom (Reply.domainList l) = 0
+slotFrom r = getD (values r) 0 0
 
--- ---- a call's outcome, as perform gives it
+-- ---- a call's outcome, as `performStep` gives it
 
 abbrev numbered : Outcome (Reply × State) → Outcome (ℕ × State)
 numbered m = m >>= λ y. ok (slotFrom (y .0), y .1)
@@ -93,31 +67,25 @@ silent-is : (m : Outcome State) → numbered (m >>= λ t. ok (Reply.done, t)) �
 silent-is m = bind-assoc m _ _ ∙ bind-same m _ _ (λ t. ok-then _ _)
 
 module _ (s : State) (sound : Sound s) where
-  pub call-refines : (c : Call) (q : Stepped c) → CallWords c → Agrees (stepFor c q (tablesOf s)) (perform s c >>= λ y. ok (slotFrom (y .0), y .1))
-  unfolding perform
-  call-refines (Call.Make z) q w = absurd q
-  call-refines (Call.Open none cores) q w = agrees-call _ _ _ (replied _ Reply.domain) (open-domain-refines s sound cores)
-  call-refines (Call.Open (some h) cores) q w = agrees-call _ _ _ (replied _ Reply.domain) (open-under-refines s sound (handleFor h) cores (w .1))
-  call-refines (Call.Channel h to) q w = agrees-call _ _ _ (local-is _) (open-channel-refines s sound (handleFor h) (handleFor to))
-  call-refines (Call.SetCores h cores) q w = agrees-call _ _ _ (silent-is _) (set-cores-refines s sound (handleFor h) cores)
-  call-refines (Call.Root h a) q w = agrees-call _ _ _ (local-is _) (create-root-refines s sound (handleFor h) (accessIn a) (w .1))
-  call-refines (Call.Alias h l a) q w = agrees-call _ _ _ (local-is _) (alias-refines s sound (handleFor h) (accessIn a) l)
-  call-refines (Call.Carve h l a) q w = agrees-call _ _ _ (local-is _) (carve-refines s sound (handleFor h) (accessIn a) l)
-  call-refines (Call.Send h l target) q w = agrees-call _ _ _ (local-is _) (send-refines s sound (handleFor h) l target)
-  call-refines (Call.Revoke h l) q w = agrees-call _ _ _ (silent-is _) (revoke-refines s sound (handleFor h) l)
-  call-refines (Call.MakeRevoke h l) q w = agrees-call _ _ _ (local-is _) (create-revoke-refines s sound (handleFor h) l)
-  call-refines Call.Pop q w = absurd q
-  call-refines (Call.Permissions h) q w = absurd q
-  call-refines (Call.Refcount h from to) q w = absurd q
-  call-refines (Call.CoreMap h) q w = absurd q
-  call-refines (Call.Holders a) q w = absurd q
+  pub call-refines : (c : model.Step) → StepWords c → Agrees (stepFor c (tablesOf s)) (performStep s c >>= λ y. ok (slotFrom (y .0), y .1))
+  unfolding performStep
+  call-refines (model.Open none cores) w = agrees-call _ _ _ (replied _ Reply.domain) (open-domain-refines s sound cores)
+  call-refines (model.Open (some h) cores) w = agrees-call _ _ _ (replied _ Reply.domain) (open-under-refines s sound (handleFor h) cores (w .1))
+  call-refines (model.Channel h to) w = agrees-call _ _ _ (local-is _) (open-channel-refines s sound (handleFor h) (handleFor to))
+  call-refines (model.SetCores h cores) w = agrees-call _ _ _ (silent-is _) (set-cores-refines s sound (handleFor h) cores)
+  call-refines (model.Root h a) w = agrees-call _ _ _ (local-is _) (create-root-refines s sound (handleFor h) (accessIn a) (w .1))
+  call-refines (model.Alias h l a) w = agrees-call _ _ _ (local-is _) (alias-refines s sound (handleFor h) (accessIn a) l)
+  call-refines (model.Carve h l a) w = agrees-call _ _ _ (local-is _) (carve-refines s sound (handleFor h) (accessIn a) l)
+  call-refines (model.Send h l target) w = agrees-call _ _ _ (local-is _) (send-refines s sound (handleFor h) l target)
+  call-refines (model.Revoke h l) w = agrees-call _ _ _ (silent-is _) (revoke-refines s sound (handleFor h) l)
+  call-refines (model.MakeRevoke h l) w = agrees-call _ _ _ (local-is _) (create-revoke-refines s sound (handleFor h) l)
 
   -- a pop takes the oldest update out of the ring
   pub pop-performs : (popOf (ringOf (tablesOf s)) .item ≡ itemFor (pop s .0)) × (withRingOf (tablesOf s) (popOf (ringOf (tablesOf s)) .ring) ≡ tablesOf (pop s .1))
-  pop-performs = pop-refines s (good-limits (s .sizes) (sound .sizesGood) .updates-high) (sound .queue .readPlace) (sound .queue .fits)
+  pop-performs = pop-refines s (good-limits (s .sizes) (sound .outside .sizesGood) .updates-high) (sound .queue .readPlace) (sound .queue .fits)
 
 -- the handle that opening answers is its slot's in the tables that it leaves
-pub opened-handle : (m : Option state.Handle) (cores : ℕ) (s : State) → All (λ y. y .0 ≡ handleOf (y .1 .domainPool) (y .0 .slot)) (model.openDomain m cores s)
-unfolding model.openDomain
+pub opened-handle : (m : Option state.Handle) (cores : ℕ) (s : State) → All (λ y. y .0 ≡ handleOf (y .1 .domainPool) (y .0 .slot)) (calls.openDomain m cores s)
+unfolding calls.openDomain
 opened-handle none cores s = bind-any _ (λ y. accepted {a = (handleOf (y .1 .domainPool) (y .0), y .1)} refl)
 opened-handle (some h) cores s = bind-any _ (λ d. bind-any _ (λ y. bind-any _ (λ t. bind-any _ (λ z. accepted {a = (handleOf (z .1 .domainPool) (y .0), z .1)} refl))))

@@ -26,7 +26,7 @@ use Rattle.tables.specs.declared.DomainHead.{DomainHead}
 use Rattle.tables.specs.declared.Region.{Region}
 use Rattle.tables.specs.Tables.{Tables, noRecord, headAt, recordAt}
 use Rattle.arena.specs.Arena.{isFreeB}
-use Rattle.region.specs.Links.{firstLink}
+use Rattle.tracker_records.specs.Links.{firstLink}
 use Rattle.readings.specs.declared.Permission.{Permission}
 use Rattle.readings.specs.Readings as readings
 use Rattle.readings.specs.Readings.{recordsFrom, recordsOf, permissionList, holdersOf}
@@ -116,7 +116,7 @@ used-is n table p h i l = ap (λ (k : ℕ). not (ltb 0 k)) (getD-up (freeLink (p
 
 module _ (s : State) (sound : Sound s) where
   apart : Spread (s .sizes .records) (s .domains)
-  apart = spread (s .sizes .records) (s .domains) (s .recordPool) (sound .recordPool)
+  apart = spread (s .sizes .records) (s .domains) (s .recordPool) (sound .tracked .recordPool)
 
   row-at : (i : ℕ) → 0 < recordUses (s .domains) i → recordAt (tablesOf s) i ≡ recordIn (s .domains) i
   unfolding recordAt tablesOf recordsFor
@@ -125,7 +125,7 @@ module _ (s : State) (sound : Sound s) where
   module _ (d : ℕ) (x : state.Domain) (at : In (s .domains) d x) where
     first-is : firstLink (tablesOf s) d ≡ link (firstSlot (x .tracker))
     unfolding firstLink
-    first-is = ap (λ (h : DomainHead). h .tracker) (head-read s (sound .domainsLength) d x at)
+    first-is = ap (λ (h : DomainHead). h .tracker) (head-read s (sound .outside .domainsLength) d x at)
 
     pub records-read : recordsOf (tablesOf s) d ≡ rowsOf (x .tracker)
     unfolding recordsOf tablesOf
@@ -143,7 +143,7 @@ module _ (s : State) (sound : Sound s) where
     refcount-is a b = ap (readings.largestReach a b) records-read ∙ reach-of a b (x .tracker)
 
     pub cores-are : headAt (tablesOf s) d .cores ≡ x .cores
-    cores-are = ap (λ (h : DomainHead). h .cores) (head-read s (sound .domainsLength) d x at)
+    cores-are = ap (λ (h : DomainHead). h .cores) (head-read s (sound .outside .domainsLength) d x at)
 
   -- ---- holders
 
@@ -156,12 +156,12 @@ module _ (s : State) (sound : Sound s) where
     holder-from : (d : ℕ) (o : Option state.Domain) → slotOf (s .domains) d ≡ o
         → both (isSome o) (ltb 0 (readings.largestReach a (a + 1) (recordsOf (tablesOf s) d))) ≡ holder o
     holder-from d none e = refl
-    holder-from d (some x) e = ap (ltb 0) (refcount-is d x e a (a + 1) ∙ reach-at a 0 (x .tracker) (sound .trackers d x e .rising))
+    holder-from d (some x) e = ap (ltb 0) (refcount-is d x e a (a + 1) ∙ reach-at a 0 (x .tracker) (sound .tracked .trackers d x e .rising))
 
     holder-is : (d : ℕ) (o : Option state.Domain) → d < s .sizes .domains → slotOf (s .domains) d ≡ o → readings.isHolder (tablesOf s) a d ≡ holder o
     unfolding readings.isHolder tablesOf
     holder-is d o l e =
-        let u = used-is (s .sizes .domains) (s .domains) (s .domainPool) (sound .domainPool) d l ∙ ap isSome e in
+        let u = used-is (s .sizes .domains) (s .domains) (s .domainPool) (sound .outside .domainPool) d l ∙ ap isSome e in
         ap (λ (b : Bool). both b (ltb 0 (readings.largestReach a (a + 1) (recordsOf (tablesOf s) d)))) u ∙ holder-from d o e
 
     next-holders : (d : ℕ) (o : Option state.Domain) (l : List (Option state.Domain))
@@ -183,8 +183,8 @@ module _ (s : State) (sound : Sound s) where
     pub holders-are : holdersOf (tablesOf s) a ≡ model.holders a s
     unfolding holdersOf model.holders tablesOf
     holders-are =
-        ap (λ (n : ℕ). readings.holdersFrom n (tablesOf s) a 0) (sym (sound .domainsLength))
-        ∙ holders-from 0 (s .domains) (omega (arith, sound .domainsLength)) (λ i. let z : 0 + i ≡ i = omega arith in ap (slotOf (s .domains)) z)
+        ap (λ (n : ℕ). readings.holdersFrom n (tablesOf s) a 0) (sym (sound .outside .domainsLength))
+        ∙ holders-from 0 (s .domains) (omega (arith, sound .outside .domainsLength)) (λ i. let z : 0 + i ≡ i = omega arith in ap (slotOf (s .domains)) z)
 
 -- ---- a lent run
 

@@ -29,7 +29,7 @@ use Rattle.laws.specs.Keep.Whole.{Whole, leaves-whole}
 use Rattle.tables.specs.declared.RegionCapa.{RegionCapa}
 use Rattle.tables.specs.Tables.{Tables, regionAt}
 use Rattle.answers.specs.Answers.{andThen}
-use Rattle.segment.specs.Regions.{revokeLeaf, revokeRegion, revoke}
+use Rattle.revocation.specs.Revoke.{revokeLeaf, revokeRegion, revoke}
 use Rattle.refine.specs.Agrees.{Agrees, agrees-step, agrees-call, agrees-state, bind-assoc}
 use Rattle.decoded.specs.Free.{all-slots}
 use Rattle.decoded.specs.Tree.Regions.{region-read}

@@ -29,7 +29,7 @@ use Rattle.laws.specs.Keep.Whole.{Whole}
 use Rattle.tables.specs.declared.RegionCapa.{RegionCapa}
 use Rattle.tables.specs.Tables.{Tables, noRegion, regionAt, withRegion}
 use Rattle.answers.specs.Answers.{Step, andThen}
-use Rattle.region.specs.Links.{linkTo}
+use Rattle.tables.specs.Links.{linkTo}
 use Rattle.domain.specs.Activate.{activate, deactivate}
 use Rattle.segment.specs.Children as segment
 use Rattle.segment.specs.Regions.{access, movePiece, sendFrom, sendRegion}

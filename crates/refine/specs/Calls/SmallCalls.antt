@@ -20,8 +20,9 @@ use Rattle.tables.specs.declared.Handle.{Handle}
 use Rattle.tables.specs.declared.DomainHead.{DomainHead}
 use Rattle.tables.specs.Tables.{regionAt, withHead}
 use Rattle.domain.specs.Opened.{newDomain}
-use Rattle.calls.specs.Checks.{liveDomain}
-use Rattle.calls.specs.Calls.{openDomain, openUnder, openChannel, setCores, createRevokeCapa}
+use Rattle.checks.specs.Checks.{liveDomain}
+use Rattle.domain_calls.specs.Calls.{openDomain, openUnder, openChannel, setCores}
+use Rattle.capa_calls.specs.Calls.{createRevokeCapa}
 use Rattle.decoded.specs.Sizes.{good-limits}
 use Rattle.decoded.specs.Tables.{tablesOf}
 use Rattle.refine.specs.Arenas.Pools.{handleIn}
@@ -47,7 +48,7 @@ module _ (s : State) (sound : Sound s) where
   unfolding openDomain model.openDomain
   open-domain-refines cores =
       agrees-call _ _ (model.newDomain none cores s) (bind-assoc (model.newDomain none cores s) _ _ ∙ bind-same (model.newDomain none cores s) _ ok (λ y. ok-then _ _) ∙ bind-ok (model.newDomain none cores s))
-      (open-refines s (base .domains .size) (base .domains .pool) (good-limits (s .sizes) (sound .sizesGood) .slots-high) none cores)
+      (open-refines s (base .domains .size) (base .domains .pool) (good-limits (s .sizes) (sound .outside .sizesGood) .slots-high) none cores)
 
   pub open-under-refines : (h : Handle) (cores : ℕ) → Word cores → Agrees (openUnder h cores (tablesOf s)) (model.openDomain (some (handleIn h)) cores s >>= λ y. ok (y .0 .slot, y .1))
   unfolding openUnder model.openDomain
@@ -57,7 +58,7 @@ module _ (s : State) (sound : Sound s) where
       agrees-call _ _ _ (bind-assoc (model.newDomain (some m) cores s) _ _) (
       agrees-next _ _ (model.newDomain (some m) cores s) _
       (agrees-step _ _ (model.newDomain (some m) cores s) (ap (λ (k : ℕ). newDomain k cores (tablesOf s)) (link-to m (domain-small s base m x e)))
-      (open-refines s (base .domains .size) (base .domains .pool) (good-limits (s .sizes) (sound .sizesGood) .slots-high) (some m) cores))
+      (open-refines s (base .domains .size) (base .domains .pool) (good-limits (s .sizes) (sound .outside .sizesGood) .slots-high) (some m) cores))
       (both (domain-whole s sound (some m) cores w) (open-lists s base lists (some m) cores)) (λ i s₁ ((k, live), l).
       agrees-call _ _ _ (bind-assoc (hasCapacity m s₁) _ _) (
       from-room s₁ m (k .1, l, live m (is-live _ x e)) _ _ (λ s₂ fit.

@@ -25,14 +25,14 @@ use Rattle.tables.specs.declared.Update.{Update}
 use Rattle.tables.specs.Tables.{Tables, noUpdate, updateAt, withPlaces, withRing, withUpdate}
 use Rattle.answers.specs.declared.Refusal.the-variants.{RingFull}
 use Rattle.answers.specs.Answers.{Step}
-use Rattle.update.specs.declared.PushOut.{PushOut}
-use Rattle.update.specs.declared.Item.{Item}
-use Rattle.update.specs.Ring.{cap, afterOf, putIn, roomB, pushOf, takeOut, someB, popOf, namesOf, queuedOf, markOf}
+use Rattle.ring.specs.declared.PushOut.{PushOut}
+use Rattle.ring.specs.declared.Item.{Item}
+use Rattle.ring.specs.Ring.{cap, afterOf, putIn, roomB, pushOf, takeOut, someB, popOf, namesOf, queuedOf, markOf}
 use Rattle.update.specs.Fitted.{fitted, length-fitted, getD-fitted}
 use Rattle.update.specs.Stored.{ringOf, withRingOf}
-use Rattle.update.specs.Turns.{after-is}
-use Rattle.update.specs.Queue.{Queues}
-use Rattle.update.specs.Search.{anyNames, queued-any}
+use Rattle.ring.specs.Turns.{after-is}
+use Rattle.ring.specs.Queue.{Queues}
+use Rattle.ring.specs.Search.{anyNames, queued-any}
 use Rattle.update.specs.Laid.{Laid, laid-queues, ring-same}
 use Rattle.domain.specs.Activate.{orRefused, notify, cleanup}
 use Rattle.decoded.specs.Rows.{map-up-length}

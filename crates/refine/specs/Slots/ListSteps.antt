@@ -26,11 +26,11 @@ use Rattle.tables.specs.declared.Slot.{Slot}
 use Rattle.tables.specs.Tables.{Domain, noSlot, withDomains}
 use Rattle.answers.specs.declared.Answer.the-variants.{Refused}
 use Rattle.answers.specs.declared.Refusal.the-variants.{NoLocal}
-use Rattle.slots.specs.declared.SlotList.{SlotList}
-use Rattle.slots.specs.declared.Given.{Given}
-use Rattle.slots.specs.declared.Inserted.the-variants.{At, Full}
-use Rattle.slots.specs.Lists.{isFreeB, slotIn, putIn, emptySlot, givesB, allocated, giveSlot, freed, takeSlot}
-use Rattle.slots.specs.Record.{padded, listOf, putList, listAt, withList}
+use Rattle.slot_list.specs.declared.SlotList.{SlotList}
+use Rattle.slot_list.specs.declared.Given.{Given}
+use Rattle.slot_list.specs.declared.Inserted.the-variants.{At, Full}
+use Rattle.slot_list.specs.Lists.{isFreeB, slotIn, putIn, emptySlot, givesB, allocated, giveSlot, freed, takeSlot}
+use Rattle.stored_slots.specs.Record.{padded, listOf, putList, listAt, withList}
 use Rattle.slots.specs.Capas.{withCapa, withoutCapa, withEmpty, capaAt}
 use Rattle.domain.specs.Activate.{insert, insertedAnswer}
 use Rattle.decoded.specs.Rows.{map-up-length, getD-up}

@@ -28,8 +28,8 @@ use Rattle.arena.specs.declared.Given.the-variants.{At, Full}
 use Rattle.arena.specs.Arena.{given}
 use Rattle.answers.specs.declared.Answer.the-variants.{Refused}
 use Rattle.answers.specs.declared.Refusal.the-variants.{NoDomainRoom}
-use Rattle.slots.specs.declared.SlotList.{SlotList}
-use Rattle.slots.specs.Record.{putList, withList}
+use Rattle.slot_list.specs.declared.SlotList.{SlotList}
+use Rattle.stored_slots.specs.Record.{putList, withList}
 use Rattle.domain.specs.Opened.{freshFrom, freshList, newHead, taken, newDomain}
 use Rattle.decoded.specs.Rows.{map-up-length, getD-up}
 use Rattle.decoded.specs.Links.{after-top, after-under}

@@ -23,9 +23,9 @@ use Rattle.laws.specs.Words.SameDomains.{Listed}
 use Rattle.tables.specs.declared.Slot.{Slot}
 use Rattle.tables.specs.Tables.{Tables, noSlot}
 use Rattle.answers.specs.declared.Refusal.the-variants.{NoLocal}
-use Rattle.slots.specs.declared.SlotList.{SlotList}
-use Rattle.slots.specs.Lists.{sweepSlot, sweepFrom, sweep}
-use Rattle.slots.specs.Record.{padded}
+use Rattle.slot_list.specs.declared.SlotList.{SlotList}
+use Rattle.slots.specs.Sweep.{sweepSlot, sweepFrom, sweep}
+use Rattle.stored_slots.specs.Record.{padded}
 use Rattle.slots.specs.Capas.{isInvalidB, roomB, swept, withCapacity}
 use Rattle.domain.specs.Activate.{orRefused, reserve}
 use Rattle.decoded.specs.Tables.{capaSlot, freeSlot, slotFor, slotsFor, tablesOf}

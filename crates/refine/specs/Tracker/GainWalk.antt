@@ -24,7 +24,7 @@ use Rattle.tables.specs.Tables.{Tables}
 use Rattle.region.specs.declared.AccessRights.{AccessRights}
 use Rattle.region.specs.declared.Way.the-variants.{Add}
 use Rattle.region.specs.Turns.{onward, turn}
-use Rattle.region.specs.Links.{inserted}
+use Rattle.tracker_records.specs.Links.{inserted}
 use Rattle.decoded.specs.Tables.{recordFor, tablesOf}
 use Rattle.refine.specs.Agrees.{agrees-call}
 use Rattle.refine.specs.Tracker.Linked.{lastLink}

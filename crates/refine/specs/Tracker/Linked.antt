@@ -23,8 +23,9 @@ use Rattle.laws.specs.Tracker.Pools.{uses-append}
 use Rattle.tables.specs.declared.DomainHead.{DomainHead}
 use Rattle.tables.specs.declared.Region.{Region}
 use Rattle.tables.specs.Tables.{Tables, Arena, noRecord, headAt, recordAt, withDomains, withHead, withRecords, withRecord, withRecordPool}
-use Rattle.region.specs.Links as links
-use Rattle.region.specs.Links.{withNext}
+use Rattle.tracker_records.specs.Links as links
+use Rattle.tables.specs.Links.{slotTo}
+use Rattle.tracker_records.specs.Links.{withNext}
 use Rattle.decoded.specs.Rows.{getD-up}
 use Rattle.decoded.specs.Tables.{recordFor, headFor, recordIn, recordsFor, tablesOf}
 use Rattle.decoded.specs.Tracker.Trackers.{record-read}
@@ -56,7 +57,7 @@ ends : (b : List Record) → Ends b
 ends [] = empty refl
 ends (q ∷ b) = elim (ends b) [ empty e ↦ full [] q (ap (λ (l : List Record). q ∷ l) e) | full c r e ↦ full (q ∷ c) r (ap (λ (l : List Record). q ∷ l) e) ]
 
-pub slot-of : (i : ℕ) → links.slotTo (suc i) ≡ i
+pub slot-of : (i : ℕ) → slotTo (suc i) ≡ i
 slot-of i = omega arith
 
 -- ---- tables

@@ -19,8 +19,9 @@ use Rattle.region.specs.declared.AccessRights.{AccessRights}
 use Rattle.region.specs.declared.Cursor.{Cursor}
 use Rattle.region.specs.declared.Progress.the-variants.{Going}
 use Rattle.region.specs.declared.Way.the-variants.{Remove}
-use Rattle.region.specs.Links.{slotTo, withNext, split, freedRecord}
-use Rattle.region.specs.Counts.{changesB}
+use Rattle.tables.specs.Links.{slotTo}
+use Rattle.tracker_records.specs.Links.{withNext, split, freedRecord}
+use Rattle.tracker_records.specs.Counts.{changesB}
 use Rattle.region.specs.Turns.{Turn, to, over, onward, nextOf, droppedOf, cutStart, cutEnd, lowerTurn, removeAt, removeTurn, turn}
 use Rattle.decoded.specs.Tables.{recordFor, tablesOf}
 use Rattle.refine.specs.Tracker.Linked.{slot-of, lastLink}

@@ -23,7 +23,8 @@ use Rattle.region.specs.declared.AccessRights.{AccessRights}
 use Rattle.region.specs.declared.Cursor.{Cursor}
 use Rattle.region.specs.declared.Progress.the-variants.{Going}
 use Rattle.region.specs.declared.Way.the-variants.{Merge}
-use Rattle.region.specs.Links.{slotTo, freedRecord}
+use Rattle.tables.specs.Links.{slotTo}
+use Rattle.tracker_records.specs.Links.{freedRecord}
 use Rattle.region.specs.Turns.{to, over, onward, mergeAt, mergeTurn, turn}
 use Rattle.decoded.specs.Tables.{recordFor, tablesOf}
 use Rattle.refine.specs.Agrees.{bind-assoc}

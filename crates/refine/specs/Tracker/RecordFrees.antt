@@ -24,7 +24,7 @@ use Rattle.laws.specs.Keep.Tracked.{uses-set}
 use Rattle.tables.specs.Tables.{Tables, Arena, noRecord, withRecord, withRecordPool}
 use Rattle.arena.specs.Arena as arena
 use Rattle.pools.specs.Wiping.{slotFreed}
-use Rattle.region.specs.Links.{withNext, freedAnswer, freedRecord}
+use Rattle.tracker_records.specs.Links.{withNext, freedAnswer, freedRecord}
 use Rattle.decoded.specs.Tables.{recordFor, poolOf, tablesOf}
 use Rattle.refine.specs.Changes.{record-pool-changed}
 use Rattle.refine.specs.Arenas.Pools.{answerBy, poolFreed, answer-is, frees-is, freed-is}

@@ -32,8 +32,9 @@ use Rattle.arena.specs.Arena as arena
 use Rattle.answers.specs.declared.Answer.the-variants.{Refused}
 use Rattle.answers.specs.declared.Refusal.the-variants.{NoTracker}
 use Rattle.answers.specs.Answers.{Step, done, refused}
-use Rattle.region.specs.Links as links
-use Rattle.region.specs.Links.{linkTo, withNext, taken, inserted, split}
+use Rattle.tracker_records.specs.Links as links
+use Rattle.tables.specs.Links.{linkTo}
+use Rattle.tracker_records.specs.Links.{withNext, taken, inserted, split}
 use Rattle.decoded.specs.Tables.{recordFor, tablesOf}
 use Rattle.refine.specs.Changes.{record-pool-changed}
 use Rattle.refine.specs.Arenas.Pools.{given-is, given-first, allocated-first, first-inside}

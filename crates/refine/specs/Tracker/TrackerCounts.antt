@@ -6,14 +6,16 @@ use mathlib.Core.Option.{Option}
 use native.Mathlib.Omega.{arith}
 use lib.Dec.{eqb}
 use Rattle.rights.specs.Rights as rights
-use Rattle.rights.specs.Rights.{has, READ, WRITE, EXEC, SUPER, UNCACHEABLE}
-use Rattle.model.specs.Lists.{if_then_else_, oneIf}
+use Rattle.rights.specs.Rights.{has, READ, WRITE, EXEC, SUPER, UNCACHEABLE, countersOf}
+use Rattle.model.specs.Lists.{if_then_else_, oneIf, any}
 use Rattle.model.specs.State.{Counts, Record}
+use Rattle.model.specs.Fields.{Field, fields, get, passes, counter}
 use Rattle.model.specs.Layout.{link}
 use Rattle.model.specs.Tracker.{lower, crosses, changes, mergeable, withCounts}
 use Rattle.laws.specs.Stack.{one-at-most}
 use Rattle.words.specs.Cases.{pick, both}
-use Rattle.region.specs.Counts.{up, made, raised, lowered, crossesB, changesB, mergeableB}
+use Rattle.tables.specs.declared.Region.{Region}
+use Rattle.tracker_records.specs.Counts.{up, made, raised, lowered, crossesB, changesB, mergeableB}
 use Rattle.decoded.specs.Tables.{recordFor}
 use Rattle.refine.specs.Tracker.Walking.{leb-t}
 use Rattle.refine.specs.Tracker.GainSteps.{newRecord, raisedRecord}
@@ -28,77 +30,74 @@ count-one : (b : Bool) → rights.count b ≡ oneIf b
 count-one true = refl
 count-one false = refl
 
+-- ---- the counters of the rights word
+
+-- what the code adds in a field for a range with rights r
+abbrev added : Field → ℕ → ℕ
+added Field.Reach r = 1
+added Field.Read r = countersOf r .«read_count»
+added Field.Write r = countersOf r .«write_count»
+added Field.Exec r = countersOf r .«exec_count»
+added Field.Super r = countersOf r .«super_count»
+
+added-is : (f : Field) (r : ℕ) → added f r ≡ counter f r
+added-is Field.Reach r = refl
+added-is Field.Read r = count-one (has r READ)
+added-is Field.Write r = count-one (has r WRITE)
+added-is Field.Exec r = count-one (has r EXEC)
+added-is Field.Super r = count-one (has r SUPER)
+
+-- a row with n f in each field f, and the uncacheable count u
+abbrev row : ℕ → ℕ → (Field → ℕ) → ℕ → ℕ → Region
+row s e n u next = record { start = s; end = e; «ref_count» = n Field.Reach; «read_count» = n Field.Read; «write_count» = n Field.Write; «exec_count» = n Field.Exec; «super_count» = n Field.Super; «uncache_count» = u; next = next }
+
 -- ---- a new record
 
 pub made-is : (r s e i : ℕ) (f : Option ℕ) → made s e r (link f) ≡ recordFor (newRecord r s e i) f
-made-is r s e i f =
-    let a = count-one (has r READ) in
-    let b = count-one (has r WRITE) in
-    let c = count-one (has r EXEC) in
-    let d = count-one (has r SUPER) in
-    let u = count-one (has r UNCACHEABLE) in
-    λ t. record { start = s; end = e; «ref_count» = 1; «read_count» = a t; «write_count» = b t; «exec_count» = c t; «super_count» = d t; «uncache_count» = u t; next = link f }
+made-is r s e i f = λ t. row s e (λ c. added-is c r t) (count-one (has r UNCACHEABLE) t) (link f)
 
 -- ---- counts raised and lowered
 
 -- one more is a word
-pub record Raisable (k : Counts) : Type 0 where
-  pub reach : k .reach < 2 ^ 64 - 1
-  pub read : k .read < 2 ^ 64 - 1
-  pub write : k .write < 2 ^ 64 - 1
-  pub exec : k .exec < 2 ^ 64 - 1
-  pub super : k .super < 2 ^ 64 - 1
+abbrev pub Raisable : Counts → Type 0
+Raisable k = (f : Field) → get f k < 2 ^ 64 - 1
 
 up-by : (n k : ℕ) → n < 2 ^ 64 - 1 → k ≤ 1 → up n k ≡ n + k
 unfolding up
 up-by n k h l = rw (leb-t k (2 ^ 64 - 1 - n) (omega arith))
 
-up-right : (n : ℕ) (b : Bool) → n < 2 ^ 64 - 1 → up n (rights.count b) ≡ n + oneIf b
-up-right n b h = ap (up n) (count-one b) ∙ up-by n (oneIf b) h (one-at-most b)
-
-down-right : (n : ℕ) (b : Bool) → n - rights.count b ≡ n - oneIf b
-down-right n b = ap (λ (k : ℕ). n - k) (count-one b)
-
 module _ (r : ℕ) (q : Record) (f : Option ℕ) where
   pub raised-is : Raisable (q .counts) → raised r (recordFor q f) ≡ recordFor (raisedRecord r q) f
   raised-is h =
-      let a = up-by (q .counts .reach) 1 (h .reach) (omega arith) in
-      let b = up-right (q .counts .read) (has r READ) (h .read) in
-      let c = up-right (q .counts .write) (has r WRITE) (h .write) in
-      let d = up-right (q .counts .exec) (has r EXEC) (h .exec) in
-      let e = up-right (q .counts .super) (has r SUPER) (h .super) in
-      let u = q .counts .uncacheable in
-      λ t. record { start = q .start; end = q .end; «ref_count» = a t; «read_count» = b t; «write_count» = c t; «exec_count» = d t; «super_count» = e t; «uncache_count» = u; next = link f }
+      let more : (c : Field) → up (get c (q .counts)) (added c r) ≡ get c (q .counts) + counter c r = λ c. ap (up (get c (q .counts))) (added-is c r) ∙ up-by (get c (q .counts)) (counter c r) (h c) (one-at-most (passes c r)) in
+      λ t. row (q .start) (q .end) (λ c. more c t) (q .counts .uncacheable) (link f)
 
   pub lowered-is : lowered r (recordFor q f) ≡ recordFor (withCounts (lower r (q .counts)) q) f
-  lowered-is =
-      let b = down-right (q .counts .read) (has r READ) in
-      let c = down-right (q .counts .write) (has r WRITE) in
-      let d = down-right (q .counts .exec) (has r EXEC) in
-      let e = down-right (q .counts .super) (has r SUPER) in
-      let n = q .counts .reach - 1 in
-      let u = q .counts .uncacheable in
-      λ t. record { start = q .start; end = q .end; «ref_count» = n; «read_count» = b t; «write_count» = c t; «exec_count» = d t; «super_count» = e t; «uncache_count» = u; next = link f }
+  lowered-is = λ t. row (q .start) (q .end) (λ c. get c (q .counts) - added-is c r t) (q .counts .uncacheable) (link f)
 
 -- ---- a change, and neighbours that may be one record
 
 cross-is : (a b : ℕ) → crossesB a b ≡ crosses a b
 cross-is a b = pick-if (eqb a 0) (not (eqb b 0)) (eqb b 0)
 
+-- a test of the fields in the code's order
+any-is : (a b c d e : Bool) → (a || b || c || d || e) ≡ (a || (b || (c || (d || (e || false)))))
+any-is true b c d e = refl
+any-is false true c d e = refl
+any-is false false true d e = refl
+any-is false false false true e = refl
+any-is false false false false true = refl
+any-is false false false false false = refl
+
 pub changes-is : (q n : Record) (f g : Option ℕ) → changesB (recordFor q f) (recordFor n g) ≡ changes (q .counts) (n .counts)
 unfolding changesB
 changes-is q n f g =
-    let j = q .counts in
-    let k = n .counts in
-    let a = cross-is (j .reach) (k .reach) in
-    let b = cross-is (j .read) (k .read) in
-    let c = cross-is (j .write) (k .write) in
-    let d = cross-is (j .exec) (k .exec) in
-    let e = cross-is (j .super) (k .super) in
-    λ t. a t || b t || c t || d t || e t
+    let cross : Field → Bool = λ c. crossesB (get c (q .counts)) (get c (n .counts)) in
+    any-is (cross Field.Reach) (cross Field.Read) (cross Field.Write) (cross Field.Exec) (cross Field.Super)
+    ∙ (λ t. any (λ c. cross-is (get c (q .counts)) (get c (n .counts)) t) fields)
 
 -- the seven tests in the code's order and in the model's
-seven : (t a u b c d e : Bool) → both (both t (both a u)) (both (both b c) (both d e)) ≡ (t && (a && b && c && d && e && u))
+seven : (t a u b c d e : Bool) → both (both t (both a u)) (both (both b c) (both d e)) ≡ (t && ((a && (b && (c && (d && (e && true))))) && u))
 seven false a u b c d e = refl
 seven true false u b c d e = refl
 seven true true true false c d e = refl

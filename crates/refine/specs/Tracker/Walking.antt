@@ -30,7 +30,7 @@ use Rattle.region.specs.declared.AccessRights.{AccessRights}
 use Rattle.region.specs.declared.Cursor.{Cursor}
 use Rattle.region.specs.declared.Progress.the-variants.{Going, Over}
 use Rattle.region.specs.declared.Way.{Way}
-use Rattle.region.specs.Links.{withNext, firstLink, inserted, split, freedRecord}
+use Rattle.tracker_records.specs.Links.{withNext, firstLink, inserted, split, freedRecord}
 use Rattle.region.specs.Turns.{Turn, to, onward, turn, walk}
 use Rattle.decoded.specs.Tables.{recordFor, tablesOf}
 use Rattle.decoded.specs.Slots.Domains.{head-read}

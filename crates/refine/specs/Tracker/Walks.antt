@@ -20,7 +20,7 @@ use Rattle.region.specs.declared.AccessRights.{AccessRights}
 use Rattle.region.specs.declared.Cursor.{Cursor}
 use Rattle.region.specs.declared.Progress.the-variants.{Going}
 use Rattle.region.specs.declared.Way.{Way}
-use Rattle.region.specs.Links.{split}
+use Rattle.tracker_records.specs.Links.{split}
 use Rattle.region.specs.Turns.{to, over, onward, turn, walk}
 use Rattle.decoded.specs.Tables.{tablesOf}
 use Rattle.refine.specs.Agrees.{Agrees, agrees-step, agrees-call, bind-assoc}

@@ -24,12 +24,12 @@ use Rattle.laws.specs.Tree.Steps.{region-at, by-parent}
 use Rattle.words.specs.Cases.{pick}
 use Rattle.tables.specs.declared.RegionCapa.{RegionCapa}
 use Rattle.tables.specs.Tables.{Tables, noRegion, regionAt, withRegions, withRegion}
-use Rattle.region.specs.Links.{linkTo, slotTo}
+use Rattle.tables.specs.Links.{linkTo, slotTo}
 use Rattle.segment.specs.declared.Place.{Place}
 use Rattle.segment.specs.declared.Search.{Search}
 use Rattle.segment.specs.declared.Search.the-variants as search
 use Rattle.segment.specs.Children.{withNext, withChild, linkChild, insertChild, removeChild}
-use Rattle.segment.specs.Regions.{leaveParent}
+use Rattle.revocation.specs.Revoke.{leaveParent}
 use Rattle.decoded.specs.Links.{after-top, after-behind}
 use Rattle.decoded.specs.Tree.Regions.{region-read}
 use Rattle.decoded.specs.Tree.Children.{rowIn, child-added, child-removed, first-added, first-removed}

@@ -31,8 +31,9 @@ use Rattle.answers.specs.declared.Answer.{Answer}
 use Rattle.answers.specs.declared.Answer.the-variants.{Done, Refused}
 use Rattle.answers.specs.Answers.{Step, done, refused}
 use Rattle.region.specs.declared.AccessRights.{AccessRights}
-use Rattle.region.specs.Links.{freedAnswer}
-use Rattle.segment.specs.Regions.{capaFor, newRegion, freedRegion, leaveParent}
+use Rattle.tracker_records.specs.Links.{freedAnswer}
+use Rattle.segment.specs.Regions.{capaFor, newRegion, freedRegion}
+use Rattle.revocation.specs.Revoke.{leaveParent}
 use Rattle.decoded.specs.Links.{after-out}
 use Rattle.refine.specs.Arenas.Pools.{answerBy, given-first, given-none, first-unused, answer-is}
 use Rattle.refine.specs.Arenas.PoolSlots.{free-slot, region-made, region-freed, stateAfter}

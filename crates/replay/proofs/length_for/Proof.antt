@@ -1,6 +1,6 @@
 -- The sizes fit where their total is asked.
 use mathlib.Core.Path.{sym, _∙_}
-use Rattle.tables.specs.Limits.{limits-true}
+use Rattle.sizes.specs.Limits.{limits-true}
 use borrow.Author.Needs.{needs}
 use Rattle.replay.proofs.length_for.Statement.{statement}
 use Rattle.replay.proofs.length_for.Tie as tie

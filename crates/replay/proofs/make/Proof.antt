@@ -1,6 +1,6 @@
 -- Made where the sizes fit, else nothing.
 use mathlib.Core.Path.{sym, _∙_}
-use Rattle.tables.specs.Limits.{limits-true}
+use Rattle.sizes.specs.Limits.{limits-true}
 use borrow.Author.Needs.{needs}
 use Rattle.replay.proofs.make.Statement.{statement}
 use Rattle.replay.proofs.make.Tie as tie

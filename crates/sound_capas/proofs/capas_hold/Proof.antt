@@ -1,7 +1,7 @@
 -- The marks are lent, as many as there are regions and domains.
 use Prim.Native.Nat.{_+_}
 use Rattle.sound_capas.specs.Steps.{sizes-seen, lent-long, lent-clear, lent-same, rows-fit, marks-fit, capas-are}
-use Rattle.tables.specs.declared.sizes.Sizes.{Sizes}
+use Rattle.sizes.specs.declared.Sizes.{Sizes}
 use borrow.Author.Needs.{needs}
 use mathlib.Core.Path.{ap, _∙_}
 use native.Mathlib.Omega.{arith}

@@ -1,6 +1,6 @@
 -- The marks are lent, as many as there are domains.
 use Rattle.sound_capas.specs.Steps.{sizes-seen, lent-long, lent-clear, lent-same, marks-fit, queue-is}
-use Rattle.tables.specs.declared.sizes.Sizes.{Sizes}
+use Rattle.sizes.specs.declared.Sizes.{Sizes}
 use borrow.Author.Needs.{needs}
 use mathlib.Core.Path.{ap, _∙_}
 use native.Mathlib.Omega.{arith}

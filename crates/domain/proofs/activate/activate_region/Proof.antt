@@ -1,6 +1,6 @@
 -- One step after the other.
 use Rattle.domain.specs.Activate.{activate}
-use Rattle.domain.specs.Then.{on-done, on-refused}
+use Rattle.answers.specs.Then.{on-done, on-refused}
 use borrow.Author.Needs.{needs}
 use Rattle.domain.proofs.activate.activate_region.Statement.{statement}
 use Rattle.domain.proofs.activate.activate_region.Tie as tie

@@ -1,6 +1,6 @@
 -- By the test.
 use mathlib.Core.Path.{refl}
-use Rattle.domain.specs.Then.{stays}
+use Rattle.answers.specs.Then.{stays}
 use borrow.Author.Tests.{eq-eqb, ne-eqb}
 use borrow.Author.Needs.{needs}
 use Rattle.domain.proofs.activate.notify_if.Statement.{statement}

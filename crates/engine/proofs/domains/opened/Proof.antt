@@ -6,7 +6,7 @@ use Rattle.engine.proofs.domains.opened.Statement.{statement}
 use Rattle.engine.proofs.domains.opened.Tie as tie
 
 domain-generation-requires : tie.Need-domain-generation-requires
-domain-generation-requires c κs = search needs
+domain-generation-requires c κs = (c .before .before .before .pre) (c .if1 .taken)
 
 returns : tie.Need-returns
 unfolding openedFor

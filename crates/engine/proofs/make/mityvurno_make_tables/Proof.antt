@@ -3,7 +3,7 @@ use mathlib.Core.Path.{sym, _∙_}
 use denote.Ref.{now}
 use borrow.Author.Tests.{not-false, eqb-true}
 use Rattle.words.specs.Cases.{both-true}
-use Rattle.tables.specs.Limits.{limits-true}
+use Rattle.sizes.specs.Limits.{limits-true}
 use Rattle.frame.specs.Replies.{sizes}
 use Rattle.engine.specs.Made.{sizes-refused, lengths-refused, tables-made}
 use borrow.Author.Needs.{needs}

@@ -5,7 +5,7 @@ use Rattle.model.specs.Perform.{Call}
 use Rattle.frame.specs.Replies.{updateReplyOf}
 use Rattle.frame.specs.Finish.{each-word, kept-clear}
 use Rattle.frame.specs.Law.{memory-returns, admitted-sized}
-use Rattle.engine.specs.Others.{pop-returns, no-make}
+use Rattle.engine.specs.Popping.{pop-returns}
 use borrow.Author.Needs.{needs}
 use Rattle.engine.proofs.queue.mityvurno_pop.Statement.{statement}
 use Rattle.engine.proofs.queue.mityvurno_pop.Tie as tie
@@ -32,7 +32,7 @@ same-length-4 : tie.Need-same-length-4
 same-length-4 c = search needs
 
 returns-2 : tie.Need-returns-2
-returns-2 c = memory-returns updateReplyOf _ _ Call.Pop (no-make Call.Pop tt) _ ((c .before .before .before .admits .ensures .0)) ((c .if1 .left)) _ _ refl ((c .before .before .before .admits .ensures .1) ∙ sym (kept-clear _ _ (sym ((c .before .before .before .admits .ensures .0)) ∙ (c .if1 .left))))
+returns-2 c = memory-returns updateReplyOf _ _ Call.Pop tt _ ((c .before .before .before .admits .ensures .0)) ((c .if1 .left)) _ _ refl ((c .before .before .before .admits .ensures .1) ∙ sym (kept-clear _ _ (sym ((c .before .before .before .admits .ensures .0)) ∙ (c .if1 .left))))
 
 pub mityvurno-pop-spec : {M : Type 1} → statement M
 mityvurno-pop-spec =

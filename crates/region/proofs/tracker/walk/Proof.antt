@@ -1,7 +1,8 @@
 -- What is left of the walk from here is the whole walk from the start.
 use Rattle.region.proofs.Steps.{walk-start, walk-end, walk-going, walk-over}
 use Rattle.region.specs.Turns.{walk}
-use Rattle.tables.specs.View.{sizesOf, view, Sized}
+use Rattle.sizes.specs.Sizes.{sizesOf}
+use Rattle.tables.specs.View.{view, Sized}
 use borrow.Author.Needs.{needs}
 use lib.ListN.{length}
 use mathlib.Core.Path.{_≡_, refl, _∙_}

@@ -1,12 +1,14 @@
--- By the kind; the kinds that are left lie in the range that the next function takes.
-use Rattle.script_records.specs.Script.{kindOf}
-use Rattle.running.specs.Kinds.{returns-at}
+-- The call that the record names, run.
+use Rattle.running.specs.Named.{names-returns}
 use borrow.Author.Needs.{needs}
 use Rattle.running.proofs.perform.run.Statement.{statement}
 use Rattle.running.proofs.perform.run.Tie as tie
 
-run-open-requires : tie.Need-run-open-requires
-run-open-requires c κs = search needs
+call-of-requires : tie.Need-call-of-requires
+call-of-requires c κs = search needs
+
+run-requires : tie.Need-run-requires
+run-requires c κs = search needs
 
 same-length : tie.Need-same-length
 same-length c = search needs
@@ -15,46 +17,7 @@ same-length-2 : tie.Need-same-length-2
 same-length-2 c = search needs
 
 returns : tie.Need-returns
-unfolding kindOf
-returns c = returns-at 1 (c .before .before .before .before .before .before .before .before .before .before .before .args .r) (c .before .before .before .before .before .before .before .if1 .taken) (c .before .before .before .before .run-open .ensures)
-
-run-region-requires : tie.Need-run-region-requires
-run-region-requires c κs = search needs
-
-same-length-3 : tie.Need-same-length-3
-same-length-3 c = search needs
-
-same-length-4 : tie.Need-same-length-4
-same-length-4 c = search needs
-
-returns-2 : tie.Need-returns-2
-returns-2 c = search needs
-
-run-capa-requires : tie.Need-run-capa-requires
-run-capa-requires c κs = search needs
-
-same-length-5 : tie.Need-same-length-5
-same-length-5 c = search needs
-
-same-length-6 : tie.Need-same-length-6
-same-length-6 c = search needs
-
-returns-3 : tie.Need-returns-3
-returns-3 c = search needs
+returns c = names-returns (c .before .before .before .before .before .before .before .before .before .before .args .r) _ (c .before .before .before .before .before .call-of .ensures) _ _ _ _ _ (c .before .before .before .before .run .ensures)
 
 pub run-spec : {M : Type 1} → statement M
-run-spec =
-    tie.close
-    (tie.spec
-    run-open-requires
-    same-length
-    same-length-2
-    returns
-    run-region-requires
-    same-length-3
-    same-length-4
-    returns-2
-    run-capa-requires
-    same-length-5
-    same-length-6
-    returns-3)
+run-spec = tie.close (tie.spec call-of-requires run-requires same-length same-length-2 returns)

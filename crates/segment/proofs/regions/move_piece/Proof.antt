@@ -1,7 +1,7 @@
 -- One step after the other, where the piece is not empty.
 use mathlib.Core.Path.{refl}
 use borrow.Author.Tests.{lt-ltb, le-ltb}
-use Rattle.domain.specs.Then.{stays, on-done, on-refused}
+use Rattle.answers.specs.Then.{stays, on-done, on-refused}
 use Rattle.segment.specs.Regions.{movePiece}
 use borrow.Author.Needs.{needs}
 use Rattle.segment.proofs.regions.move_piece.Statement.{statement}

@@ -2,7 +2,7 @@
 use lib.ListN.{length}
 use mathlib.Core.Path.{_≡_, refl, _∙_}
 use Rattle.tables.specs.View.{view, Sized}
-use Rattle.domain.specs.Then.{same-step}
+use Rattle.answers.specs.Then.{same-step}
 use Rattle.segment.specs.Regions.{sendFrom}
 use Rattle.segment.specs.Walks.{send-out, send-last, send-skip, send-on, send-refused}
 use borrow.Author.Needs.{needs}

@@ -1,6 +1,6 @@
 -- The region with its new owner, then its ranges.
 use native.Mathlib.Numerals.{add-one}
-use Rattle.tables.specs.View.{sizesOf}
+use Rattle.sizes.specs.Sizes.{sizesOf}
 use Rattle.segment.specs.Regions.{sendRegion}
 use Rattle.segment.specs.Walks.{regions-read}
 use borrow.Author.Needs.{needs}

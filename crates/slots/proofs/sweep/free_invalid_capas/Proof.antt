@@ -1,10 +1,10 @@
 -- The slots from i on are left to sweep.
 use Prim.Native.Nat.{_-_, _≤_}
-use Rattle.slots.proofs.Arrays.{length-mapped}
+use Rattle.slot_list.specs.Arrays.{length-mapped}
 use Rattle.slots.specs.Capas.{isInvalidB}
-use Rattle.slots.specs.Lists.{sweepSlot, sweepFrom, sweep}
+use Rattle.slots.specs.Sweep.{sweepSlot, sweepFrom, sweep}
 use Rattle.slots.specs.Steps.{sweep-turn, sweep-end, sweep-freed, sweep-left}
-use Rattle.slots.specs.declared.SlotList.{SlotList}
+use Rattle.slot_list.specs.declared.SlotList.{SlotList}
 use Rattle.tables.specs.View.{view}
 use borrow.Author.Needs.{needs}
 use lib.ListN.{length}

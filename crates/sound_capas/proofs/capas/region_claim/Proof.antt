@@ -1,7 +1,7 @@
 -- Each value is what its definition says.
 use Rattle.sound_capas.specs.Capas.{regionClaim}
 use Rattle.sound_capas.specs.Steps.{sizes-seen}
-use Rattle.tables.specs.declared.sizes.Sizes.{Sizes}
+use Rattle.sizes.specs.declared.Sizes.{Sizes}
 use borrow.Author.Needs.{needs}
 use mathlib.Core.Path.{ap, _∙_}
 use native.Mathlib.Omega.{arith}

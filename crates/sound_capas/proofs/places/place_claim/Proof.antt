@@ -1,7 +1,7 @@
 -- A place in the ring is queued or clear.
 use Prim.Native.Nat.{_+_}
 use Rattle.sound_capas.specs.Steps.{domains-seen, updates-seen, place-inside, place-outside, place-queued, place-clear}
-use Rattle.tables.specs.View.{sizesOf}
+use Rattle.sizes.specs.Sizes.{sizesOf}
 use Rattle.tables.specs.View.{view}
 use borrow.Author.Needs.{needs}
 use mathlib.Core.Path.{refl, ap, _∙_}

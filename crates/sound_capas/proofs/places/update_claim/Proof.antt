@@ -1,7 +1,7 @@
 -- By the kind.
 use Rattle.sound_capas.specs.Places.{updateClaim}
 use Rattle.sound_capas.specs.Steps.{domains-seen}
-use Rattle.tables.specs.View.{sizesOf}
+use Rattle.sizes.specs.Sizes.{sizesOf}
 use borrow.Author.Needs.{needs}
 use borrow.Author.Tests.{eq-eqb, ne-eqb}
 use mathlib.Core.Path.{_∙_}

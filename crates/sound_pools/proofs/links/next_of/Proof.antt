@@ -1,7 +1,8 @@
 -- Each stack by its own words.
 use mathlib.Core.Path.{ap, _∙_}
 use Rattle.tables.specs.declared.Region.{Region}
-use Rattle.tables.specs.View.{view, ofParts, sizesOf}
+use Rattle.tables.specs.View.{view, ofParts}
+use Rattle.sizes.specs.Sizes.{sizesOf}
 use Rattle.sound_pools.specs.Hold.{nextOf}
 use borrow.Author.Needs.{needs}
 use Rattle.sound_pools.proofs.links.next_of.Statement.{statement}

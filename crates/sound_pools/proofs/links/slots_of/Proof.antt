@@ -1,5 +1,6 @@
 -- The size that the header has.
-use Rattle.tables.specs.View.{view, ofParts, sizesOf}
+use Rattle.tables.specs.View.{view, ofParts}
+use Rattle.sizes.specs.Sizes.{sizesOf}
 use borrow.Author.Needs.{needs}
 use Rattle.sound_pools.proofs.links.slots_of.Statement.{statement}
 use Rattle.sound_pools.proofs.links.slots_of.Tie as tie

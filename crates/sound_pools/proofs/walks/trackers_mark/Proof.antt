@@ -1,7 +1,8 @@
 -- The trackers from d on are left to walk.
 use mathlib.Core.Path.{_≡_, refl, _∙_}
 use native.Mathlib.Omega.{arith}
-use Rattle.tables.specs.View.{view, ofParts, sizesOf}
+use Rattle.tables.specs.View.{view, ofParts}
+use Rattle.sizes.specs.Sizes.{sizesOf}
 use borrow.Author.Needs.{needs}
 use Rattle.sound_pools.specs.Answers.{tracker-skip, tracker-go, tracker-stop}
 use Prim.Native.Nat.{_-_, _≤_}

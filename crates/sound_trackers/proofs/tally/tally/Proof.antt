@@ -2,7 +2,8 @@
 use Prim.Native.Nat.{_≤_, _-_}
 use Rattle.sound_trackers.specs.Laws.{tally-none, tally-more, tally-all, tally-fits, share-fits}
 use Rattle.sound_trackers.specs.Tally.{tallyTo}
-use Rattle.tables.specs.View.{view, sizesOf}
+use Rattle.tables.specs.View.{view}
+use Rattle.sizes.specs.Sizes.{sizesOf}
 use borrow.Author.Needs.{needs}
 use mathlib.Core.Path.{_≡_, _∙_}
 use native.Mathlib.Omega.{arith}

@@ -1,6 +1,6 @@
 -- A place in domain i, or the end of the words.
 use Rattle.tables.specs.Domains.{domain-place-low, slot-place, no-slot-place}
-use Rattle.tables.specs.View.{sizesOf}
+use Rattle.sizes.specs.Sizes.{sizesOf}
 use borrow.Author.Needs.{needs}
 use native.Mathlib.Omega.{arith}
 use Rattle.tables.proofs.domains.slot_at.Statement.{statement}

@@ -1,0 +1,37 @@
+-- **Make**: an empty book and empty tables match.
+use mathlib.Core.Path.{_≡_, refl}
+use Prim.Native.Nat.{ℕ, zero, suc}
+use mathlib.Core.Bool.{true}
+use mathlib.Core.Option.{none}
+use native.Mathlib.Omega.{arith}
+use lib.ListN.{replicate}
+use Rattle.model.specs.Lists.{isSome, slotOf}
+use Rattle.model.specs.State.{State, Sizes, Region}
+use Rattle.model.specs.Making.{makeTables}
+use Rattle.model.specs.Perform.{makeAnew}
+use Rattle.laws.specs.Accepted.{All, accepted, bind, and-then}
+use Rattle.laws.specs.Cases.{true-is}
+use Rattle.book.specs.Book.{Book, blank}
+use Rattle.book.specs.Matches.{both-fresh, notOpened, Matches}
+
+no-slot : (A : Type 0) (n i : ℕ) → isSome (slotOf {A = A} (replicate n none) i) ≡ true → ⊥
+no-slot A zero i h = true-is h
+no-slot A (suc n) zero h = true-is h
+no-slot A (suc n) (suc i) h = no-slot A n i h
+
+pub make-match : (z : Sizes) → All (λ s. Matches (blank z) s) (makeTables z)
+unfolding makeTables
+make-match z =
+    and-then _ (accepted (record {
+      at = λ k. record { slot = 0; gen = 0 };
+      place = λ i. 0;
+      fits = record {
+        sizes = refl;
+        regions = record { aliveIsLive = λ k h. absurd (omega arith); deadIsOlder = λ k h e. absurd (omega arith); stored = λ k h e. absurd (omega arith); back = λ i h. absurd (no-slot Region (z .regions) i h); one = λ k h e. absurd (omega arith); parentEarlier = λ k q h e. absurd (omega arith); parentLives = λ k q h d e. absurd (omega arith); rootsLive = λ k h e. absurd (omega arith) };
+        lists = both-fresh (z .domains) none none notOpened;
+      };
+    }))
+
+pub make-anew-match : (b : Book) (s : State) (z : Sizes) → All (λ t. Matches (blank z) t) (makeAnew z s)
+unfolding makeAnew
+make-anew-match b s z = bind (make-match z) (λ t g. and-then _ (accepted g))

@@ -1,0 +1,238 @@
+-- Revoking a live region: it and all below it die, in the book and in the tables.
+use mathlib.Core.Path.{_≡_, refl, sym, ap, _∙_}
+use Prim.Native.Nat.{ℕ, zero, suc, _+_, _≤_, _<_}
+use mathlib.Core.Bool.{Bool, true, false, not, _&&_}
+use mathlib.Core.Option.{Option, none, some}
+use mathlib.Core.List.{List}
+use native.Mathlib.Omega.{arith}
+use lib.Dec.{eqb, eqb→eq}
+use lib.ListN.{length, getD}
+use Rattle.model.specs.Lists.{if_then_else_, isSome, slotOf, orElse, In}
+use Rattle.model.specs.State.{State, Handle, Domain, Region, parentOf, noneRegion, regionAt}
+use Rattle.model.specs.Pool.{isLive, handleOf}
+use Rattle.model.specs.Tree.{isRootKind}
+use Rattle.model.specs.Calls.{revokeUnlessRoot}
+use Rattle.model.specs.Sound.{Sound}
+use Rattle.laws.specs.Accepted.{All, checked, weaken, both}
+use Rattle.laws.specs.Cases.{true-is, eqb-t, holds, fails, test}
+use Rattle.laws.specs.Tree.Slots.{none-some, some-same}
+use Rattle.laws.specs.Tree.Change.{bare, same-bare}
+use Rattle.laws.specs.Tree.Below.{Below, Revoked}
+use Rattle.laws.specs.Keep.Aside.{Aside}
+use Rattle.laws.specs.Keep.Coupled.{sound-good}
+use Rattle.laws.specs.Keep.Revoke.{revoke-good}
+use Rattle.book.specs.Book.{Book, Noted, Slots, noted, isUnder, mostAbove, dying, killed}
+use Rattle.book.specs.Demand3.{SameRegion, kindBy}
+use Rattle.book.specs.Tests.{and-left, and-right, or-left, or-right, or-else, yes-no, some-is, lives-below}
+use Rattle.book.specs.Matches.{Both, nil, cons, SameList, AtPlace, LiveDomain, Regions, MatchesAt, list-map}
+use Rattle.book.specs.NewRegion.{old-is-dead}
+use Rattle.book.specs.Revoke.Generations.{GensAfter, revoke-gens}
+use Rattle.book.specs.Revoke.Dying.{parent-at, parent-of, not-root, diesIf, dying-length, noted-dying, dies-if-alive, lists-untracked, some-untracked}
+
+most-above : (rs : List Noted) → length rs ≤ mostAbove rs
+most-above rs = omega arith
+
+-- ---- the regions
+
+module _ (b : Book) (s t : State) (at : ℕ → Handle) (place : ℕ → ℕ) (m : MatchesAt b s at place) (k : ℕ) (below : k < length (b .regions)) (lives : noted (b .regions) k .alive ≡ true) (p₀ : ℕ) (child : parentOf (noted (b .regions) k .kind) ≡ some p₀) (others : Aside s t) (gens : GensAfter s t) (done : Revoked (s .regions) (at k .slot) (t .regions)) where
+  abbrev rs : List Noted
+  rs = b .regions
+
+  abbrev slot : ℕ → ℕ
+  slot j = at j .slot
+
+  abbrev N : ℕ
+  N = length (b .regions)
+
+  abbrev under : ℕ → Bool
+  under j = isUnder (b .regions) (mostAbove (b .regions)) k j
+
+  abbrev rs′ : List Noted
+  rs′ = dying (isUnder (b .regions) (mostAbove (b .regions)) k) 0 (b .regions)
+
+  low : (j : ℕ) → noted rs j .alive ≡ true → j < N
+  low j l = lives-below (b .regions) j l
+
+  live-at : (j : ℕ) → noted rs j .alive ≡ true → isLive (s .regionPool) (s .regions) (at j) ≡ true
+  live-at j l = sym (m .regions .aliveIsLive j (low j l)) ∙ l
+
+  in-table : (j : ℕ) → noted rs j .alive ≡ true → isSome (slotOf (s .regions) (slot j)) ≡ true
+  in-table j l = and-left (isSome (slotOf (s .regions) (slot j))) _ (live-at j l)
+
+  gen-at : (j : ℕ) → noted rs j .alive ≡ true → getD (s .regionPool .gens) (slot j) 0 ≡ at j .gen
+  gen-at j l = eqb→eq _ _ (true-is (and-right (isSome (slotOf (s .regions) (slot j))) _ (live-at j l)))
+
+  there : (j : ℕ) → noted rs j .alive ≡ true → In (s .regions) (slot j) (regionAt s (slot j))
+  there j l = some-is (slotOf (s .regions) (slot j)) noneRegion (in-table j l)
+
+  kind-at : (j : ℕ) → noted rs j .alive ≡ true → regionAt s (slot j) .kind ≡ kindBy slot (noted rs j .kind)
+  kind-at j l = m .regions .stored j (low j l) l .kind
+
+  -- under k in the book, below its slot in the tables
+  under-below : (n j : ℕ) → noted rs j .alive ≡ true → isUnder rs n k j ≡ true → Below (s .regions) (slot k) (slot j)
+  under-below zero j l u = Below.here (ap slot (eqb→eq j k (true-is u)))
+  under-below (suc n) j l u = elim (test (eqb j k)) [
+    | holds e ↦ Below.here (ap slot (eqb→eq j k (true-is e)))
+    | fails e ↦ up (parentOf (noted (b .regions) j .kind)) refl (or-else (eqb j k) _ u e) (λ p a v. under-below n p a v)
+  ]
+    where
+      up : (o : Option ℕ) → parentOf (noted (b .regions) j .kind) ≡ o → elim o [ none ↦ false | some p ↦ isUnder (b .regions) n k p ] ≡ true → ((p : ℕ) → noted (b .regions) p .alive ≡ true → isUnder (b .regions) n k p ≡ true → Below (s .regions) (slot k) (slot p)) → Below (s .regions) (slot k) (slot j)
+      up none e v ih = absurd (true-is v)
+      up (some p) e v ih = Below.step (slot p) (regionAt s (slot j)) (there j l) (ap parentOf (kind-at j l) ∙ parent-at slot (noted (b .regions) j .kind) p e) (ih p (m .regions .parentLives j p (low j l) l e) v)
+
+  same-place : (j : ℕ) → noted rs j .alive ≡ true → slot j ≡ slot k → j ≡ k
+  same-place j l e = sym (m .regions .one j (low j l) l) ∙ ap place e ∙ m .regions .one k below lives
+
+  below-under : (i : ℕ) → Below (s .regions) (slot k) i → (n j : ℕ) → j ≤ n → noted rs j .alive ≡ true → slot j ≡ i → isUnder rs n k j ≡ true
+  below-under i (Below.here o) zero j u l e = eqb-t j k (same-place j l (e ∙ o))
+  below-under i (Below.here o) (suc n) j u l e = or-left (eqb j k) _ (eqb-t j k (same-place j l (e ∙ o)))
+  below-under i (Below.step p x y q z) n j u l e =
+      let w : x ≡ regionAt s (slot j) = some-same (slotOf (s .regions) i) x (regionAt s (slot j)) y (ap (slotOf (s .regions)) (sym e) ∙ there j l) in
+      let r = parent-of slot (noted (b .regions) j .kind) p (ap parentOf (sym (kind-at j l)) ∙ ap (λ (v : Region). parentOf (v .kind)) (sym w) ∙ q) in
+      let v = m .regions .parentEarlier j (r .0) (low j l) (r .1) in
+      go n u (r .0) (r .1) v (λ n′ a. below-under p z n′ (r .0) a (m .regions .parentLives j (r .0) (low j l) l (r .1)) (r .2))
+    where
+      go : (n : ℕ) → j ≤ n → (q : ℕ) → parentOf (noted (b .regions) j .kind) ≡ some q → q < j → ((n : ℕ) → q ≤ n → isUnder (b .regions) n k q ≡ true) → isUnder (b .regions) n k j ≡ true
+      go zero a q f v ih = absurd (omega arith)
+      go (suc n) a q f v ih = or-right (eqb j k) _ (ap (λ o. elim o [ none ↦ false | some p ↦ isUnder (b .regions) n k p ]) f ∙ ih n (omega arith))
+
+  to-below : (j : ℕ) → noted rs j .alive ≡ true → under j ≡ true → Below (s .regions) (slot k) (slot j)
+  to-below j l u = under-below (mostAbove (b .regions)) j l u
+
+  to-under : (j : ℕ) → noted rs j .alive ≡ true → Below (s .regions) (slot k) (slot j) → under j ≡ true
+  to-under j l z = below-under (slot j) z (mostAbove (b .regions)) j (omega (arith, low j l, most-above (b .regions))) l refl
+
+  -- a live region that is not under k is left, but for its child list
+  left-bare : (j : ℕ) → noted rs j .alive ≡ true → under j ≡ false → bare (slotOf (t .regions) (slot j)) ≡ bare (slotOf (s .regions) (slot j))
+  left-bare j l u = done .kept (slot j) (λ z. yes-no _ (to-under j l z) u)
+
+  left-some : (j : ℕ) → noted rs j .alive ≡ true → under j ≡ false → isSome (slotOf (t .regions) (slot j)) ≡ true
+  left-some j l u = same-bare isSome (λ r. refl) (slotOf (t .regions) (slot j)) (slotOf (s .regions) (slot j)) (left-bare j l u) ∙ in-table j l
+
+  gone-none : (j : ℕ) → noted rs j .alive ≡ true → under j ≡ true → isSome (slotOf (t .regions) (slot j)) ≡ false
+  gone-none j l u = ap isSome (done .gone (slot j) (to-below j l u))
+
+  noted′ : (j : ℕ) → j < N → noted rs′ j ≡ diesIf (under j) (noted rs j)
+  noted′ j u = noted-dying (isUnder (b .regions) (mostAbove (b .regions)) k) 0 (b .regions) j u ∙ ap (λ c. diesIf (under c) (noted (b .regions) j)) (let z : 0 + j ≡ j = omega arith in z)
+
+  size′ : length rs′ ≡ N
+  size′ = dying-length (isUnder (b .regions) (mostAbove (b .regions)) k) 0 (b .regions)
+
+  alive′ : (j : ℕ) → j < N → noted rs′ j .alive ≡ true → (under j ≡ false) × (noted rs j .alive ≡ true)
+  alive′ j u h = dies-if-alive (under j) (noted (b .regions) j .alive) (sym (ap (λ (r : Noted). r .alive) (noted′ j u)) ∙ h)
+
+  kind′ : (j : ℕ) → j < N → noted rs′ j .kind ≡ noted rs j .kind
+  kind′ j u = ap (λ (r : Noted). r .kind) (noted′ j u)
+
+  old-gen : (j : ℕ) → j < N → noted rs j .alive ≡ false → at j .gen < getD (t .regionPool .gens) (slot j) 0
+  old-gen j u d = omega (arith, m .regions .deadIsOlder j u d, gens .rise (slot j))
+
+  like-alive : (j : ℕ) → j < N → (if under j then false else noted rs j .alive) ≡ isLive (t .regionPool) (t .regions) (at j)
+  like-alive j u = elim (test (noted (b .regions) j .alive)) [
+    | fails d ↦ dies (under j) _ d ∙ sym (old-is-dead (t .regionPool) (t .regions) (at j) (old-gen j u d))
+    | holds l ↦ elim (test (under j)) [
+      | holds c ↦ ap (λ x. if x then false else noted (b .regions) j .alive) c ∙ sym (ap (λ x. x && eqb (getD (t .regionPool .gens) (slot j) 0) (at j .gen)) (gone-none j l c))
+      | fails c ↦ ap (λ x. if x then false else noted (b .regions) j .alive) c ∙ l ∙ sym (ap (λ x. x && eqb (getD (t .regionPool .gens) (slot j) 0) (at j .gen)) (left-some j l c) ∙ eqb-t _ _ (gens .kept (slot j) (left-some j l c) ∙ gen-at j l))
+    ]
+  ]
+    where
+      dies : (c l : Bool) → l ≡ false → (if c then false else l) ≡ false
+      dies true l d = refl
+      dies false l d = d
+
+  deadIsOlder′ : (j : ℕ) → j < N → (if under j then false else noted rs j .alive) ≡ false → at j .gen < getD (t .regionPool .gens) (slot j) 0
+  deadIsOlder′ j u h = elim (test (noted (b .regions) j .alive)) [
+    | fails d ↦ old-gen j u d
+    | holds l ↦ elim (test (under j)) [
+      | holds c ↦ omega (arith, gens .freed (slot j) (in-table j l) (gone-none j l c), gen-at j l)
+      | fails c ↦ absurd (yes-no _ (ap (λ x. if x then false else noted (b .regions) j .alive) c ∙ l) h)
+    ]
+  ]
+
+  same-bare-region : (f : ℕ → ℕ) (r r′ : Noted) (x y : Option Region) → bare y ≡ bare x → r′ ≡ diesIf false r → SameRegion f r (orElse x noneRegion) → SameRegion f r′ (orElse y noneRegion)
+  same-bare-region f r r′ x y e d h = record {
+    kind = same-bare (λ o. orElse o noneRegion .kind) (λ g. refl) y x e ∙ h .kind ∙ ap (λ (n : Noted). kindBy f (n .kind)) (sym d);
+    owner = same-bare (λ o. orElse o noneRegion .owner) (λ g. refl) y x e ∙ h .owner ∙ ap (λ (n : Noted). n .owner) (sym d);
+    start = same-bare (λ o. orElse o noneRegion .start) (λ g. refl) y x e ∙ h .start ∙ ap (λ (n : Noted). n .start) (sym d);
+    end = same-bare (λ o. orElse o noneRegion .end) (λ g. refl) y x e ∙ h .end ∙ ap (λ (n : Noted). n .end) (sym d);
+    rights = same-bare (λ o. orElse o noneRegion .rights) (λ g. refl) y x e ∙ h .rights ∙ ap (λ (n : Noted). n .rights) (sym d);
+  }
+
+  was-some : (i : ℕ) → isSome (slotOf (t .regions) i) ≡ true → isSome (slotOf (s .regions) i) ≡ true
+  was-some i h = sym (same-bare isSome (λ r. refl) (slotOf (t .regions) i) (slotOf (s .regions) i) (done .left i (regionAt t i) (some-is (slotOf (t .regions) i) noneRegion h))) ∙ h
+
+  -- a root is under none but itself, and k is none
+  root-not-under : (j : ℕ) → j < N → parentOf (noted rs j .kind) ≡ none → under j ≡ false
+  root-not-under j u e = elim (test (under j)) [
+    | fails c ↦ c
+    | holds c ↦ absurd (no (slot j) (to-below j (m .regions .rootsLive j u e) c) refl)
+  ]
+    where
+      no : (i : ℕ) → Below (s .regions) (slot k) i → slot j ≡ i → ⊥
+      no i (Below.here o) f = none-some (parentOf (noted (b .regions) k .kind)) p₀ (ap (λ c. parentOf (noted (b .regions) c .kind)) (sym (same-place j (m .regions .rootsLive j u e) (f ∙ o))) ∙ e) child
+      no i (Below.step p x y q z) f =
+          let l = m .regions .rootsLive j u e in
+          let w : x ≡ regionAt s (slot j) = some-same (slotOf (s .regions) i) x (regionAt s (slot j)) y (ap (slotOf (s .regions)) (sym f) ∙ there j l) in
+          let r = parent-of slot (noted (b .regions) j .kind) p (ap parentOf (sym (kind-at j l)) ∙ ap (λ (v : Region). parentOf (v .kind)) (sym w) ∙ q) in
+          none-some (parentOf (noted (b .regions) j .kind)) (r .0) e (r .1)
+
+  parent-not-under : (j q : ℕ) → noted rs j .alive ≡ true → under j ≡ false → parentOf (noted rs j .kind) ≡ some q → noted rs q .alive ≡ true → under q ≡ false
+  parent-not-under j q l c e a = elim (test (under q)) [
+    | fails d ↦ d
+    | holds d ↦ absurd (yes-no _ (to-under j l (Below.step (slot q) (regionAt s (slot j)) (there j l) (ap parentOf (kind-at j l) ∙ parent-at slot (noted (b .regions) j .kind) q e) (to-below q a d))) c)
+  ]
+
+  still-alive : (j : ℕ) → j < N → under j ≡ false → noted rs j .alive ≡ true → noted rs′ j .alive ≡ true
+  still-alive j u c l = ap (λ (r : Noted). r .alive) (noted′ j u) ∙ ap (λ x. if x then false else noted (b .regions) j .alive) c ∙ l
+
+  killed-regions : Regions rs′ (t .regionPool) (t .regions) at place
+  killed-regions = record {
+    aliveIsLive = λ j v. let u : j < N = omega (arith, size′) in ap (λ (r : Noted). r .alive) (noted′ j u) ∙ like-alive j u;
+    deadIsOlder = λ j v d. let u : j < N = omega (arith, size′) in deadIsOlder′ j u (sym (ap (λ (r : Noted). r .alive) (noted′ j u)) ∙ d);
+    stored = λ j v h. let u : j < N = omega (arith, size′) in let a = alive′ j u h in
+        same-bare-region slot (noted (b .regions) j) (noted rs′ j) (slotOf (s .regions) (slot j)) (slotOf (t .regions) (slot j)) (left-bare j (a .1) (a .0)) (noted′ j u ∙ ap (λ c. diesIf c (noted (b .regions) j)) (a .0)) (m .regions .stored j u (a .1));
+    back = λ i h. let r = m .regions .back i (was-some i h) in let z = r .0 in (omega (arith, size′), r .1 ∙ same-handle i h);
+    one = λ j v h. let u : j < N = omega (arith, size′) in m .regions .one j u (alive′ j u h .1);
+    parentEarlier = λ j q v e. let u : j < N = omega (arith, size′) in m .regions .parentEarlier j q u (ap parentOf (sym (kind′ j u)) ∙ e);
+    parentLives = λ j q v h e.
+        let u : j < N = omega (arith, size′) in
+        let a = alive′ j u h in
+        let f = ap parentOf (sym (kind′ j u)) ∙ e in
+        let l = m .regions .parentLives j q u (a .1) f in
+        still-alive q (low q l) (parent-not-under j q (a .1) (a .0) f l) l;
+    rootsLive = λ j v e.
+        let u : j < N = omega (arith, size′) in
+        let f = ap parentOf (sym (kind′ j u)) ∙ e in
+        still-alive j u (root-not-under j u f) (m .regions .rootsLive j u f);
+  }
+    where
+      same-handle : (i : ℕ) → isSome (slotOf (t .regions) i) ≡ true → handleOf (s .regionPool) i ≡ handleOf (t .regionPool) i
+      same-handle i h = ap (λ c. record { slot = i; gen = c }) (sym (gens .kept i h))
+
+  live-on : (h : Handle) → LiveDomain (s .domainPool) (s .domains) h → LiveDomain (t .domainPool) (t .domains) h
+  live-on h q = ap (λ p. isLive p (t .domains) h) (others .domainPool) ∙ ap (λ c. c && eqb (getD (s .domainPool .gens) (h .slot) 0) (h .gen)) (some-untracked (slotOf (t .domains) (h .slot)) (slotOf (s .domains) (h .slot)) (others .domains (h .slot))) ∙ q
+
+  pub killed-match : MatchesAt (killed k b) t at place
+  unfolding killed
+  killed-match = record {
+    sizes = m .sizes ∙ sym (others .sizes);
+    regions = killed-regions;
+    lists = both-lists (lists-untracked (b .lists) (s .domains) (t .domains) (others .size) (others .domains) (m .lists));
+  }
+    where
+      both-lists : {ls : List (Option Slots)} {ds : List (Option Domain)} → Both (SameList (AtPlace (b .regions) at) (LiveDomain (s .domainPool) (s .domains))) ls ds → Both (SameList (AtPlace rs′ at) (LiveDomain (t .domainPool) (t .domains))) ls ds
+      both-lists nil = nil
+      both-lists (cons r h) = cons (list-map (λ j x q. let u = q .0 in (omega (arith, size′), q .1)) live-on _ _ r) (both-lists h)
+
+-- THEOREM: after an accepted revoke of a live region the book in which it and all below it died matches
+pub revoke-region-match : (b : Book) (s : State) (at : ℕ → Handle) (place : ℕ → ℕ) (k : ℕ) → Sound s → MatchesAt b s at place → k < length (b .regions) → isLive (s .regionPool) (s .regions) (at k) ≡ true → All (λ t. MatchesAt (killed k b) t at place) (revokeUnlessRoot (at k .slot) s)
+unfolding revokeUnlessRoot
+revoke-region-match b s at place k sound m u l =
+    checked (not (isRootKind (regionAt s (at k .slot) .kind))) _ (λ r.
+    let i = at k .slot in
+    let a : noted (b .regions) k .alive ≡ true = m .regions .aliveIsLive k u ∙ l in
+    let e = some-is (slotOf (s .regions) i) noneRegion (and-left (isSome (slotOf (s .regions) i)) _ l) in
+    let n = not-root (regionAt s i .kind) r in
+    let q = parent-of (λ j. at j .slot) (noted (b .regions) k .kind) (n .0) (ap parentOf (sym (m .regions .stored k u a .kind)) ∙ n .1) in
+    weaken (both (revoke-good s (sound-good s sound) i (n .0) (regionAt s i) e (n .1)) (revoke-gens s (sound .outside .regionPool .gensLength ∙ sym (sound .outside .regionsLength)) (sound .outside .regions) i (n .0) (regionAt s i) e (n .1)))
+    (λ t z. killed-match b s t at place m k u a (q .0) (q .1) (z .0 .0 .1) (z .1 .0) (z .1 .1)))

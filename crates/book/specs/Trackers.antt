@@ -1,0 +1,44 @@
+-- The steps that change trackers, records and the queue leave the book.
+use mathlib.Core.Path.{_≡_, refl}
+use Prim.Native.Nat.{ℕ}
+use mathlib.Core.Bool.{true}
+use Rattle.model.specs.Lists.{isSome, slotOf, any}
+use Rattle.model.specs.State.{State, Handle, Access, Update, withRecordPool, withTracker, domainAt, putDomain}
+use Rattle.model.specs.Pool.{handleOf}
+use Rattle.model.specs.Updates.{push, pushPermission, isPermissionOf}
+use Rattle.model.specs.Tracker.{Walk}
+use Rattle.model.specs.Regions.{putWalk, activate, deactivate}
+use Rattle.laws.specs.Accepted.{All, accepted, bind-any, and-then, branch}
+use Rattle.book.specs.Book.{Book}
+use Rattle.book.specs.Matches.{MatchesAt}
+use Rattle.book.specs.Slots.{OnlyDomains, put-only-domains, domain-match}
+
+module _ (b : Book) (at : ℕ → Handle) (place : ℕ → ℕ) where
+  -- matched, and what stays
+  abbrev pub MatchesAfter : State → State → Type 0
+  MatchesAfter s t = MatchesAt b t at place × OnlyDomains s t
+
+  push-match : (s₀ s : State) (u : Update) → MatchesAfter s₀ s → All (MatchesAfter s₀) (push u s)
+  unfolding push
+  push-match s₀ s u c = and-then _ (accepted (record { sizes = c .0 .sizes; regions = c .0 .regions; lists = c .0 .lists }, record { pool = c .1 .pool; regions = c .1 .regions; domainPool = c .1 .domainPool; opens = c .1 .opens; live = c .1 .live }))
+
+  permission-match : (s₀ s : State) (d : ℕ) → MatchesAfter s₀ s → All (MatchesAfter s₀) (pushPermission d s)
+  unfolding pushPermission
+  permission-match s₀ s d c = branch (any (isPermissionOf (handleOf (s .domainPool) d)) (s .queue .items)) (accepted c) (push-match s₀ s _ c)
+
+  walk-match : (s : State) (d : ℕ) (w : Walk) → MatchesAt b s at place → isSome (slotOf (s .domains) d) ≡ true → All (MatchesAfter s) (putWalk d w s)
+  unfolding putWalk
+  walk-match s d w m i =
+      let x = withTracker (w .records) (domainAt s d) in
+      let n = domain-match b s at place m d x i refl in
+      let k = put-only-domains b s at place m d x in
+      let c : MatchesAfter s (withRecordPool (w .pool) (putDomain d x s)) = (record { sizes = n .sizes; regions = n .regions; lists = n .lists }, record { pool = k .pool; regions = k .regions; domainPool = k .domainPool; opens = k .opens; live = k .live }) in
+      branch (w .changed) (permission-match s _ d c) (accepted c)
+
+  pub activate-match : (s : State) (d : ℕ) (a : Access) → MatchesAt b s at place → isSome (slotOf (s .domains) d) ≡ true → All (MatchesAfter s) (activate d a s)
+  unfolding activate
+  activate-match s d a m i = bind-any _ (λ w. walk-match s d w m i)
+
+  pub deactivate-match : (s : State) (d : ℕ) (a : Access) → MatchesAt b s at place → isSome (slotOf (s .domains) d) ≡ true → All (MatchesAfter s) (deactivate d a s)
+  unfolding deactivate
+  deactivate-match s d a m i = bind-any _ (λ w. walk-match s d w m i)

@@ -1,0 +1,53 @@
+-- The checks that only read: the tables stay.
+use mathlib.Core.Path.{_≡_, refl}
+use mathlib.Core.Bool.{Bool, true, false}
+use mathlib.Core.List.{List}
+use Prim.Native.Nat.{ℕ}
+use lib.Dec.{eqb}
+use Rattle.words.specs.Cases.{pick}
+use Rattle.tables.specs.declared.Handle.{Handle}
+use Rattle.tables.specs.declared.Slot.{Slot}
+use Rattle.tables.specs.Tables.{Tables}
+use Rattle.tables.specs.View.{view, Sized}
+use Rattle.arena.specs.Arena.{liveB}
+use Rattle.answers.specs.declared.Answer.{Answer}
+use Rattle.answers.specs.Answers.{Step}
+use Rattle.slots.specs.Capas.{capaAt}
+use Rattle.answers.specs.Then.{Ran, read}
+use Rattle.checks.specs.Checks.{liveDomain, liveRegion, asRegion, asTarget, regionHeld, targetHeld}
+
+either : (b : Bool) (x y : Step) (s : Tables) → x .tables ≡ s → y .tables ≡ s → pick b x y .tables ≡ s
+either true x y s e f = e
+either false x y s e f = f
+
+domain-kept : (h : Handle) (s : Tables) → liveDomain h s .tables ≡ s
+unfolding liveDomain
+domain-kept h s = either (liveB (s .domainPool) h) _ _ s refl refl
+
+region-kept : (h : Handle) (s : Tables) → liveRegion h s .tables ≡ s
+unfolding liveRegion
+region-kept h s = either (liveB (s .regionPool) h) _ _ s refl refl
+
+as-region-kept : (x : Slot) (s : Tables) → asRegion x s .tables ≡ s
+unfolding asRegion
+as-region-kept x s = either (eqb (x .kind) 2) _ _ s (region-kept (x .handle) s) refl
+
+as-target-kept : (x : Slot) (s : Tables) → asTarget x s .tables ≡ s
+unfolding asTarget
+as-target-kept x s =
+    either (eqb (x .kind) 4) _ _ s (domain-kept (x .handle) s) (either (eqb (x .kind) 5) _ _ s (domain-kept (x .handle) s) refl)
+
+module _ (u : List ℕ) (a : Answer) (z : Sized u) where
+  pub ran-domain : (h : Handle) → a ≡ liveDomain h (view u) .answer → Ran u a (liveDomain h (view u))
+  ran-domain h e = read u a _ z e (domain-kept h (view u))
+
+  pub ran-region : (h : Handle) → a ≡ liveRegion h (view u) .answer → Ran u a (liveRegion h (view u))
+  ran-region h e = read u a _ z e (region-kept h (view u))
+
+  pub ran-held : (d l : ℕ) → a ≡ regionHeld d l (view u) .answer → Ran u a (regionHeld d l (view u))
+  unfolding regionHeld
+  ran-held d l e = read u a _ z e (either (eqb (capaAt (view u) d l .kind) 1) _ _ (view u) refl (as-region-kept (capaAt (view u) d l) (view u)))
+
+  pub ran-target : (d l : ℕ) → a ≡ targetHeld d l (view u) .answer → Ran u a (targetHeld d l (view u))
+  unfolding targetHeld
+  ran-target d l e = read u a _ z e (either (eqb (capaAt (view u) d l .kind) 1) _ _ (view u) refl (as-target-kept (capaAt (view u) d l) (view u)))

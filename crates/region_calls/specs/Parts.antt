@@ -1,0 +1,41 @@
+-- The later steps of a call as one step, after the checks: what the code has a function for. Each call is its checks and then its part.
+use mathlib.Core.Path.{_≡_, refl}
+use mathlib.Core.Bool.{true, false}
+use Prim.Native.Nat.{ℕ}
+use Rattle.words.specs.Cases.{pick}
+use Rattle.tables.specs.declared.Handle.{Handle}
+use Rattle.tables.specs.Tables.{Tables, regionAt}
+use Rattle.answers.specs.declared.Refusal.the-variants.{Beyond}
+use Rattle.answers.specs.Answers.{Step, done, refused, andThen}
+use Rattle.region.specs.declared.AccessRights.{AccessRights}
+use Rattle.domain.specs.Activate.{activate}
+use Rattle.segment.specs.Children.{checkChild}
+use Rattle.segment.specs.Regions.{capaFor, newRegion}
+use Rattle.checks.specs.Checks.{liveDomain, regionHeld, roomForRegion}
+use Rattle.region_calls.specs.Calls.{heldRegion, createRootRegion, addChild, aliasRegion, exchangeRights, carveRegion}
+
+unfoldable pub rooted : ℕ → AccessRights → Tables → Step
+rooted d a s =
+    andThen (newRegion (capaFor d 1 0 a) s) (λ i s₁. andThen (heldRegion d i s₁) (λ l s₂. andThen (activate d a s₂) (λ v. done l)))
+
+unfoldable pub aliased : ℕ → ℕ → AccessRights → Tables → Step
+aliased d p a s =
+    pick (checkChild true s p a) (andThen (addChild d p 2 a s) (λ n s₁. andThen (activate d a s₁) (λ v. done n))) (refused Beyond s)
+
+unfoldable pub carved : ℕ → ℕ → AccessRights → Tables → Step
+carved d p a s =
+    pick (checkChild false s p a)
+    (andThen (addChild d p 3 a s) (λ n s₁. andThen (exchangeRights d (regionAt s p .rights) a s₁) (λ v. done n))) (refused Beyond s)
+
+pub root-is : (h : Handle) (a : AccessRights) (s : Tables) → createRootRegion h a s ≡ andThen (liveDomain h s) (λ d s₁. andThen (roomForRegion d a s₁) (λ u. rooted d a))
+unfolding createRootRegion rooted
+root-is h a s = refl
+
+module _ (h : Handle) (l : ℕ) (a : AccessRights) (s : Tables) where
+  pub alias-is : aliasRegion h l a s ≡ andThen (liveDomain h s) (λ d s₁. andThen (regionHeld d l s₁) (λ p s₂. andThen (roomForRegion d a s₂) (λ u. aliased d p a)))
+  unfolding aliasRegion aliased
+  alias-is = refl
+
+  pub carve-is : carveRegion h l a s ≡ andThen (liveDomain h s) (λ d s₁. andThen (regionHeld d l s₁) (λ p s₂. andThen (roomForRegion d a s₂) (λ u. carved d p a)))
+  unfolding carveRegion carved
+  carve-is = refl

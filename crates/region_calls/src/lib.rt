@@ -1,0 +1,167 @@
+// Regions: roots, aliases, carves.
+ghost use mathlib.Core.Path.{_≡_};
+ghost use Rattle.tables.specs.View.{view, Sized, Left};
+ghost use Rattle.region_calls.specs.Calls.{heldRegion, createRootRegion, addChild, aliasRegion, exchangeRights, carveRegion};
+ghost use Rattle.region_calls.specs.Parts.{rooted, aliased, carved};
+use answers::Answer;
+use answers::Refusal;
+use region::AccessRights;
+use tables::Handle;
+use tables::RegionCapa;
+use tables::Slot;
+
+// Region i into domain d's list.
+fn hold(t: &mut [u64], d: usize, i: u64) -> Answer
+    requires { ⌜ Sized (now t) ⌝ }
+    ensures { λ r. ⌜ r ≡ heldRegion d i (view (now (t .entry))) .answer ⌝ }
+    ensures { λ _. ⌜ Left (now (t .exit)) (heldRegion d i (view (now (t .entry))) .tables) ⌝ }
+{
+    let handle = Handle {
+        slot: i,
+        generation: pools::region_generation(t, i as usize),
+    };
+    let capa = Slot {
+        kind: Slot::REGION,
+        handle,
+    };
+    domain::insert(t, d, capa)
+}
+
+// ---- Roots
+
+fn root(t: &mut [u64], d: usize, a: AccessRights) -> Answer
+    requires { ⌜ Sized (now t) ⌝ }
+    ensures { λ r. ⌜ r ≡ rooted d a (view (now (t .entry))) .answer ⌝ }
+    ensures { λ _. ⌜ Left (now (t .exit)) (rooted d a (view (now (t .entry))) .tables) ⌝ }
+{
+    match segment::new_region(t, segment::capa_for(d, RegionCapa::ROOT, 0, a)) {
+        Answer::Done(i) => match hold(t, d, i) {
+            Answer::Done(l) => match domain::activate_region(t, d, a) {
+                Answer::Done(v) => Answer::Done(l),
+                Answer::Refused(r) => Answer::Refused(r),
+            },
+            Answer::Refused(r) => Answer::Refused(r),
+        },
+        Answer::Refused(r) => Answer::Refused(r),
+    }
+}
+
+pub fn create_root_region(t: &mut [u64], h: Handle, a: AccessRights) -> Answer
+    requires { ⌜ Sized (now t) ⌝ }
+    ensures { λ r. ⌜ r ≡ createRootRegion h a (view (now (t .entry))) .answer ⌝ }
+    ensures { λ _. ⌜ Left (now (t .exit)) (createRootRegion h a (view (now (t .entry))) .tables) ⌝ }
+{
+    match checks::live_domain(t, h) {
+        Answer::Done(d) => match checks::room_for_region(t, d as usize, a) {
+            Answer::Done(u) => root(t, d as usize, a),
+            Answer::Refused(r) => Answer::Refused(r),
+        },
+        Answer::Refused(r) => Answer::Refused(r),
+    }
+}
+
+// ---- Aliases
+
+// A child of region p, of that kind, in domain d's list.
+fn add_child(t: &mut [u64], d: usize, p: usize, kind: u64, a: AccessRights) -> Answer
+    requires { ⌜ Sized (now t) ⌝ }
+    ensures { λ r. ⌜ r ≡ addChild d p kind a (view (now (t .entry))) .answer ⌝ }
+    ensures { λ _. ⌜ Left (now (t .exit)) (addChild d p kind a (view (now (t .entry))) .tables) ⌝ }
+{
+    match segment::new_region(t, segment::capa_for(d, kind, tables::link_to(p as u64), a)) {
+        Answer::Done(i) => {
+            segment::insert_child(t, p, i as usize);
+            hold(t, d, i)
+        }
+        Answer::Refused(r) => Answer::Refused(r),
+    }
+}
+
+// 8, and the alias of region p: domain d gains its range.
+fn alias(t: &mut [u64], d: usize, p: usize, a: AccessRights) -> Answer
+    requires { ⌜ Sized (now t) ⌝ }
+    ensures { λ r. ⌜ r ≡ aliased d p a (view (now (t .entry))) .answer ⌝ }
+    ensures { λ _. ⌜ Left (now (t .exit)) (aliased d p a (view (now (t .entry))) .tables) ⌝ }
+{
+    if !segment::check_alias(t, p, a) {
+        return Answer::Refused(Refusal::Beyond);
+    }
+    match add_child(t, d, p, RegionCapa::ALIAS, a) {
+        Answer::Done(n) => match domain::activate_region(t, d, a) {
+            Answer::Done(v) => Answer::Done(n),
+            Answer::Refused(r) => Answer::Refused(r),
+        },
+        Answer::Refused(r) => Answer::Refused(r),
+    }
+}
+
+pub fn alias_region(t: &mut [u64], h: Handle, l: usize, a: AccessRights) -> Answer
+    requires { ⌜ Sized (now t) ⌝ }
+    ensures { λ r. ⌜ r ≡ aliasRegion h l a (view (now (t .entry))) .answer ⌝ }
+    ensures { λ _. ⌜ Left (now (t .exit)) (aliasRegion h l a (view (now (t .entry))) .tables) ⌝ }
+{
+    match checks::live_domain(t, h) {
+        Answer::Done(d) => match checks::region_held(t, d as usize, l) {
+            Answer::Done(p) => match checks::room_for_region(t, d as usize, a) {
+                Answer::Done(u) => alias(t, d as usize, p as usize, a),
+                Answer::Refused(r) => Answer::Refused(r),
+            },
+            Answer::Refused(r) => Answer::Refused(r),
+        },
+        Answer::Refused(r) => Answer::Refused(r),
+    }
+}
+
+// ---- Carves
+
+// The range is lost with the parent's rights `old` and gained with its own, where these differ.
+fn exchange_rights(t: &mut [u64], d: usize, old: u64, a: AccessRights) -> Answer
+    requires { ⌜ Sized (now t) ⌝ }
+    ensures { λ r. ⌜ r ≡ exchangeRights d old a (view (now (t .entry))) .answer ⌝ }
+    ensures { λ _. ⌜ Left (now (t .exit)) (exchangeRights d old a (view (now (t .entry))) .tables) ⌝ }
+{
+    let ops = a.ops;
+    if old == ops.0 as u64 {
+        return Answer::Done(0);
+    }
+    match domain::deactivate_region(t, d, segment::access(a.start, a.end, old)) {
+        Answer::Done(v) => domain::activate_region(t, d, a),
+        Answer::Refused(r) => Answer::Refused(r),
+    }
+}
+
+// 8, and the carve of region p.
+fn carve(t: &mut [u64], d: usize, p: usize, a: AccessRights) -> Answer
+    requires { ⌜ Sized (now t) ⌝ }
+    ensures { λ r. ⌜ r ≡ carved d p a (view (now (t .entry))) .answer ⌝ }
+    ensures { λ _. ⌜ Left (now (t .exit)) (carved d p a (view (now (t .entry))) .tables) ⌝ }
+{
+    if !segment::check_carve(t, p, a) {
+        return Answer::Refused(Refusal::Beyond);
+    }
+    let parent = tables::load_region(t, p);
+    match add_child(t, d, p, RegionCapa::CARVE, a) {
+        Answer::Done(n) => match exchange_rights(t, d, parent.rights, a) {
+            Answer::Done(v) => Answer::Done(n),
+            Answer::Refused(r) => Answer::Refused(r),
+        },
+        Answer::Refused(r) => Answer::Refused(r),
+    }
+}
+
+pub fn carve_region(t: &mut [u64], h: Handle, l: usize, a: AccessRights) -> Answer
+    requires { ⌜ Sized (now t) ⌝ }
+    ensures { λ r. ⌜ r ≡ carveRegion h l a (view (now (t .entry))) .answer ⌝ }
+    ensures { λ _. ⌜ Left (now (t .exit)) (carveRegion h l a (view (now (t .entry))) .tables) ⌝ }
+{
+    match checks::live_domain(t, h) {
+        Answer::Done(d) => match checks::region_held(t, d as usize, l) {
+            Answer::Done(p) => match checks::room_for_region(t, d as usize, a) {
+                Answer::Done(u) => carve(t, d as usize, p as usize, a),
+                Answer::Refused(r) => Answer::Refused(r),
+            },
+            Answer::Refused(r) => Answer::Refused(r),
+        },
+        Answer::Refused(r) => Answer::Refused(r),
+    }
+}

@@ -1,0 +1,2 @@
+pub mod Revoke
+pub mod Walks

@@ -1,0 +1,45 @@
+-- Regions revoked (document 01, **Revoke**; segment.rs).
+use Prim.Native.Nat.{ℕ, zero, suc, _%_}
+use lib.Dec.{eqb}
+use Rattle.words.specs.Cases.{pick}
+use Rattle.rights.specs.Rights.{has, CLEANUP}
+use Rattle.tables.specs.declared.RegionCapa.{RegionCapa}
+use Rattle.tables.specs.Links.{slotTo}
+use Rattle.tables.specs.Tables.{Tables, regionAt}
+use Rattle.answers.specs.declared.Refusal.the-variants.{Memory}
+use Rattle.answers.specs.Answers.{Step, done, refused, andThen}
+use Rattle.domain.specs.Activate.{activate, deactivate, cleanup}
+use Rattle.segment.specs.Children.{removeChild}
+use Rattle.segment.specs.Regions.{access, freedRegion}
+
+-- a root, kind 1, is in no list (the model's leaveParent)
+unfoldable pub leaveParent : ℕ → Tables → Tables
+leaveParent i s = pick (eqb (regionAt s i .kind) 1) s (removeChild s (slotTo (regionAt s i .parent)) i)
+
+-- what a carve, kind 3, held goes back to its parent's domain with the parent's rights (the model's giveBack)
+unfoldable pub giveBack : RegionCapa → Tables → Step
+giveBack g s =
+    let p = regionAt s (slotTo (g .parent)) in
+    pick (eqb (g .kind) 3) (activate (slotTo (p .owner)) (access (g .start) (g .end) (p .rights)) s) (done 0 s)
+
+unfoldable pub cleanupIf : RegionCapa → Tables → Step
+cleanupIf g s = pick (has (g .rights % 256) CLEANUP) (cleanup (g .start) (g .end) s) (done 0 s)
+
+-- a region without children (the model's revokeLeaf)
+unfoldable pub revokeLeaf : ℕ → Tables → Step
+revokeLeaf i s =
+    let g = regionAt s i in
+    andThen (deactivate (slotTo (g .owner)) (access (g .start) (g .end) (g .rights)) (leaveParent i s)) (λ u s₁.
+    andThen (giveBack g s₁) (λ v s₂.
+    andThen (freedRegion i s₂) (λ w. cleanupIf g)))
+
+-- head child by head child; n falls with each region above and each region freed (the model's revokeRegion)
+unfoldable pub revokeRegion : ℕ → ℕ → Tables → Step
+revokeRegion zero i s = refused Memory s
+revokeRegion (suc n) i s =
+    let k = regionAt s i .child in
+    pick (eqb k 0) (revokeLeaf i s) (andThen (revokeRegion n (slotTo k) s) (λ v. revokeRegion n i))
+
+-- as many as there are live regions
+unfoldable pub revoke : ℕ → Tables → Step
+revoke i s = revokeRegion (s .regionPool .count) i s

@@ -1,0 +1,5 @@
+pub mod Ring
+pub mod Turns
+pub mod Queue
+pub mod Search
+pub mod Sizes

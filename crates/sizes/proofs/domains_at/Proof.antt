@@ -1,0 +1,25 @@
+-- The widths of the sections before, summed.
+use Rattle.words.specs.Cuts.{offset}
+use borrow.Author.Needs.{needs}
+use native.Mathlib.Omega.{arith}
+use Rattle.sizes.proofs.domains_at.Statement.{statement}
+use Rattle.sizes.proofs.domains_at.Tie as tie
+
+add-result : tie.Need-add-result
+add-result c = search needs
+
+add-result-2 : tie.Need-add-result-2
+add-result-2 c = search needs
+
+mul-result : tie.Need-mul-result
+mul-result c = search needs
+
+add-result-3 : tie.Need-add-result-3
+add-result-3 c = search needs
+
+returns : tie.Need-returns
+unfolding offset
+returns c = omega arith
+
+pub domains-at-spec : {M : Type 1} → statement M
+domains-at-spec = tie.close (tie.spec add-result add-result-2 mul-result add-result-3 returns)

@@ -1,0 +1,60 @@
+-- The limits of the sizes (document 01, "Memory and who can be refused"), and the test of them.
+use mathlib.Core.Path.{_≡_}
+use mathlib.Core.Bool.{Bool, true}
+use Prim.Native.Nat.{ℕ, _≤_}
+use borrow.Author.Tests.{leb-true, le-leb}
+use lib.Dec.{leb}
+use Rattle.words.specs.Cases.{both, both-true}
+use Rattle.sizes.specs.declared.Sizes.{Sizes}
+
+pub record Limits (z : Sizes) : Type 0 where
+  pub domains-low : 1 ≤ z .domains
+  pub domains-high : z .domains ≤ 32
+  pub slots-low : 1 ≤ z .slots
+  pub slots-high : z .slots ≤ 128
+  pub regions-low : 1 ≤ z .regions
+  pub regions-high : z .regions ≤ 1024
+  pub records-low : 1 ≤ z .records
+  pub records-high : z .records ≤ 1024
+  pub updates-low : 1 ≤ z .updates
+  pub updates-high : z .updates ≤ 128
+
+abbrev pub withinB : ℕ → ℕ → Bool
+withinB n high = both (leb 1 n) (leb n high)
+
+unfoldable pub limitsB : Sizes → Bool
+limitsB z =
+    both (both (withinB (z .domains) 32) (withinB (z .slots) 128)) (both (both (withinB (z .regions) 1024) (withinB (z .records) 1024)) (withinB (z .updates) 128))
+
+within-true : (n high : ℕ) → withinB n high ≡ true → (1 ≤ n) × (n ≤ high)
+within-true n high h = let (a, b) = both-true (leb 1 n) (leb n high) h in (leb-true 1 n a, leb-true n high b)
+
+pub limits-true : (z : Sizes) → limitsB z ≡ true → Limits z
+unfolding limitsB
+limits-true z h =
+    let h₁ = both-true (both (withinB (z .domains) 32) (withinB (z .slots) 128)) _ h in
+    let h₂ = both-true (withinB (z .domains) 32) _ (h₁ .0) in
+    let h₃ = both-true (both (withinB (z .regions) 1024) (withinB (z .records) 1024)) _ (h₁ .1) in
+    let h₄ = both-true (withinB (z .regions) 1024) _ (h₃ .0) in
+    let d = within-true (z .domains) 32 (h₂ .0) in
+    let s = within-true (z .slots) 128 (h₂ .1) in
+    let r = within-true (z .regions) 1024 (h₄ .0) in
+    let t = within-true (z .records) 1024 (h₄ .1) in
+    let u = within-true (z .updates) 128 (h₃ .1) in
+    record {
+      domains-low = d .0;
+      domains-high = d .1;
+      slots-low = s .0;
+      slots-high = s .1;
+      regions-low = r .0;
+      regions-high = r .1;
+      records-low = t .0;
+      records-high = t .1;
+      updates-low = u .0;
+      updates-high = u .1;
+    }
+
+pub true-limits : (z : Sizes) → Limits z → limitsB z ≡ true
+unfolding limitsB
+true-limits z h =
+    simp (le-leb _ _ (h .domains-low), le-leb _ _ (h .domains-high), le-leb _ _ (h .slots-low), le-leb _ _ (h .slots-high), le-leb _ _ (h .regions-low), le-leb _ _ (h .regions-high), le-leb _ _ (h .records-low), le-leb _ _ (h .records-high), le-leb _ _ (h .updates-low), le-leb _ _ (h .updates-high))

@@ -1,0 +1,22 @@
+-- **Sweep** (document 01); the model's freeInvalidCapas.
+use mathlib.Core.Bool.{Bool}
+use Prim.Native.Nat.{ℕ, zero, suc}
+use lib.Dec.{ltb}
+use lib.ListN.{length, getD}
+use Rattle.words.specs.Cases.{pick, both}
+use Rattle.tables.specs.declared.Slot.{Slot}
+use Rattle.tables.specs.Tables.{noSlot}
+use Rattle.slot_list.specs.declared.SlotList.{SlotList}
+use Rattle.slot_list.specs.Lists.{freed}
+
+-- slot i is freed where the test holds of it
+unfoldable pub sweepSlot : (Slot → Bool) → SlotList → ℕ → SlotList
+sweepSlot bad l i = pick (both (ltb i (l .size)) (bad (getD (l .slots) i noSlot))) (freed l i) l
+
+-- n slots from i on, rising
+unfoldable pub sweepFrom : (Slot → Bool) → ℕ → ℕ → SlotList → SlotList
+sweepFrom bad zero i l = l
+sweepFrom bad (suc n) i l = sweepFrom bad n (suc i) (sweepSlot bad l i)
+
+unfoldable pub sweep : (Slot → Bool) → SlotList → SlotList
+sweep bad l = sweepFrom bad (length (l .slots)) 0 l

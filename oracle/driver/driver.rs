@@ -1,0 +1,15 @@
+//! What the driver does with the engine, but for its commands and the linked functions, which are in main.rs: built once for each set of sizes,
+//! with or without the proved archive.
+
+pub mod compare;
+pub mod judge;
+pub mod leftovers;
+pub mod met;
+pub mod ours;
+pub mod outside;
+pub mod random;
+pub mod sample;
+pub mod script;
+pub mod scripts;
+
+mod drawn;
