@@ -130,7 +130,7 @@ mityvurno_domain_reply mityvurno_open_domain(MITYVURNO_LENT, uint64_t cores);
 /* A domain with a manager, which gets a Management capability to it. */
 mityvurno_domain_reply mityvurno_open_under(MITYVURNO_LENT, uint64_t manager, uint64_t generation, uint64_t cores);
 
-/* A Channel capability to domain `to` in the list of `domain`; value: its local slot. */
+/* Platform only. A Channel capability to domain `to` in the list of `domain`, or in its own; value: its local slot. */
 mityvurno_reply mityvurno_open_channel(MITYVURNO_LENT, uint64_t domain, uint64_t generation, uint64_t to, uint64_t to_generation);
 
 mityvurno_reply mityvurno_set_core_map(MITYVURNO_LENT, uint64_t domain, uint64_t generation, uint64_t cores);

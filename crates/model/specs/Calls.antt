@@ -78,7 +78,7 @@ openDomain (some h) cores s = do
   (l, s₃) ← insertCapa m (management (handleOf (s₂ .domainPool) i)) s₂
   ok (handleOf (s₃ .domainPool) i, s₃)
 
--- "open a channel (a Channel capability to a domain, put in another's list or its own)". The answer, here and below, is the local slot.
+-- "open a channel (a Channel capability to a domain, put in another's list or its own; platform only)". The answer, here and below, is the local slot.
 unfoldable pub openChannel : Handle → Handle → State → Outcome (ℕ × State)
 openChannel h to s = do
   d ← liveDomain s h  -- 3

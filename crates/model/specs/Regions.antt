@@ -72,8 +72,8 @@ revokeLeaf i s = do
   s₃ ← freeRegion i s₂
   if has (g .rights) CLEANUP then push (cleanup (g .start) (g .end)) s₃ else ok s₃
 
--- **Revoke**: "Children go first, head child by head child, to any depth." n bounds the calls: the call on a child has one more region above it,
--- the call after it one live region less, so that from the number of live regions on 0 is never reached.
+-- **Revoke**: "Children go first, head child by head child, to any depth." n bounds the calls; as many as there are live regions suffice (`revoke-all`,
+-- crate laws), so that the first equation is never reached from a call.
 unfoldable pub revokeRegion : ℕ → ℕ → State → Outcome State
 revokeRegion zero i s = ok s
 revokeRegion (suc n) i s = elim (regionAt s i .children) [

@@ -14,7 +14,7 @@ use Rattle.model.specs.Pool.{allocate, free}
 abbrev pub newCounts : ℕ → Counts
 newCounts r = each (λ f. counter f r) (oneIf (has r UNCACHEABLE))
 
--- Gain "adds one", loss "subtracts one"; "later gains and losses don't change" the uncacheable count.
+-- Gain "adds one", loss "subtracts one" (below 0 never, in sound tables); "later gains and losses don't change" the uncacheable count.
 abbrev pub raise : ℕ → Counts → Counts
 raise r k = each (λ f. get f k + counter f r) (k .uncacheable)
 
@@ -60,7 +60,7 @@ cutBefore s q p = if ltb (q .start) s then (splitAt s q p >>= λ (l, r, p₁). o
 unfoldable pub cutAfter : ℕ → Record → Pool → Outcome (Record × List Record × Pool)
 cutAfter e q p = if ltb e (q .end) then (splitAt e q p >>= λ (l, r, p₁). ok (l, r ∷ [], p₁)) else ok (q, [], p)
 
--- Is there an address that both q and the range from s up to e hold? Touching ranges hold none.
+-- Does q end after s and start before e? For a range that is not empty: is there an address that both hold? Touching ranges hold none.
 abbrev pub meets : ℕ → ℕ → Record → Bool
 meets s e q = ltb s (q .end) && ltb (q .start) e
 
@@ -76,7 +76,8 @@ addTo r s e q p = if meets s e q then (do
   let k = raise r (q₂ .counts)
   ok (record { records = before ++ (withCounts k q₂ ∷ after); pool = p₂; changed = changes (q₂ .counts) k })) else ok (record { records = q ∷ []; pool = p; changed = false })
 
--- **Tracker**, gain: from s up to e with rights r, from left to right (`add_region`). A gap before a record is filled before the record is cut.
+-- **Tracker**, gain: from s up to e with rights r, from left to right (`add_region`). A gap before a record is filled before the record is cut; behind it
+-- the walk goes on from its end, so that nothing is filled twice.
 unfoldable pub addRegion : ℕ → ℕ → ℕ → List Record → Pool → Outcome Walk
 addRegion r s e [] p = do
   (new, p₁) ← fillGap r s e p
@@ -100,7 +101,7 @@ removeFrom r s e q p = if meets s e q then (do
   (kept, p₃) ← keepOrDrop (withCounts k q₂) p₂
   ok (record { records = before ++ kept ++ after; pool = p₃; changed = changes (q₂ .counts) k })) else ok (record { records = q ∷ []; pool = p; changed = false })
 
--- **Tracker**, loss: from s up to e with rights r, from left to right (`remove_region`).
+-- **Tracker**, loss: from s up to e with rights r, from left to right (`remove_region`). A gap in the range is passed over; in sound tables there is none.
 unfoldable pub removeRegion : ℕ → ℕ → ℕ → List Record → Pool → Outcome Walk
 removeRegion r s e [] p = ok (record { records = []; pool = p; changed = false })
 removeRegion r s e (q ∷ l) p = do
