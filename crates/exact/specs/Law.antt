@@ -3,7 +3,7 @@
 -- What no group tests follows from the sizes and from that memory holds words.
 use mathlib.Core.Path.{_≡_, sym, _∙_}
 use mathlib.Core.Logic.{_↔_}
-use mathlib.Core.Bool.{Bool, true}
+use mathlib.Core.Bool.{true}
 use mathlib.Core.List.{List}
 use Prim.Native.Nat.{ℕ}
 use Rattle.model.specs.Lists.{Each}
@@ -11,7 +11,7 @@ use Rattle.model.specs.State.{State, Word}
 use Rattle.model.specs.Layout.{words}
 use Rattle.model.specs.Sound.{OutsideSound, TrackersSound, QueueSound, Sound}
 use Rattle.laws.specs.Words.Unique.{words-unique}
-use Rattle.words.specs.Cases.{both, both-true}
+use Rattle.words.specs.Cases.{both-true}
 use Rattle.tables.specs.Tables.{Tables}
 use Rattle.tables.specs.View.{view, Sized}
 use Rattle.sizes.specs.Tests.{sizedB}
@@ -22,12 +22,11 @@ use Rattle.decoded.specs.Shape.{Shaped}
 use Rattle.decoded.specs.Decode.Read.{poolFrom, domainsFrom, regionsFrom, sizesFrom, stateOf}
 use Rattle.decoded.specs.Settled.Tidy.{OutsideTidy, TrackersTidy, QueueTidy}
 use Rattle.decoded.specs.Settled.Words.{SoundWords, view-shaped, tidy-words, words-tidy}
-use Rattle.sound_pools.specs.Hold.{poolsHold}
+use Rattle.sound_pools.specs.Hold.{outsidePoolsHold, recordPoolHolds}
 use Rattle.sound_tree.specs.Tree.{treeHolds}
 use Rattle.sound_capas.specs.Capas.{capasHold}
 use Rattle.sound_capas.specs.Places.{queueHolds}
 use Rattle.sound_trackers.specs.Trackers.{trackersHold}
-use Rattle.exact_pools.specs.Clauses.{outsidePoolsHold, recordPoolHolds}
 use Rattle.exact_pools.specs.Domains.{both-i}
 use Rattle.exact_pools.specs.Law.{pools-hold, hold-pools, record-pool-holds, hold-record-pool}
 use Rattle.exact_tree.specs.Law.{holds-tree}
@@ -37,18 +36,10 @@ use Rattle.exact_capas.specs.Lists.{capas-hold}
 use Rattle.exact_capas.specs.Full.{hold-capas}
 use Rattle.exact_capas.specs.Queue.{queue-holds, hold-queue}
 use Rattle.exact_trackers.specs.Law.{trackers-hold, hold-trackers}
-use Rattle.sound.specs.Test.{groupsHold, isSound}
+use Rattle.sound.specs.Test.{outsideHolds, trackedHolds, groupsHold, isSound}
 use Rattle.exact.specs.Gens.{domain-gens, region-gens, record-gens}
 
 -- ---- the three groups of the test
-
--- the pools of domains and regions, the tree, the capabilities
-abbrev pub outsideHolds : Tables → Bool
-outsideHolds v = both (outsidePoolsHold v) (both (treeHolds v) (capasHold v))
-
--- the pool of records, the trackers
-abbrev pub trackedHolds : Tables → Bool
-trackedHolds v = both (recordPoolHolds v) (trackersHold v)
 
 -- the clause of `Sound` about the ring
 abbrev pub QueueClause : Tables → Type 0
@@ -60,14 +51,10 @@ record Groups (v : Tables) : Type 0 where
   queue : queueHolds v ≡ true
 
 groups : (v : Tables) → groupsHold v ≡ true → Groups v
-unfolding poolsHold
 groups v h =
-    let a = both-true (poolsHold v) _ h in
-    let p = both-true (outsidePoolsHold v) (recordPoolHolds v) (a .0) in
-    let b = both-true (treeHolds v) _ (a .1) in
-    let c = both-true (capasHold v) _ (b .1) in
-    let d = both-true (queueHolds v) _ (c .1) in
-    record { outside = both-i (outsidePoolsHold v) _ (p .0) (both-i (treeHolds v) (capasHold v) (b .0) (c .0)); tracked = both-i (recordPoolHolds v) (trackersHold v) (p .1) (d .1); queue = d .0 }
+    let a = both-true (outsideHolds v) _ h in
+    let b = both-true (queueHolds v) (trackedHolds v) (a .1) in
+    record { outside = a .0; tracked = b .1; queue = b .0 }
 
 -- ---- words that pass
 
@@ -157,21 +144,14 @@ sound-words t stored h =
     let a = both-true (sizedB t) (groupsHold (view t)) h in
     passed-words t stored (sized-true t (a .0)) (groups (view t) (a .1))
 
-all-hold : (v : Tables) → outsideHolds v ≡ true → trackedHolds v ≡ true → queueHolds v ≡ true → groupsHold v ≡ true
-unfolding poolsHold
-all-hold v o k q =
-    let a = both-true (outsidePoolsHold v) _ o in
-    let b = both-true (treeHolds v) (capasHold v) (a .1) in
-    let c = both-true (recordPoolHolds v) (trackersHold v) k in
-    both-i (poolsHold v) _ (both-i (outsidePoolsHold v) (recordPoolHolds v) (a .0) (c .0)) (both-i (treeHolds v) _ (b .0) (both-i (capasHold v) _ (b .1) (both-i (queueHolds v) (trackersHold v) q (c .1))))
-
 pub words-sound : (t : List ℕ) → SoundWords t → isSound t ≡ true
 unfolding isSound stateOf
 words-sound t x =
     let (z, d, h) = words-tidy t x in
     let v = view t in
     let s = view-shaped t z in
-    both-i (sizedB t) (groupsHold v) (true-sized t z) (all-hold v (hold-outside v s (d .outside) (h .outside)) (hold-tracked v s (h .outside) (d .tracked) (h .tracked)) (hold-queue v s (d .queue) (h .queue)))
+    both-i (sizedB t) (groupsHold v) (true-sized t z)
+    (both-i (outsideHolds v) _ (hold-outside v s (d .outside) (h .outside)) (both-i (queueHolds v) (trackedHolds v) (hold-queue v s (d .queue) (h .queue)) (hold-tracked v s (h .outside) (d .tracked) (h .tracked))))
 
 -- the state is one
 pub sound-only : (t : List ℕ) (s s′ : State) → Sound s → Sound s′ → t ≡ words s → t ≡ words s′ → s ≡ s′

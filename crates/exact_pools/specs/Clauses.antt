@@ -2,27 +2,16 @@
 -- is in use or free once"; "each tracker record is on one list". The test is in two parts, and so are the clauses: domains and regions; records.
 use mathlib.Core.Path.{_≡_}
 use Prim.Native.Nat.{ℕ, _<_}
-use mathlib.Core.Bool.{Bool, true, false}
+use mathlib.Core.Bool.{true, false}
 use mathlib.Core.Option.{none}
 use lib.ListN.{length}
 use Rattle.model.specs.Lists.{In}
 use Rattle.model.specs.State as state
 use Rattle.model.specs.Sound.{OnceEach, inUse, recordUses}
-use Rattle.words.specs.Cases.{both}
 use Rattle.tables.specs.Tables.{Tables, noRegion}
 use Rattle.decoded.specs.Tables.{domainFor}
 use Rattle.decoded.specs.Decode.Read.{taken, stateOf}
 use Rattle.decoded.specs.Settled.Tidy.{PoolTidy, DomainTidy, TrackersTidy, domainRow, regionRow}
-use Rattle.sound_pools.specs.declared.links.Stack.the-variants.{Domains, Regions, Records}
-use Rattle.sound_pools.specs.Hold.{poolHolds, trackersHold}
-
--- the pools of domains and regions, with their rows and the slot lists
-abbrev pub outsidePoolsHold : Tables → Bool
-outsidePoolsHold v = both (poolHolds v Domains) (poolHolds v Regions)
-
--- the pool of records, with its rows, and the records in use along the trackers
-abbrev pub recordPoolHolds : Tables → Bool
-recordPoolHolds v = both (poolHolds v Records) (trackersHold v)
 
 pub record PoolsClauses (v : Tables) : Type 0 where
   -- the words

@@ -16,8 +16,8 @@ use Rattle.decoded.specs.Decode.Read.{taken, freeFrom, heldIn, domainFrom, regi
 use Rattle.decoded.specs.Settled.Tidy.{OutsideTidy, TrackersTidy, DomainTidy, domainRow, regionRow, recordRow}
 use Rattle.decoded.specs.Settled.Pools.{table-used, table-in}
 use Rattle.sound_pools.specs.declared.links.Stack.the-variants.{Domains, Regions, Records, Trackers}
-use Rattle.sound_pools.specs.Hold.{mayMeet, domainHolds, stackHolds, rowsHold, trackersHold, poolHolds}
-use Rattle.exact_pools.specs.Clauses.{outsidePoolsHold, recordPoolHolds, PoolsClauses, RecordClauses}
+use Rattle.sound_pools.specs.Hold.{mayMeet, domainHolds, stackHolds, rowsHold, trackersHold, poolHolds, outsidePoolsHold, recordPoolHolds}
+use Rattle.exact_pools.specs.Clauses.{PoolsClauses, RecordClauses}
 use Rattle.exact_pools.specs.Pools.{PoolGood, pool-good, good-pool, good-tidy, good-marked, good-beyond, good-used, good-free, good-once, once-good, marked-good, list-once, once-list}
 use Rattle.exact_pools.specs.Rows.{region-zero, zero-region, record-zero, zero-record}
 use Rattle.exact_pools.specs.Trackers.{uses, TrackersGood, trackers-good, good-trackers}

@@ -6,15 +6,22 @@ use Rattle.words.specs.Cases.{both}
 use Rattle.tables.specs.Tables.{Tables}
 use Rattle.tables.specs.View.{view}
 use Rattle.sizes.specs.Tests.{sizedB}
-use Rattle.sound_pools.specs.Hold.{poolsHold}
+use Rattle.sound_pools.specs.Hold.{outsidePoolsHold, recordPoolHolds}
 use Rattle.sound_tree.specs.Tree.{treeHolds}
 use Rattle.sound_capas.specs.Capas.{capasHold}
 use Rattle.sound_capas.specs.Places.{queueHolds}
 use Rattle.sound_trackers.specs.Trackers.{trackersHold}
 
--- what document 01, **Sound**, says of pools and lists, regions, capabilities, the ring and trackers
+-- what document 01, **Sound**, says outside the trackers and the ring: of the pools of domains and regions and their lists, of regions, of capabilities
+abbrev pub outsideHolds : Tables → Bool
+outsideHolds v = both (outsidePoolsHold v) (both (treeHolds v) (capasHold v))
+
+-- of the pool of records, and of the trackers
+abbrev pub trackedHolds : Tables → Bool
+trackedHolds v = both (recordPoolHolds v) (trackersHold v)
+
 abbrev pub groupsHold : Tables → Bool
-groupsHold v = both (poolsHold v) (both (treeHolds v) (both (capasHold v) (both (queueHolds v) (trackersHold v))))
+groupsHold v = both (outsideHolds v) (both (queueHolds v) (trackedHolds v))
 
 unfoldable pub isSound : List ℕ → Bool
 isSound t = both (sizedB t) (groupsHold (view t))

@@ -1,7 +1,42 @@
 // The test of lent tables (document 01, **Sound**): whether the words are those of a sound state.
 ghost use mathlib.Core.Path.{_≡_};
 ghost use lib.ListN.{length, replicate};
-ghost use Rattle.sound.specs.Test.{isSound};
+ghost use Rattle.tables.specs.View.{view, Sized};
+ghost use Rattle.sound.specs.Test.{outsideHolds, trackedHolds, isSound};
+
+// What the test asks outside the trackers and the ring. `w` is a work area as long as the tables, all zero.
+pub fn outside_holds(t: &[u64], w: &mut [u64]) -> bool
+    requires { ⌜ Sized (now t) ⌝ }
+    requires { ⌜ length (now w) ≡ length (now t) ⌝ }
+    requires { ⌜ now w ≡ replicate (length (now w)) 0 ⌝ }
+    ensures { λ r. ⌜ r ≡ outsideHolds (view (now (t .entry))) ⌝ }
+    ensures { λ _. ⌜ now (w .exit) ≡ now (w .entry) ⌝ }
+{
+    let pools = sound_pools::outside_pools_hold(t, w);
+    if !pools {
+        return false;
+    }
+    let tree = sound_tree::tree_holds(t, w);
+    if !tree {
+        return false;
+    }
+    sound_capas::capas_hold(t, w)
+}
+
+// What the test asks of the trackers and their pool.
+fn tracked_holds(t: &[u64], w: &mut [u64]) -> bool
+    requires { ⌜ Sized (now t) ⌝ }
+    requires { ⌜ length (now w) ≡ length (now t) ⌝ }
+    requires { ⌜ now w ≡ replicate (length (now w)) 0 ⌝ }
+    ensures { λ r. ⌜ r ≡ trackedHolds (view (now (t .entry))) ⌝ }
+    ensures { λ _. ⌜ now (w .exit) ≡ now (w .entry) ⌝ }
+{
+    let pool = sound_pools::record_pool_holds(t, w);
+    if !pool {
+        return false;
+    }
+    sound_trackers::trackers_hold(t)
+}
 
 // `w` is a work area as long as the tables, all zero. Each group is tested only where those before it hold; the trackers come last, for in
 // tables that are not sound their test may end late.
@@ -15,22 +50,13 @@ pub fn is_sound(t: &[u64], w: &mut [u64]) -> bool
     if !sized {
         return false;
     }
-    let pools = sound_pools::pools_hold(t, w);
-    if !pools {
-        return false;
-    }
-    let tree = sound_tree::tree_holds(t, w);
-    if !tree {
-        return false;
-    }
-    let capas = sound_capas::capas_hold(t, w);
-    if !capas {
+    let outside = outside_holds(t, w);
+    if !outside {
         return false;
     }
     let queue = sound_capas::queue_holds(t, w);
     if !queue {
         return false;
     }
-    let trackers = sound_trackers::trackers_hold(t);
-    trackers
+    tracked_holds(t, w)
 }

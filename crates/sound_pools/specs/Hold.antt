@@ -128,10 +128,15 @@ rowHolds v Trackers i = true
 unfoldable pub rowsHold : Tables → Stack → Bool
 rowsHold v s = allFrom (rowHolds v s) 0 (slotsOf v s)
 
--- ---- the whole
+-- ---- the pools
 
 unfoldable pub poolHolds : Tables → Stack → Bool
 poolHolds v s = both (stackHolds v s) (rowsHold v s)
 
-unfoldable pub poolsHold : Tables → Bool
-poolsHold v = both (both (poolHolds v Domains) (poolHolds v Regions)) (both (poolHolds v Records) (trackersHold v))
+-- the pools of domains and regions, with their rows and the slot lists
+abbrev pub outsidePoolsHold : Tables → Bool
+outsidePoolsHold v = both (poolHolds v Domains) (poolHolds v Regions)
+
+-- the pool of records, with its rows, and the records in use along the trackers
+abbrev pub recordPoolHolds : Tables → Bool
+recordPoolHolds v = both (poolHolds v Records) (trackersHold v)

@@ -3,7 +3,7 @@
 ghost use mathlib.Core.Path.{_≡_};
 ghost use lib.ListN.{length, replicate};
 ghost use Rattle.tables.specs.View.{view, Sized};
-ghost use Rattle.sound_pools.specs.Hold.{poolHolds, poolsHold};
+ghost use Rattle.sound_pools.specs.Hold.{poolHolds, outsidePoolsHold, recordPoolHolds};
 ghost use Rattle.sound_pools.specs.Marks.{Clean};
 
 pub mod links;
@@ -24,20 +24,28 @@ fn pool_holds(t: &[u64], s: Stack, w: &mut [u64]) -> bool
     words::both(stack, rows)
 }
 
-// The whole test. `w` is a work area as long as the tables, and all zero.
-pub fn pools_hold(t: &[u64], w: &mut [u64]) -> bool
+// The pools of domains and of regions, with their rows and the slot lists. `w` is a work area as long as the tables, and all zero.
+pub fn outside_pools_hold(t: &[u64], w: &mut [u64]) -> bool
     requires { ⌜ Sized (now t) ⌝ }
     requires { ⌜ length (now w) ≡ length (now t) ⌝ }
     requires { ⌜ now w ≡ replicate (length (now w)) 0 ⌝ }
-    ensures { λ r. ⌜ r ≡ poolsHold (view (now (t .entry))) ⌝ }
+    ensures { λ r. ⌜ r ≡ outsidePoolsHold (view (now (t .entry))) ⌝ }
     ensures { λ _. ⌜ now (w .exit) ≡ now (w .entry) ⌝ }
 {
     let domains = pool_holds(t, Stack::Domains, w);
     let regions = pool_holds(t, Stack::Regions, w);
+    words::both(domains, regions)
+}
+
+// The pool of tracker records, with its rows, and the records in use along the trackers. `w` as above.
+pub fn record_pool_holds(t: &[u64], w: &mut [u64]) -> bool
+    requires { ⌜ Sized (now t) ⌝ }
+    requires { ⌜ length (now w) ≡ length (now t) ⌝ }
+    requires { ⌜ now w ≡ replicate (length (now w)) 0 ⌝ }
+    ensures { λ r. ⌜ r ≡ recordPoolHolds (view (now (t .entry))) ⌝ }
+    ensures { λ _. ⌜ now (w .exit) ≡ now (w .entry) ⌝ }
+{
     let records = pool_holds(t, Stack::Records, w);
     let trackers = walks::trackers_hold(t, w);
-    words::both(
-        words::both(domains, regions),
-        words::both(records, trackers),
-    )
+    words::both(records, trackers)
 }
