@@ -25,7 +25,7 @@ use Rattle.decoded.specs.Settled.Words.{SoundWords, view-shaped, tidy-words, wo
 use Rattle.sound_pools.specs.Hold.{outsidePoolsHold, recordPoolHolds}
 use Rattle.sound_tree.specs.Tree.{treeHolds}
 use Rattle.sound_capas.specs.Capas.{capasHold}
-use Rattle.sound_capas.specs.Places.{queueHolds}
+use Rattle.sound_queue.specs.Ring.{queueHolds}
 use Rattle.sound_trackers.specs.Trackers.{trackersHold}
 use Rattle.exact_pools.specs.Domains.{both-i}
 use Rattle.exact_pools.specs.Law.{pools-hold, hold-pools, record-pool-holds, hold-record-pool}
@@ -34,7 +34,8 @@ use Rattle.exact_tree.specs.Words.{words-tree}
 use Rattle.exact_capas.specs.Words.{view-stored}
 use Rattle.exact_capas.specs.Lists.{capas-hold}
 use Rattle.exact_capas.specs.Full.{hold-capas}
-use Rattle.exact_capas.specs.Queue.{queue-holds, hold-queue}
+use Rattle.exact_queue.specs.Words.{ring-stored}
+use Rattle.exact_queue.specs.Queue.{queue-holds, hold-queue}
 use Rattle.exact_trackers.specs.Law.{trackers-hold, hold-trackers}
 use Rattle.sound.specs.Test.{outsideHolds, trackedHolds, groupsHold, isSound}
 use Rattle.exact.specs.Gens.{domain-gens, region-gens, record-gens}
@@ -108,7 +109,7 @@ module _ (t : List ℕ) (stored : Each Word t) (z : Sized t) where
       )
 
   pub queued-holds : queueHolds v ≡ true → QueueTidy v × QueueClause v
-  queued-holds h = let q = queue-holds v shaped (view-stored t stored) h in (q .tidy, q .queue)
+  queued-holds h = let q = queue-holds v shaped (ring-stored t stored) h in (q .tidy, q .queue)
 
   passed-words : Groups v → SoundWords t
   unfolding stateOf

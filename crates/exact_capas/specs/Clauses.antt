@@ -1,24 +1,21 @@
--- The clauses of `Tidy` and `Sound` about capabilities and the ring, which this crate tests, and those of earlier tests that it leans on.
+-- The clauses of `Tidy` and `Sound` about capabilities, which this crate tests, and those of earlier tests that it leans on.
 use mathlib.Core.Path.{_≡_}
-use Prim.Native.Nat.{ℕ, _+_, _<_}
+use Prim.Native.Nat.{ℕ, _<_}
 use mathlib.Core.Bool.{true}
 use Rattle.model.specs.Lists.{Each, In}
 use Rattle.model.specs.State as state
 use Rattle.model.specs.State.{Word}
-use Rattle.model.specs.Sound.{OutsideSound, OnceEach, inUse, OwnerSound, ManagerSound, RevokeFit, HandleFit, QueueSound}
+use Rattle.model.specs.Sound.{OutsideSound, OnceEach, inUse, OwnerSound, ManagerSound, RevokeFit, HandleFit}
 use Rattle.tables.specs.Tables.{Tables}
 use Rattle.decoded.specs.Shape.{Shaped}
 use Rattle.decoded.specs.Decode.Read.{taken, stateOf}
-use Rattle.decoded.specs.Settled.Tidy.{OutsideTidy, QueueTidy, PoolTidy, RegionTidy, domainRow, regionRow, place}
+use Rattle.decoded.specs.Settled.Tidy.{OutsideTidy, PoolTidy, RegionTidy, domainRow, regionRow}
 
 -- ---- what is known before
 
 -- what is stored are words
 pub record Stored (v : Tables) : Type 0 where
   pub cores : (i : ℕ) → i < v .sizes .domains → Word (domainRow v i .head .cores)
-  pub first : (k : ℕ) → k < v .sizes .updates + 1 → Word (place v k .a)
-  pub second : (k : ℕ) → k < v .sizes .updates + 1 → Word (place v k .b)
-  pub third : (k : ℕ) → k < v .sizes .updates + 1 → Word (place v k .c)
 
 -- of the pools and the tree: each domain and region is in use or free once, and what the words of a region in use say
 pub record Before (v : Tables) : Type 0 where
@@ -42,7 +39,3 @@ pub record CapasClauses (v : Tables) : Type 0 where
   pub revokesFit : (d : ℕ) (x : state.Domain) → In (stateOf v .domains) d x → Each (RevokeFit (stateOf v .regionPool) (stateOf v .regions)) (x .locals .held)
   pub handlesFit : (d : ℕ) (x : state.Domain) → In (stateOf v .domains) d x → Each (HandleFit (stateOf v .regionPool) (stateOf v .regions) (stateOf v .domainPool) (stateOf v .domains)) (x .locals .held)
   pub coresWords : (d : ℕ) (x : state.Domain) → In (stateOf v .domains) d x → Word (x .cores)
-
-pub record QueueClauses (v : Tables) : Type 0 where
-  pub queue : QueueSound (v .sizes .updates) (stateOf v .domainPool) (stateOf v .domains) (stateOf v .queue)
-  pub tidy : QueueTidy v

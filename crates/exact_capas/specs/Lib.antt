@@ -1,8 +1,6 @@
 pub mod Fits
 pub mod Clauses
 pub mod Reads
-pub mod Updates
-pub mod Queue
 pub mod Grid
 pub mod Items
 pub mod Used

@@ -7,16 +7,15 @@ use Rattle.model.specs.Lists.{Each}
 use Rattle.model.specs.State.{Word}
 use Rattle.words.specs.Rows.{rows}
 use Rattle.words.specs.Cuts.{cuts}
-use Rattle.tables.specs.declared.Update.{Update}
-use Rattle.tables.specs.Tables.{Domain, noDomain, noUpdate}
+use Rattle.tables.specs.Tables.{Domain, noDomain}
 use Rattle.sizes.specs.Sizes.{sizesOf, stride, widths}
-use Rattle.tables.specs.View.{updateOf, domainOf, ofParts, view}
+use Rattle.tables.specs.View.{domainOf, ofParts, view}
 use Rattle.exact_capas.specs.Clauses.{Stored}
 
-zero-word : Word 0
+pub zero-word : Word 0
 zero-word = omega arith
 
-word-at : (l : List ℕ) (i : ℕ) → Each Word l → Word (getD l i 0)
+pub word-at : (l : List ℕ) (i : ℕ) → Each Word l → Word (getD l i 0)
 word-at [] i h = zero-word
 word-at (x ∷ l) zero h = h .0
 word-at (x ∷ l) (suc i) h = word-at l i (h .1)
@@ -39,28 +38,19 @@ cut-words (n ∷ ns) l zero h = take-words n l h
 cut-words (n ∷ ns) l (suc i) h = cut-words ns (drop n l) i (drop-words n l h)
 
 -- a row
-row-words : {A : Type 0} (P : A → Type 0) (w n : ℕ) (f : List ℕ → A) (d : A) (l : List ℕ) (i : ℕ) → P d → ((p : List ℕ) → Each Word p → P (f p)) → Each Word l → P (getD (rows w n f l) i d)
+pub row-words : {A : Type 0} (P : A → Type 0) (w n : ℕ) (f : List ℕ → A) (d : A) (l : List ℕ) (i : ℕ) → P d → ((p : List ℕ) → Each Word p → P (f p)) → Each Word l → P (getD (rows w n f l) i d)
 unfolding rows
 row-words P w zero f d l i z g h = z
 row-words P w (suc n) f d l zero z g h = g (take w l) (take-words w l h)
 row-words P w (suc n) f d l (suc i) z g h = row-words P w n f d (drop w l) i z g (drop-words w l h)
 
 module _ (t : List ℕ) (h : Each Word t) where
-  section-words : (i : ℕ) → Each Word (getD (cuts (widths (sizesOf t)) t) i [])
+  pub section-words : (i : ℕ) → Each Word (getD (cuts (widths (sizesOf t)) t) i [])
   section-words i = cut-words (widths (sizesOf t)) t i h
-
-  update-words : (g : Update → ℕ) → Word (g noUpdate) → ((p : List ℕ) → Each Word p → Word (g (updateOf p))) → (k : ℕ) → Word (g (getD (view t .ring) k noUpdate))
-  unfolding view ofParts
-  update-words g z f k = row-words (λ u. Word (g u)) 4 (sizesOf t .updates + 1) updateOf noUpdate (getD (cuts (widths (sizesOf t)) t) 7 []) k z f (section-words 7)
 
   core-words : (i : ℕ) → Word (getD (view t .domains) i noDomain .head .cores)
   unfolding view ofParts domainOf
   core-words i = row-words (λ (x : Domain). Word (x .head .cores)) (stride (sizesOf t)) (sizesOf t .domains) (domainOf (sizesOf t .slots)) noDomain (getD (cuts (widths (sizesOf t)) t) 4 []) i zero-word (λ p w. word-at (take 5 p) 1 (take-words 5 p w)) (section-words 4)
 
   pub view-stored : Stored (view t)
-  view-stored = record {
-    cores = λ i b. core-words i;
-    first = λ k b. update-words (λ u. u .a) zero-word (λ p w. word-at p 1 w) k;
-    second = λ k b. update-words (λ u. u .b) zero-word (λ p w. word-at p 2 w) k;
-    third = λ k b. update-words (λ u. u .c) zero-word (λ p w. word-at p 3 w) k;
-  }
+  view-stored = record { cores = λ i b. core-words i }

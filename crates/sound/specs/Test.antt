@@ -9,7 +9,7 @@ use Rattle.sizes.specs.Tests.{sizedB}
 use Rattle.sound_pools.specs.Hold.{outsidePoolsHold, recordPoolHolds}
 use Rattle.sound_tree.specs.Tree.{treeHolds}
 use Rattle.sound_capas.specs.Capas.{capasHold}
-use Rattle.sound_capas.specs.Places.{queueHolds}
+use Rattle.sound_queue.specs.Ring.{queueHolds}
 use Rattle.sound_trackers.specs.Trackers.{trackersHold}
 
 -- what document 01, **Sound**, says outside the trackers and the ring: of the pools of domains and regions and their lists, of regions, of capabilities

@@ -54,7 +54,7 @@ pub fn is_sound(t: &[u64], w: &mut [u64]) -> bool
     if !outside {
         return false;
     }
-    let queue = sound_capas::queue_holds(t, w);
+    let queue = sound_queue::queue_holds(t);
     if !queue {
         return false;
     }

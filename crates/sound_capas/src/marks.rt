@@ -4,10 +4,8 @@ ghost use lib.ListN.{length, replicate};
 ghost use Rattle.tables.specs.View.{view, Sized};
 ghost use Rattle.sound_capas.specs.Claims.{claimsHold};
 ghost use Rattle.sound_capas.specs.Marks.{takes, marked, leftBy, scan};
-ghost use Rattle.sound_capas.specs.Walks.{claimOf};
-use crate::Walk;
+ghost use Rattle.sound_capas.specs.Capas.{capaClaim};
 use crate::capas;
-use crate::places;
 use crate::reads;
 
 // Sets the mark of number c; nothing where c is 0. False where there is none, or it is set.
@@ -30,26 +28,16 @@ fn left_by(left: usize, c: usize) -> usize
     reads::select(c == 0, left, reads::less(left, 1))
 }
 
-fn claim_of(t: &[u64], q: Walk, i: usize) -> usize
-    requires { ⌜ Sized (now t) ⌝ }
-    ensures { λ r. ⌜ r ≡ claimOf (view (now (t .entry))) q i ⌝ }
-{
-    match q {
-        Walk::Capas => capas::capa_claim(t, i),
-        Walk::Places => places::place_claim(t, i),
-    }
-}
-
 // n items, with what is left to be claimed.
-fn walk(t: &[u64], m: &mut [u64], q: Walk, n: usize, want: usize) -> bool
+fn walk(t: &[u64], m: &mut [u64], n: usize, want: usize) -> bool
     requires { ⌜ Sized (now t) ⌝ }
-    ensures { λ r. ⌜ r ≡ scan (claimOf (view (now (t .entry))) q) n 0 (now (m .entry)) want ⌝ }
+    ensures { λ r. ⌜ r ≡ scan (capaClaim (view (now (t .entry)))) n 0 (now (m .entry)) want ⌝ }
     ensures { λ _. ⌜ length (now (m .exit)) ≡ length (now (m .entry)) ⌝ }
 {
     let mut left = want;
     let mut i = 0;
     while i < n {
-        let c = claim_of(t, q, i);
+        let c = capas::capa_claim(t, i);
         let taken = claim(m, c);
         if !taken {
             return false;
@@ -61,13 +49,13 @@ fn walk(t: &[u64], m: &mut [u64], q: Walk, n: usize, want: usize) -> bool
 }
 
 // Whether nothing is wrong, nothing is claimed twice, and as many are claimed as are wanted. The marks are cleared again.
-pub fn claims_hold(t: &[u64], m: &mut [u64], q: Walk, n: usize, want: usize) -> bool
+pub fn claims_hold(t: &[u64], m: &mut [u64], n: usize, want: usize) -> bool
     requires { ⌜ Sized (now t) ⌝ }
     requires { ⌜ now m ≡ replicate (length (now m)) 0 ⌝ }
-    ensures { λ r. ⌜ r ≡ claimsHold (claimOf (view (now (t .entry))) q) (length (now (m .entry))) n want ⌝ }
+    ensures { λ r. ⌜ r ≡ claimsHold (capaClaim (view (now (t .entry)))) (length (now (m .entry))) n want ⌝ }
     ensures { λ _. ⌜ now (m .exit) ≡ now (m .entry) ⌝ }
 {
-    let answer = walk(t, m, q, n, want);
+    let answer = walk(t, m, n, want);
     words::clear(m);
     answer
 }

@@ -26,24 +26,24 @@ unfolding isSound
 returns-2 c = (ends _ _ _ _ (c .before .before .before .outside-holds .ensures .0) (goes-on _ _ _ _ (c .before .before .before .before .before .before .is-sized .ensures) refl (c .before .before .before .before .before .if1 .left)) (c .if2 .taken), (c .before .before .before .outside-holds .ensures .1))
 
 queue-holds-requires : tie.Need-queue-holds-requires
-queue-holds-requires c κs = (sized-true _ (sym (c .before .before .before .before .before .before .before .is-sized .ensures) ∙ not-false _ (c .before .before .before .before .before .before .if1 .left)), area-same _ _ _ (c .before .before .before .before .outside-holds .ensures .1) (c .before .before .before .before .before .before .before .before .before .before .pre))
+queue-holds-requires c κs = sized-true _ (sym (c .before .before .before .before .before .before .is-sized .ensures) ∙ not-false _ (c .before .before .before .before .before .if1 .left))
 
 same-length-2 : tie.Need-same-length-2
 same-length-2 c = search needs
 
 returns-3 : tie.Need-returns-3
 unfolding isSound
-returns-3 c = (ends _ _ _ _ (c .before .before .before .queue-holds .ensures .0) (goes-on _ _ _ _ (c .before .before .before .before .before .before .before .before .outside-holds .ensures .0) (goes-on _ _ _ _ (c .before .before .before .before .before .before .before .before .before .before .before .is-sized .ensures) refl (c .before .before .before .before .before .before .before .before .before .before .if1 .left)) (c .before .before .before .before .before .if2 .left)) (c .if3 .taken), (c .before .before .before .queue-holds .ensures .1) ∙ (c .before .before .before .before .before .before .before .before .outside-holds .ensures .1))
+returns-3 c = (ends _ _ _ _ (c .before .queue-holds .ensures) (goes-on _ _ _ _ (c .before .before .before .before .before .outside-holds .ensures .0) (goes-on _ _ _ _ (c .before .before .before .before .before .before .before .before .is-sized .ensures) refl (c .before .before .before .before .before .before .before .if1 .left)) (c .before .before .if2 .left)) (c .if3 .taken), (c .before .before .before .before .before .outside-holds .ensures .1))
 
 tracked-holds-requires : tie.Need-tracked-holds-requires
-tracked-holds-requires c κs = (sized-true _ (sym (c .before .before .before .before .before .before .before .before .before .before .before .before .is-sized .ensures) ∙ not-false _ (c .before .before .before .before .before .before .before .before .before .before .before .if1 .left)), area-same _ _ _ ((c .before .before .before .before .queue-holds .ensures .1) ∙ (c .before .before .before .before .before .before .before .before .before .outside-holds .ensures .1)) (c .before .before .before .before .before .before .before .before .before .before .before .before .before .before .before .pre))
+tracked-holds-requires c κs = (sized-true _ (sym (c .before .before .before .before .before .before .before .before .before .is-sized .ensures) ∙ not-false _ (c .before .before .before .before .before .before .before .before .if1 .left)), area-same _ _ _ (c .before .before .before .before .before .before .outside-holds .ensures .1) (c .before .before .before .before .before .before .before .before .before .before .before .before .pre))
 
 same-length-3 : tie.Need-same-length-3
 same-length-3 c = search needs
 
 returns-4 : tie.Need-returns-4
 unfolding isSound
-returns-4 c = ((c .before .before .tracked-holds .ensures .0) ∙ goes-on _ _ _ _ (c .before .before .before .before .before .before .before .queue-holds .ensures .0) (goes-on _ _ _ _ (c .before .before .before .before .before .before .before .before .before .before .before .before .outside-holds .ensures .0) (goes-on _ _ _ _ (c .before .before .before .before .before .before .before .before .before .before .before .before .before .before .before .is-sized .ensures) refl (c .before .before .before .before .before .before .before .before .before .before .before .before .before .before .if1 .left)) (c .before .before .before .before .before .before .before .before .before .if2 .left)) (c .before .before .before .before .if3 .left), (c .before .before .tracked-holds .ensures .1) ∙ (c .before .before .before .before .before .before .before .queue-holds .ensures .1) ∙ (c .before .before .before .before .before .before .before .before .before .before .before .before .outside-holds .ensures .1))
+returns-4 c = ((c .before .before .tracked-holds .ensures .0) ∙ goes-on _ _ _ _ (c .before .before .before .before .before .queue-holds .ensures) (goes-on _ _ _ _ (c .before .before .before .before .before .before .before .before .before .outside-holds .ensures .0) (goes-on _ _ _ _ (c .before .before .before .before .before .before .before .before .before .before .before .before .is-sized .ensures) refl (c .before .before .before .before .before .before .before .before .before .before .before .if1 .left)) (c .before .before .before .before .before .before .if2 .left)) (c .before .before .before .before .if3 .left), (c .before .before .tracked-holds .ensures .1) ∙ (c .before .before .before .before .before .before .before .before .before .outside-holds .ensures .1))
 
 pub is-sound-spec : {M : Type 1} → statement M
 is-sound-spec =

@@ -6,7 +6,7 @@ use mathlib.Core.List.{List, _∷_, map}
 use native.Mathlib.Omega.{arith}
 use native.Mathlib.Decide.{ℕ-discrete}
 use lib.Dec.{eqb, eqb→eq}
-use lib.Ieee.Fits.{and-l}
+use lib.Ieee.Fits.{and-l, and-r}
 use Rattle.model.specs.Lists.{oneIf, count, Each, countUp}
 use Rattle.model.specs.State as state
 use Rattle.model.specs.State.{permission, cleanup}
@@ -82,23 +82,27 @@ abbrev slotIn : state.Update → ℕ
 slotIn (permission h c) = h .slot
 slotIn (cleanup a b) = 0
 
+abbrev genIn : state.Update → ℕ
+genIn (permission h c) = h .gen
+genIn (cleanup a b) = 0
+
 pub permission-read : (u : Update) → u .kind ≡ 1 → updateFrom u ≡ permission (record { slot = u .a; gen = u .b }) (u .c)
 permission-read u e = rw (eqb-t (u .kind) 1 e)
 
 pub cleanup-read : (u : Update) → (u .kind ≡ 1 → ⊥) → updateFrom u ≡ cleanup (u .a) (u .b)
 cleanup-read u e = rw (eqb-f (u .kind) 1 e)
 
-pub permission-is : (u : Update) (h : state.Handle) (c : ℕ) → updateFrom u ≡ permission h c → (u .kind ≡ 1) × (u .a ≡ h .slot)
+pub permission-is : (u : Update) (h : state.Handle) (c : ℕ) → updateFrom u ≡ permission h c → (u .kind ≡ 1) × (u .a ≡ h .slot) × (u .b ≡ h .gen)
 permission-is u h c e = elim (ℕ-discrete (u .kind) 1) [
-  | yes k ↦ (k, ap slotIn (sym (permission-read u k) ∙ e))
+  | yes k ↦ let p = sym (permission-read u k) ∙ e in (k, ap slotIn p, ap genIn p)
   | no k ↦ absurd (let z = ap kindIn (sym (cleanup-read u k) ∙ e) in omega arith)
 ]
 
-pub names-is : (u : Update) (h : state.Handle) → isPermissionOf h (updateFrom u) ≡ true → (u .kind ≡ 1) × (h .slot ≡ u .a)
+pub names-is : (u : Update) (h : state.Handle) → isPermissionOf h (updateFrom u) ≡ true → (u .kind ≡ 1) × (h .slot ≡ u .a) × (h .gen ≡ u .b)
 names-is u h t = elim (ℕ-discrete (u .kind) 1) [
   | yes k ↦
       let x = true-is (ap (isPermissionOf h) (sym (permission-read u k)) ∙ t) in
-      (k, eqb→eq (h .slot) (u .a) (and-l (eqb (h .slot) (u .a)) (eqb (h .gen) (u .b)) x))
+      (k, eqb→eq (h .slot) (u .a) (and-l (eqb (h .slot) (u .a)) (eqb (h .gen) (u .b)) x), eqb→eq (h .gen) (u .b) (and-r (eqb (h .slot) (u .a)) (eqb (h .gen) (u .b)) x))
   | no k ↦ absurd (yes-no (sym t ∙ ap (isPermissionOf h) (cleanup-read u k)))
 ]
 

@@ -1,0 +1,4 @@
+pub mod Clauses
+pub mod Words
+pub mod Updates
+pub mod Queue

@@ -1,0 +1,1 @@
+// Mathematics only: the test of the ring is exact.

@@ -1,0 +1,72 @@
+-- The clauses about the ring (document 01, **Sound**): the ring's two places lie inside it; queued domains are live and queued singly. Places where
+-- nothing is queued are all zero. Of n places, with read place r, update number j is the one j places behind r, going round.
+use Prim.Native.Nat.{ℕ, zero, suc, _+_, _-_, _%_}
+use mathlib.Core.Bool.{Bool, true, not}
+use lib.Dec.{eqb, ltb}
+use Rattle.words.specs.Cases.{pick, both}
+use Rattle.tables.specs.declared.Update.{Update}
+use Rattle.tables.specs.declared.Handle.{Handle}
+use Rattle.tables.specs.Tables.{Tables, updateAt}
+use Rattle.arena.specs.Arena.{liveB}
+
+-- ---- one update
+
+abbrev pub clearB : Update → Bool
+clearB u = both (both (eqb (u .kind) 0) (eqb (u .a) 0)) (both (eqb (u .b) 0) (eqb (u .c) 0))
+
+-- a permission update, or a cleanup, which has two words
+abbrev pub tidyB : Update → Bool
+tidyB u = pick (eqb (u .kind) 1) true (both (eqb (u .kind) 2) (eqb (u .c) 0))
+
+abbrev pub handleAt : Update → Handle
+handleAt u = record { slot = u .a; generation = u .b }
+
+-- "queued domains are live"
+abbrev pub liveIn : Tables → Update → Bool
+liveIn v u = pick (eqb (u .kind) 1) (liveB (v .domainPool) (handleAt u)) true
+
+-- an update that is queued, or a place where none is
+unfoldable pub updateFits : Tables → Update → Bool → Bool
+updateFits v u queued = pick queued (both (tidyB u) (liveIn v u)) (clearB u)
+
+-- both are permission updates of the same handle: slot and generation
+unfoldable pub sameDomain : Update → Update → Bool
+sameDomain u x = both (both (eqb (u .kind) 1) (eqb (x .kind) 1)) (both (eqb (u .a) (x .a)) (eqb (u .b) (x .b)))
+
+-- ---- the updates by number
+
+-- k numbers from number i on pass the test
+unfoldable pub allFrom : (ℕ → Bool) → ℕ → ℕ → Bool
+allFrom p i zero = true
+allFrom p i (suc k) = both (p i) (allFrom p (suc i) k)
+
+-- the numbers from i up to e
+abbrev pub allIn : (ℕ → Bool) → ℕ → ℕ → Bool
+allIn p i e = allFrom p i (e - i)
+
+unfoldable pub numbered : Tables → ℕ → ℕ → ℕ → Update
+numbered v n r j = updateAt v ((r + j) % n)
+
+-- the first m are queued
+unfoldable pub numbersHold : Tables → ℕ → ℕ → ℕ → Bool
+numbersHold v n r m = allIn (λ j. updateFits v (numbered v n r j) (ltb j m)) 0 n
+
+-- none from number j up to number m is of u's handle
+unfoldable pub noneSame : Tables → ℕ → ℕ → ℕ → Update → ℕ → Bool
+noneSame v n r m u j = allIn (λ i. not (sameDomain u (numbered v n r i))) j m
+
+-- "and queued singly": none of the first m is queued again further on
+unfoldable pub singly : Tables → ℕ → ℕ → ℕ → Bool
+singly v n r m = allIn (λ j. noneSame v n r m (numbered v n r j) (j + 1)) 0 m
+
+-- ---- the ring
+
+-- with write place w so many updates are queued
+abbrev pub queuedIn : ℕ → ℕ → ℕ → ℕ
+queuedIn n r w = (w + n - r) % n
+
+abbrev pub ringHolds : Tables → ℕ → ℕ → ℕ → Bool
+ringHolds v n r w = both (both (ltb r n) (ltb w n)) (both (numbersHold v n r (queuedIn n r w)) (singly v n r (queuedIn n r w)))
+
+unfoldable pub queueHolds : Tables → Bool
+queueHolds v = ringHolds v (v .sizes .updates + 1) (v .read) (v .write)

@@ -1,0 +1,58 @@
+// One update of the ring, and two.
+ghost use mathlib.Core.Path.{_≡_};
+ghost use Rattle.tables.specs.View.{view, Sized};
+ghost use Rattle.sound_queue.specs.Ring.{clearB, tidyB, liveIn, updateFits, sameDomain};
+use tables::Handle;
+use tables::Update;
+
+fn is_clear(u: Update) -> bool
+    ensures { λ r. ⌜ r ≡ clearB u ⌝ }
+{
+    let front = words::both(u.kind == 0, u.a == 0);
+    words::both(front, words::both(u.b == 0, u.c == 0))
+}
+
+fn is_tidy(u: Update) -> bool
+    ensures { λ r. ⌜ r ≡ tidyB u ⌝ }
+{
+    if u.kind == 1 {
+        return true;
+    }
+    words::both(u.kind == 2, u.c == 0)
+}
+
+// Whether the domain of a permission update is live.
+fn is_live(t: &[u64], u: Update) -> bool
+    requires { ⌜ Sized (now t) ⌝ }
+    ensures { λ r. ⌜ r ≡ liveIn (view (now (t .entry))) u ⌝ }
+{
+    if u.kind == 1 {
+        let handle = Handle {
+            slot: u.a,
+            generation: u.b,
+        };
+        return pools::domain_is_live(t, handle);
+    }
+    true
+}
+
+// Whether an update that is queued, or a place where none is, holds.
+pub fn update_fits(t: &[u64], u: Update, queued: bool) -> bool
+    requires { ⌜ Sized (now t) ⌝ }
+    ensures { λ r. ⌜ r ≡ updateFits (view (now (t .entry))) u queued ⌝ }
+{
+    if queued {
+        let tidy = is_tidy(u);
+        let live = is_live(t, u);
+        return words::both(tidy, live);
+    }
+    is_clear(u)
+}
+
+// Whether both are permission updates of the same handle.
+pub fn is_same(u: Update, x: Update) -> bool
+    ensures { λ r. ⌜ r ≡ sameDomain u x ⌝ }
+{
+    let kinds = words::both(u.kind == 1, x.kind == 1);
+    words::both(kinds, words::both(u.a == x.a, u.b == x.b))
+}
