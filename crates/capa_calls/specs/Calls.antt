@@ -4,6 +4,7 @@ use lib.Dec.{eqb}
 use Rattle.words.specs.Cases.{pick}
 use Rattle.tables.specs.declared.Handle.{Handle}
 use Rattle.tables.specs.declared.Slot.{Slot}
+use Rattle.tables.specs.Kinds.{FREE, REGION, «REGION_REVOKE», MANAGEMENT, ROOT}
 use Rattle.tables.specs.Tables.{Tables, regionAt}
 use Rattle.arena.specs.Arena.{liveB}
 use Rattle.answers.specs.declared.Refusal.the-variants.{NoSlot, Root, NotCarried}
@@ -17,8 +18,8 @@ use Rattle.checks.specs.Checks.{liveDomain, liveRegion, regionHeld, targetHeld,
 -- 4, 10, 6, and for a region its effective ranges; by the kinds 0 to 5
 unfoldable pub sendCapa : Slot → ℕ → Tables → Step
 sendCapa x to s =
-    pick (eqb (x .kind) 1) (refused NoSlot s)
-    (pick (eqb (x .kind) 4) (refused NotCarried s) (pick (eqb (x .kind) 2) (andThen (liveRegion (x .handle) s) (λ i. sendRegion i to)) (done 0 s)))
+    pick (eqb (x .kind) FREE) (refused NoSlot s)
+    (pick (eqb (x .kind) MANAGEMENT) (refused NotCarried s) (pick (eqb (x .kind) REGION) (andThen (liveRegion (x .handle) s) (λ i. sendRegion i to)) (done 0 s)))
 
 unfoldable pub send : Handle → ℕ → ℕ → Tables → Step
 send h l target s =
@@ -29,15 +30,15 @@ send h l target s =
 
 -- 9
 unfoldable pub revokeUnlessRoot : ℕ → Tables → Step
-revokeUnlessRoot i s = pick (eqb (regionAt s i .kind) 1) (refused Root s) (revoke i s)
+revokeUnlessRoot i s = pick (eqb (regionAt s i .kind) ROOT) (refused Root s) (revoke i s)
 
 -- 4, 10, 6, 9; a RegionRevoke of a dead region succeeds
 unfoldable pub revokeCapa : Slot → Tables → Step
 revokeCapa x s =
-    pick (eqb (x .kind) 1) (refused NoSlot s)
-    (pick (eqb (x .kind) 4) (refused NotCarried s)
-    (pick (eqb (x .kind) 2) (andThen (liveRegion (x .handle) s) revokeUnlessRoot)
-    (pick (eqb (x .kind) 3) (pick (liveB (s .regionPool) (x .handle)) (revokeUnlessRoot (x .handle .slot) s) (done 0 s)) (done 0 s))))
+    pick (eqb (x .kind) FREE) (refused NoSlot s)
+    (pick (eqb (x .kind) MANAGEMENT) (refused NotCarried s)
+    (pick (eqb (x .kind) REGION) (andThen (liveRegion (x .handle) s) revokeUnlessRoot)
+    (pick (eqb (x .kind) «REGION_REVOKE») (pick (liveB (s .regionPool) (x .handle)) (revokeUnlessRoot (x .handle .slot) s) (done 0 s)) (done 0 s))))
 
 unfoldable pub revokeLocal : Handle → ℕ → Tables → Step
 revokeLocal h l s = andThen (liveDomain h s) (λ d s₁. andThen (revokeCapa (capaAt s₁ d l) s₁) (λ v s₂. done 0 (withEmpty s₂ d l)))
@@ -46,4 +47,4 @@ unfoldable pub createRevokeCapa : Handle → ℕ → Tables → Step
 createRevokeCapa h l s =
     andThen (liveDomain h s) (λ d s₁.
     andThen (regionHeld d l s₁) (λ i s₂.
-    pick (eqb (regionAt s₂ i .kind) 1) (refused Root s₂) (andThen (reserve d s₂) (λ v s₃. insert d (capaOf 3 (s₃ .regionPool) i) s₃))))
+    pick (eqb (regionAt s₂ i .kind) ROOT) (refused Root s₂) (andThen (reserve d s₂) (λ v s₃. insert d (capaOf «REGION_REVOKE» (s₃ .regionPool) i) s₃))))

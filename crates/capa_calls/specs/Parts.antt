@@ -4,6 +4,7 @@ use Prim.Native.Nat.{ℕ}
 use lib.Dec.{eqb}
 use Rattle.words.specs.Cases.{pick}
 use Rattle.tables.specs.declared.Handle.{Handle}
+use Rattle.tables.specs.Kinds.{«REGION_REVOKE», ROOT}
 use Rattle.tables.specs.Tables.{Tables, regionAt}
 use Rattle.answers.specs.declared.Refusal.the-variants.{Root}
 use Rattle.answers.specs.Answers.{Step, refused, andThen}
@@ -19,7 +20,7 @@ unfoldable pub revokedHeld : Handle → Tables → Step
 revokedHeld h s = andThen (liveRegion h s) revokeUnlessRoot
 
 unfoldable pub revoker : ℕ → ℕ → Tables → Step
-revoker d i s = pick (eqb (regionAt s i .kind) 1) (refused Root s) (andThen (reserve d s) (λ v s₁. insert d (capaOf 3 (s₁ .regionPool) i) s₁))
+revoker d i s = pick (eqb (regionAt s i .kind) ROOT) (refused Root s) (andThen (reserve d s) (λ v s₁. insert d (capaOf «REGION_REVOKE» (s₁ .regionPool) i) s₁))
 
 pub send-is : (h : Handle) (l target : ℕ) (s : Tables)
     → send h l target s ≡ andThen (liveDomain h s) (λ d s₁. andThen (targetHeld d target s₁) (λ to s₂. andThen (reserve to s₂) (λ u. passed d l to)))

@@ -5,6 +5,7 @@ use lib.ListN.{getD}
 use Rattle.words.specs.Cases.{pick}
 use Rattle.tables.specs.declared.Handle.{Handle}
 use Rattle.tables.specs.declared.Slot.{Slot}
+use Rattle.tables.specs.Kinds.{FREE, REGION, MANAGEMENT, CHANNEL}
 use Rattle.tables.specs.Tables.{Tables, Arena}
 use Rattle.arena.specs.Arena.{liveB, capacityOf}
 use Rattle.answers.specs.declared.Refusal.the-variants.{NoDomain, NoSlot, WrongKind, Stale, BadRange, NoRegion}
@@ -23,19 +24,19 @@ liveRegion h s = pick (liveB (s .regionPool) h) (done (h .slot) s) (refused Stal
 
 -- 5, 6: a capability that is in use, as a live region
 unfoldable pub asRegion : Slot → Tables → Step
-asRegion x s = pick (eqb (x .kind) 2) (liveRegion (x .handle) s) (refused WrongKind s)
+asRegion x s = pick (eqb (x .kind) REGION) (liveRegion (x .handle) s) (refused WrongKind s)
 
 -- 5, 3: as a live domain to send to, by a Management or a Channel capability
 unfoldable pub asTarget : Slot → Tables → Step
-asTarget x s = pick (eqb (x .kind) 4) (liveDomain (x .handle) s) (pick (eqb (x .kind) 5) (liveDomain (x .handle) s) (refused WrongKind s))
+asTarget x s = pick (eqb (x .kind) MANAGEMENT) (liveDomain (x .handle) s) (pick (eqb (x .kind) CHANNEL) (liveDomain (x .handle) s) (refused WrongKind s))
 
 -- 4, 5, 6: the live region that local slot l of domain d holds (the model's regionHeld)
 unfoldable pub regionHeld : ℕ → ℕ → Tables → Step
-regionHeld d l s = pick (eqb (capaAt s d l .kind) 1) (refused NoSlot s) (asRegion (capaAt s d l) s)
+regionHeld d l s = pick (eqb (capaAt s d l .kind) FREE) (refused NoSlot s) (asRegion (capaAt s d l) s)
 
 -- 4, 5, 3: the live domain that it names
 unfoldable pub targetHeld : ℕ → ℕ → Tables → Step
-targetHeld d l s = pick (eqb (capaAt s d l .kind) 1) (refused NoSlot s) (asTarget (capaAt s d l) s)
+targetHeld d l s = pick (eqb (capaAt s d l .kind) FREE) (refused NoSlot s) (asTarget (capaAt s d l) s)
 
 -- 11, 12, 7 (the model's roomForRegion)
 unfoldable pub roomForRegion : ℕ → AccessRights → Tables → Step

@@ -12,7 +12,7 @@ use Rattle.words.specs.Cuts.{cuts, join, offset}
 use Rattle.tables.specs.declared.Slot.{Slot}
 use Rattle.tables.specs.Tables.{Tables, Arena, Domain}
 use Rattle.sizes.specs.Limits.{Limits}
-use Rattle.sizes.specs.Sizes.{sizesOf, widths, stride, poolWidth, total}
+use Rattle.sizes.specs.Sizes.{sizesOf, widths, stride, poolWidth, total, headWidth, slotWidth, regionWidth, recordWidth, updateWidth}
 use Rattle.tables.specs.View.{view, ofParts, Sized, Left, slotOf, slotWords, regionOf, regionWords, recordOf, recordWords, updateOf, updateWords, domainOf, domainWords, arenaOf, arenaWords, headerWords, partsOf, layout}
 use Rattle.decoded.specs.Rows.{Read, each-any, flat-length, rows-flat, cuts-join}
 
@@ -46,11 +46,11 @@ arena-read n a h =
 slots-read : (l : List Slot) → Each (Read 3 slotOf slotWords) l
 slots-read l = each-any (Read 3 slotOf slotWords) l (λ x. (refl, refl))
 
-domain-read : (n : ℕ) (d : Domain) → length (d .slots) ≡ n → Read (5 + n * 3) (domainOf n) domainWords d
+domain-read : (n : ℕ) (d : Domain) → length (d .slots) ≡ n → Read (headWidth + n * slotWidth) (domainOf n) domainWords d
 unfolding domainOf domainWords
 domain-read n d h = (omega (arith, flat-length 3 slotOf slotWords (d .slots) (slots-read (d .slots)), ap (λ (k : ℕ). k * 3) h), ap (λ (l : List Slot). record { head = d .head; slots = l }) (rows-flat 3 n slotOf slotWords (d .slots) h (slots-read (d .slots))))
 
-domains-read : (n : ℕ) (l : List Domain) → Each (λ d. length (d .slots) ≡ n) l → Each (Read (5 + n * 3) (domainOf n) domainWords) l
+domains-read : (n : ℕ) (l : List Domain) → Each (λ d. length (d .slots) ≡ n) l → Each (Read (headWidth + n * slotWidth) (domainOf n) domainWords) l
 domains-read n [] h = tt
 domains-read n (d ∷ l) h = (domain-read n d (h .0), domains-read n l (h .1))
 
@@ -79,13 +79,13 @@ module _ (x : Tables) (h : Shaped x) where
   read₄ : Read (x .sizes .domains * stride (x .sizes)) (rows (stride (x .sizes)) (x .sizes .domains) (domainOf (x .sizes .slots))) (flat domainWords) (x .domains)
   read₄ = table-read (stride (x .sizes)) (x .sizes .domains) (domainOf (x .sizes .slots)) domainWords (x .domains) (h .domains) (domains-read (x .sizes .slots) (x .domains) (h .slots))
 
-  read₅ : Read (x .sizes .regions * 8) (rows 8 (x .sizes .regions) regionOf) (flat regionWords) (x .regions)
+  read₅ : Read (x .sizes .regions * regionWidth) (rows regionWidth (x .sizes .regions) regionOf) (flat regionWords) (x .regions)
   read₅ = table-read 8 (x .sizes .regions) regionOf regionWords (x .regions) (h .regions) (each-any _ (x .regions) (λ r. (refl, refl)))
 
-  read₆ : Read (x .sizes .records * 9) (rows 9 (x .sizes .records) recordOf) (flat recordWords) (x .records)
+  read₆ : Read (x .sizes .records * recordWidth) (rows recordWidth (x .sizes .records) recordOf) (flat recordWords) (x .records)
   read₆ = table-read 9 (x .sizes .records) recordOf recordWords (x .records) (h .records) (each-any _ (x .records) (λ r. (refl, refl)))
 
-  read₇ : Read ((x .sizes .updates + 1) * 4) (rows 4 (x .sizes .updates + 1) updateOf) (flat updateWords) (x .ring)
+  read₇ : Read ((x .sizes .updates + 1) * updateWidth) (rows updateWidth (x .sizes .updates + 1) updateOf) (flat updateWords) (x .ring)
   read₇ = table-read 4 (x .sizes .updates + 1) updateOf updateWords (x .ring) (h .ring) (each-any _ (x .ring) (λ r. (refl, refl)))
 
   part-lengths : map length (partsOf x) ≡ widths (x .sizes)

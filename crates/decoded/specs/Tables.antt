@@ -15,6 +15,7 @@ use Rattle.tables.specs.declared.Slot.{Slot}
 use Rattle.tables.specs.declared.RegionCapa.{RegionCapa}
 use Rattle.tables.specs.declared.Region.{Region}
 use Rattle.tables.specs.declared.Update.{Update}
+use Rattle.tables.specs.Kinds.{FREE, REGION, «REGION_REVOKE», MANAGEMENT, CHANNEL, PERMISSION, CLEANUP}
 use Rattle.tables.specs.Tables.{Tables, Arena, Domain, noHead, noSlot, noRegion, noRecord, noUpdate}
 
 abbrev pub sizesFor : state.Sizes → Sizes
@@ -34,14 +35,14 @@ poolOf n p =
 
 abbrev pub capaSlot : Capa → Slot
 capaSlot noCapa = noSlot
-capaSlot (region h) = record { kind = 2; handle = handleFor h }
-capaSlot (regionRevoke h) = record { kind = 3; handle = handleFor h }
-capaSlot (management h) = record { kind = 4; handle = handleFor h }
-capaSlot (channel h) = record { kind = 5; handle = handleFor h }
+capaSlot (region h) = record { kind = REGION; handle = handleFor h }
+capaSlot (regionRevoke h) = record { kind = «REGION_REVOKE»; handle = handleFor h }
+capaSlot (management h) = record { kind = MANAGEMENT; handle = handleFor h }
+capaSlot (channel h) = record { kind = CHANNEL; handle = handleFor h }
 
 -- a free slot with that one after it
 abbrev pub freeSlot : ℕ → Slot
-freeSlot k = record { kind = 1; handle = record { slot = k; generation = 0 } }
+freeSlot k = record { kind = FREE; handle = record { slot = k; generation = 0 } }
 
 -- slot i of a domain's list with that free stack, by what it holds
 abbrev pub slotFor : List ℕ → ℕ → Option Capa → Slot
@@ -113,8 +114,8 @@ recordIn (some x ∷ ds) i = inTrackerFor i (x .tracker) (recordIn ds i)
 
 abbrev pub updateFor : Option state.Update → Update
 updateFor none = noUpdate
-updateFor (some (permission h cores)) = record { kind = 1; a = h .slot; b = h .gen; c = cores }
-updateFor (some (cleanup a b)) = record { kind = 2; a = a; b = b; c = 0 }
+updateFor (some (permission h cores)) = record { kind = PERMISSION; a = h .slot; b = h .gen; c = cores }
+updateFor (some (cleanup a b)) = record { kind = CLEANUP; a = a; b = b; c = 0 }
 
 -- place k of a ring for n updates
 abbrev pub placeFor : ℕ → state.Queue → ℕ → Update

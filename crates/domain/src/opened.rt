@@ -48,7 +48,7 @@ pub fn new_domain(t: &mut [u64], manager: u64, cores: u64) -> Answer
     ensures { λ r. ⌜ r ≡ newDomain manager cores (view (now (t .entry))) .answer ⌝ }
     ensures { λ _. ⌜ Left (now (t .exit)) (newDomain manager cores (view (now (t .entry))) .tables) ⌝ }
 {
-    let n = words::size(t, 1);
+    let n = words::size(t, sizes::SLOTS);
     match pools::allocate_domain(t) {
         Given::At(h) => {
             let i = h.slot as usize;

@@ -2,6 +2,7 @@
 use Prim.Native.Nat.{ℕ}
 use Rattle.tables.specs.declared.Handle.{Handle}
 use Rattle.tables.specs.declared.DomainHead.{DomainHead}
+use Rattle.tables.specs.Kinds.{MANAGEMENT, CHANNEL}
 use Rattle.tables.specs.Tables.{Tables, headAt, withHead}
 use Rattle.answers.specs.Answers.{Step, done, andThen}
 use Rattle.tables.specs.Links.{linkTo}
@@ -19,14 +20,14 @@ openUnder h cores s =
     andThen (liveDomain h s) (λ m s₁.
     andThen (newDomain (linkTo m) cores s₁) (λ i s₂.
     andThen (reserve m s₂) (λ v s₃.
-    andThen (insert m (capaOf 4 (s₃ .domainPool) i) s₃) (λ l. done i))))
+    andThen (insert m (capaOf MANAGEMENT (s₃ .domainPool) i) s₃) (λ l. done i))))
 
 -- a Channel capability to a domain; the answer, here and below, is the local slot
 unfoldable pub openChannel : Handle → Handle → Tables → Step
 openChannel h to s =
     andThen (liveDomain h s) (λ d s₁.
     andThen (liveDomain to s₁) (λ e s₂.
-    andThen (reserve d s₂) (λ v. insert d (record { kind = 5; handle = to }))))
+    andThen (reserve d s₂) (λ v. insert d (record { kind = CHANNEL; handle = to }))))
 
 abbrev withCores : DomainHead → ℕ → DomainHead
 withCores h cores = record { manager = h .manager; cores = cores; tracker = h .tracker; head = h .head; count = h .count }

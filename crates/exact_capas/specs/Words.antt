@@ -1,5 +1,5 @@
 -- Where all words of the memory are 64-bit words, so are the numbers of the tables that they show.
-use Prim.Native.Nat.{ℕ, zero, suc, _+_}
+use Prim.Native.Nat.{ℕ, zero, suc}
 use mathlib.Core.List.{List, [], _∷_}
 use native.Mathlib.Omega.{arith}
 use lib.ListN.{getD, take, drop}

@@ -31,7 +31,7 @@ pub fn fill_lines(t: &[u64], d: usize, run: &mut [u64]) -> usize
         return 0;
     }
     let mut n: usize = 0;
-    let mut left = words::size(t, 3);
+    let mut left = words::size(t, sizes::RECORDS);
     let mut k = links::first(t, d);
     while 0 < left {
         if k == 0 {

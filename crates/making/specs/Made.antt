@@ -11,7 +11,7 @@ use Rattle.words.specs.Zeros.{zeros, take-zeros, drop-zeros, rows-zeros, cuts-z
 use Rattle.sizes.specs.declared.Sizes.{Sizes}
 use Rattle.tables.specs.Tables.{Tables, withDomainPool, withRegionPool, withRecordPool}
 use Rattle.sizes.specs.Limits.{Limits}
-use Rattle.sizes.specs.Sizes.{sizesOf, widths, stride, total}
+use Rattle.sizes.specs.Sizes.{sizesOf, widths, stride, total, headerWidth, headWidth, slotWidth, regionWidth, recordWidth, updateWidth}
 use Rattle.tables.specs.View.{view, ofParts, Left, layout, domainOf, slotOf, regionOf, recordOf, updateOf}
 use Rattle.tables.specs.Header.{read-is, write-is}
 use Rattle.tables.specs.Layout.{words-are}
@@ -27,7 +27,7 @@ later z = drop 1 (widths z)
 
 domain-zeros : (z : Sizes) → domainOf (z .slots) (zeros (stride z)) ≡ emptyDomain z
 unfolding domainOf emptyDomain
-domain-zeros z = rw (take-zeros 5 (z .slots * 3), drop-zeros 5 (z .slots * 3), rows-zeros 3 (z .slots) slotOf)
+domain-zeros z = rw (take-zeros headWidth (z .slots * slotWidth), drop-zeros headWidth (z .slots * slotWidth), rows-zeros slotWidth (z .slots) slotOf)
 
 -- ---- cleared words with the sizes in front
 
@@ -53,14 +53,14 @@ module _ (z : Sizes) (l : Limits z) (m : List ℕ) (t : List ℕ) (cleared : m �
   unfolding sizesOf
   sizes-are = rw front
 
-  parts-are : cuts (widths z) t ≡ take 7 t ∷ map zeros (later z)
+  parts-are : cuts (widths z) t ≡ take headerWidth t ∷ map zeros (later z)
   unfolding cuts
   parts-are =
       let r = offset (later z) 7 in
       let d : drop 7 t ≡ zeros r = ap (drop 7) set-in ∙ drop-sets-lt (sizeWords z) (zeros (7 + r)) 7 0 (omega arith) ∙ drop-zeros 7 r in
-      ap (λ (x : List (List ℕ)). take 7 t ∷ x) (ap (cuts (later z)) d ∙ cuts-zeros (later z))
+      ap (λ (x : List (List ℕ)). take headerWidth t ∷ x) (ap (cuts (later z)) d ∙ cuts-zeros (later z))
 
-  seen : view t ≡ ofParts z (take 7 t ∷ map zeros (later z))
+  seen : view t ≡ ofParts z (take headerWidth t ∷ map zeros (later z))
   unfolding view
   seen = rw (sizes-are, parts-are)
 
@@ -78,9 +78,9 @@ module _ (z : Sizes) (l : Limits z) (m : List ℕ) (t : List ℕ) (cleared : m �
         read = read-is t ∙ zero-at 0 (omega arith);
         write = write-is t ∙ zero-at 1 (omega arith);
         domains = ap (λ (x : Tables). x .domains) seen ∙ rows-zeros (stride z) (z .domains) (domainOf (z .slots)) ∙ ap (replicate (z .domains)) (domain-zeros z);
-        regions = ap (λ (x : Tables). x .regions) seen ∙ rows-zeros 8 (z .regions) regionOf;
-        records = ap (λ (x : Tables). x .records) seen ∙ rows-zeros 9 (z .records) recordOf;
-        ring = ap (λ (x : Tables). x .ring) seen ∙ rows-zeros 4 (z .updates + 1) updateOf;
+        regions = ap (λ (x : Tables). x .regions) seen ∙ rows-zeros regionWidth (z .regions) regionOf;
+        records = ap (λ (x : Tables). x .records) seen ∙ rows-zeros recordWidth (z .records) recordOf;
+        ring = ap (λ (x : Tables). x .ring) seen ∙ rows-zeros updateWidth (z .updates + 1) updateOf;
       }
 
 -- ---- three new pools

@@ -20,7 +20,11 @@ fn blank(t: &mut [u64], z: Sizes)
     let regions = z.regions as u64;
     let records = z.records as u64;
     let updates = z.updates as u64;
-    words::store(t, 0, &[domains, slots, regions, records, updates]);
+    words::store(
+        t,
+        sizes::DOMAINS,
+        &[domains, slots, regions, records, updates],
+    );
 }
 
 // The words become those of empty tables, whatever they held before.

@@ -17,6 +17,47 @@ link (some i) = suc i
 abbrev pub slotOr0 : Option ℕ → ℕ
 slotOr0 o = orElse o 0
 
+-- ---- the kind words
+
+-- of a slot
+abbrev pub NONE : ℕ
+NONE = 0
+
+abbrev pub FREE : ℕ
+FREE = 1
+
+abbrev pub REGION : ℕ
+REGION = 2
+
+abbrev pub «REGION_REVOKE» : ℕ
+«REGION_REVOKE» = 3
+
+abbrev pub MANAGEMENT : ℕ
+MANAGEMENT = 4
+
+abbrev pub CHANNEL : ℕ
+CHANNEL = 5
+
+-- of a region; 0 is a free one
+abbrev pub ROOT : ℕ
+ROOT = 1
+
+abbrev pub ALIAS : ℕ
+ALIAS = 2
+
+abbrev pub CARVE : ℕ
+CARVE = 3
+
+-- of an update
+abbrev pub NOTHING : ℕ
+NOTHING = 0
+
+abbrev pub PERMISSION : ℕ
+PERMISSION = 1
+
+abbrev pub CLEANUP : ℕ
+CLEANUP = 2
+
 -- ---- 1. header, 7 words
 
 -- The ring's write place: read place and number of updates, going round; it has one place more than it can hold.
@@ -41,15 +82,15 @@ poolWords n p = slotOr0 (firstOf (p .free)) ∷ (n - length (p .free)) ∷ map (
 
 -- a slot's kind, and two words: the handle's slot and generation
 abbrev pub capaWords : Capa → List ℕ
-capaWords noCapa = 0 ∷ 0 ∷ 0 ∷ []
-capaWords (region h) = 2 ∷ h .slot ∷ h .gen ∷ []
-capaWords (regionRevoke h) = 3 ∷ h .slot ∷ h .gen ∷ []
-capaWords (management h) = 4 ∷ h .slot ∷ h .gen ∷ []
-capaWords (channel h) = 5 ∷ h .slot ∷ h .gen ∷ []
+capaWords noCapa = NONE ∷ 0 ∷ 0 ∷ []
+capaWords (region h) = REGION ∷ h .slot ∷ h .gen ∷ []
+capaWords (regionRevoke h) = «REGION_REVOKE» ∷ h .slot ∷ h .gen ∷ []
+capaWords (management h) = MANAGEMENT ∷ h .slot ∷ h .gen ∷ []
+capaWords (channel h) = CHANNEL ∷ h .slot ∷ h .gen ∷ []
 
--- Slot i of a domain's list; a free one has kind 1 and the free slot after it, 0 for the last.
+-- Slot i of a domain's list; a free one has the free slot after it, 0 for the last.
 abbrev pub slotWords : LocalList → ℕ → List ℕ
-slotWords l i = elim (slotOf (l .held) i) [ none ↦ 1 ∷ slotOr0 (afterIn (l .free) i) ∷ 0 ∷ [] | some c ↦ capaWords c ]
+slotWords l i = elim (slotOf (l .held) i) [ none ↦ FREE ∷ slotOr0 (afterIn (l .free) i) ∷ 0 ∷ [] | some c ↦ capaWords c ]
 
 -- manager (link), core map, first tracker record (link), head, count, then S slots; a free domain's record is all zero
 abbrev pub domainWords : ℕ → Option Domain → List ℕ
@@ -61,11 +102,10 @@ domainWords n (some x) =
 
 -- ---- 6. regions, R records of 8 words
 
--- 0 is a free region
 abbrev pub kindWord : Kind → ℕ
-kindWord Root = 1
-kindWord (Alias p) = 2
-kindWord (Carve p) = 3
+kindWord Root = ROOT
+kindWord (Alias p) = ALIAS
+kindWord (Carve p) = CARVE
 
 -- the child list that a region stands in: its parent's
 abbrev pub siblings : List (Option Region) → Kind → List ℕ
@@ -101,11 +141,11 @@ recordSlotWords (some x ∷ ds) i = inTracker i (x .tracker) (recordSlotWords ds
 
 -- ---- 8. ring, U + 1 places of 4 words
 
--- kind (0 nothing, 1 permission, 2 cleanup), then domain slot, generation, core map; or start, end, 0
+-- kind, then domain slot, generation, core map; or start, end, 0
 abbrev pub updateWords : Option Update → List ℕ
-updateWords none = 0 ∷ 0 ∷ 0 ∷ 0 ∷ []
-updateWords (some (permission h cores)) = 1 ∷ h .slot ∷ h .gen ∷ cores ∷ []
-updateWords (some (cleanup a b)) = 2 ∷ a ∷ b ∷ 0 ∷ []
+updateWords none = NOTHING ∷ 0 ∷ 0 ∷ 0 ∷ []
+updateWords (some (permission h cores)) = PERMISSION ∷ h .slot ∷ h .gen ∷ cores ∷ []
+updateWords (some (cleanup a b)) = CLEANUP ∷ a ∷ b ∷ 0 ∷ []
 
 -- Place k: the queue's first update stands at the read place, the others follow it, going round.
 abbrev pub placeWords : ℕ → Queue → ℕ → List ℕ

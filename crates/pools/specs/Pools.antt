@@ -8,7 +8,7 @@ use lib.ListN.{length, getD, set, take, drop}
 use Rattle.words.specs.Cuts.{cuts, offset}
 use Rattle.sizes.specs.declared.Sizes.{Sizes}
 use Rattle.tables.specs.Tables.{Tables, Arena, withDomainPool, withRegionPool, withRecordPool}
-use Rattle.sizes.specs.Sizes.{sizesOf, widths, poolWidth}
+use Rattle.sizes.specs.Sizes.{sizesOf, widths, poolWidth, sections}
 use Rattle.tables.specs.View.{view, ofParts, Sized, Left, arenaOf}
 use Rattle.tables.specs.Sections.{section, section-inside, section-lent, section-back, only-left}
 use Rattle.pools.specs.declared.Pool.{Pool}
@@ -61,7 +61,7 @@ pool-changed t p Regions x e = ap (withRegionPool (view t)) e
 pool-changed t p Records x e = ap (withRecordPool (view t)) e
 
 -- a pool is one of the sections after the header
-pool-past : (t : List ℕ) (q : Pool) → (poolSection q < 8) × (5 ≤ offset (widths (sizesOf t)) (poolSection q))
+pool-past : (t : List ℕ) (q : Pool) → (poolSection q < sections) × (5 ≤ offset (widths (sizesOf t)) (poolSection q))
 unfolding offset
 pool-past t Domains = omega arith
 pool-past t Regions = omega arith

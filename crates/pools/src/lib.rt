@@ -10,6 +10,8 @@ ghost use Rattle.pools.specs.Pools.{poolSection, poolSlots, poolOf, with
 ghost use Rattle.pools.specs.Wiping.{wiped, slotFreed};
 use arena::Freed;
 use arena::Given;
+use sizes::HEADER_WIDTH;
+use sizes::POOL_HEAD;
 use tables::Handle;
 
 pub enum Pool {
@@ -29,9 +31,9 @@ fn slots_of(t: &[u64], q: Pool) -> usize
     ensures { λ r. ⌜ r ≡ poolSlots (sizesOf (now (t .entry))) q ⌝ }
 {
     match q {
-        Pool::Domains => words::size(t, 0),
-        Pool::Regions => words::size(t, 2),
-        Pool::Records => words::size(t, 3),
+        Pool::Domains => words::size(t, sizes::DOMAINS),
+        Pool::Regions => words::size(t, sizes::REGIONS),
+        Pool::Records => words::size(t, sizes::RECORDS),
     }
 }
 
@@ -40,12 +42,11 @@ fn start_of(t: &[u64], q: Pool) -> usize
     requires { ⌜ Sized (now t) ⌝ }
     ensures { λ r. ⌜ r ≡ offset (widths (sizesOf (now (t .entry)))) (poolSection q) ⌝ }
 {
-    let domains = words::size(t, 0);
-    let regions = words::size(t, 2);
+    let z = sizes::read_sizes(t);
     match q {
-        Pool::Domains => 7,
-        Pool::Regions => 9 + 2 * domains,
-        Pool::Records => 11 + 2 * (domains + regions),
+        Pool::Domains => HEADER_WIDTH,
+        Pool::Regions => sizes::region_pool_at(z),
+        Pool::Records => sizes::record_pool_at(z),
     }
 }
 
@@ -57,7 +58,7 @@ pub fn span_of(t: &[u64], q: Pool) -> Span
     let slots = slots_of(t, q);
     Span {
         start,
-        end: start + (2 + 2 * slots),
+        end: start + (POOL_HEAD + 2 * slots),
         slots,
     }
 }

@@ -73,7 +73,7 @@ fn largest_reach(t: &[u64], d: usize, start: u64, last: u64) -> u64
     ensures { λ r. ⌜ r ≡ largestReach start (last + 1) (recordsOf (view (now (t .entry))) d) ⌝ }
 {
     let mut most = 0;
-    let mut left = words::size(t, 3);
+    let mut left = words::size(t, sizes::RECORDS);
     let mut k = links::first(t, d);
     while 0 < left {
         if k == 0 {
@@ -107,7 +107,7 @@ fn count(t: &[u64], d: usize) -> u64
     ensures { λ r. ⌜ r ≡ length (recordsOf (view (now (t .entry))) d) ⌝ }
 {
     let mut n = 0;
-    let mut left = words::size(t, 3);
+    let mut left = words::size(t, sizes::RECORDS);
     let mut k = links::first(t, d);
     while 0 < left {
         if k == 0 {
@@ -164,7 +164,7 @@ pub fn holders(t: &[u64], a: u64, run: &mut [u64]) -> u64
     ensures { λ r. ⌜ r ≡ length (holdersOf (view (now (t .entry))) a) ⌝ }
     ensures { λ _. ⌜ now (run .exit) ≡ fillRun (holdersOf (view (now (t .entry))) a) (now (run .entry)) ⌝ }
 {
-    let mut left = words::size(t, 0);
+    let mut left = words::size(t, sizes::DOMAINS);
     let mut n: usize = 0;
     let mut d: usize = 0;
     while 0 < left {

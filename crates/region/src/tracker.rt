@@ -17,7 +17,7 @@ fn walk(t: &mut [u64], d: usize, way: Way, a: AccessRights, changed: u64) -> Ans
     ensures { λ r. ⌜ r ≡ walked way d a changed (view (now (t .entry))) .answer ⌝ }
     ensures { λ _. ⌜ Left (now (t .exit)) (walked way d a changed (view (now (t .entry))) .tables) ⌝ }
 {
-    let mut left = 3 * words::size(t, 3) + 3;
+    let mut left = 3 * words::size(t, sizes::RECORDS) + 3;
     let mut c = Cursor {
         prev: 0,
         at: links::first(t, d),

@@ -4,6 +4,7 @@ use Prim.Native.Nat.{ℕ}
 use lib.Dec.{eqb}
 use Rattle.words.specs.Cases.{pick}
 use Rattle.tables.specs.declared.Handle.{Handle}
+use Rattle.tables.specs.Kinds.{REGION, ROOT, ALIAS, CARVE}
 use Rattle.tables.specs.Tables.{Tables, regionAt}
 use Rattle.answers.specs.declared.Refusal.the-variants.{Beyond}
 use Rattle.answers.specs.Answers.{Step, done, refused, andThen}
@@ -16,17 +17,17 @@ use Rattle.checks.specs.Checks.{liveDomain, regionHeld, roomForRegion, capaOf}
 
 -- region i in domain d's list
 unfoldable pub heldRegion : ℕ → ℕ → Tables → Step
-heldRegion d i s = insert d (capaOf 2 (s .regionPool) i) s
+heldRegion d i s = insert d (capaOf REGION (s .regionPool) i) s
 
 unfoldable pub createRootRegion : Handle → AccessRights → Tables → Step
 createRootRegion h a s =
     andThen (liveDomain h s) (λ d s₁.
     andThen (roomForRegion d a s₁) (λ u s₂.
-    andThen (newRegion (capaFor d 1 0 a) s₂) (λ i s₃.
+    andThen (newRegion (capaFor d ROOT 0 a) s₂) (λ i s₃.
     andThen (heldRegion d i s₃) (λ l s₄.
     andThen (activate d a s₄) (λ v. done l)))))
 
--- a child of region p, of kind 2 or 3
+-- a child of region p, an alias or a carve by that kind
 unfoldable pub addChild : ℕ → ℕ → ℕ → AccessRights → Tables → Step
 addChild d p kind a s = andThen (newRegion (capaFor d kind (linkTo p) a) s) (λ i s₁. heldRegion d i (insertChild s₁ p i))
 
@@ -35,7 +36,7 @@ aliasRegion h l a s =
     andThen (liveDomain h s) (λ d s₁.
     andThen (regionHeld d l s₁) (λ p s₂.
     andThen (roomForRegion d a s₂) (λ u s₃.
-    pick (checkChild true s₃ p a) (andThen (addChild d p 2 a s₃) (λ n s₄. andThen (activate d a s₄) (λ v. done n))) (refused Beyond s₃))))
+    pick (checkChild true s₃ p a) (andThen (addChild d p ALIAS a s₃) (λ n s₄. andThen (activate d a s₄) (λ v. done n))) (refused Beyond s₃))))
 
 -- the range is lost with the parent's rights and gained with its own, where these differ
 unfoldable pub exchangeRights : ℕ → ℕ → AccessRights → Tables → Step
@@ -48,4 +49,4 @@ carveRegion h l a s =
     andThen (regionHeld d l s₁) (λ p s₂.
     andThen (roomForRegion d a s₂) (λ u s₃.
     pick (checkChild false s₃ p a)
-    (andThen (addChild d p 3 a s₃) (λ n s₄. andThen (exchangeRights d (regionAt s₃ p .rights) a s₄) (λ v. done n))) (refused Beyond s₃))))
+    (andThen (addChild d p CARVE a s₃) (λ n s₄. andThen (exchangeRights d (regionAt s₃ p .rights) a s₄) (λ v. done n))) (refused Beyond s₃))))

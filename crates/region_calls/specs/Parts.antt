@@ -4,6 +4,7 @@ use mathlib.Core.Bool.{true, false}
 use Prim.Native.Nat.{ℕ}
 use Rattle.words.specs.Cases.{pick}
 use Rattle.tables.specs.declared.Handle.{Handle}
+use Rattle.tables.specs.Kinds.{ROOT, ALIAS, CARVE}
 use Rattle.tables.specs.Tables.{Tables, regionAt}
 use Rattle.answers.specs.declared.Refusal.the-variants.{Beyond}
 use Rattle.answers.specs.Answers.{Step, done, refused, andThen}
@@ -16,16 +17,16 @@ use Rattle.region_calls.specs.Calls.{heldRegion, createRootRegion, addCh
 
 unfoldable pub rooted : ℕ → AccessRights → Tables → Step
 rooted d a s =
-    andThen (newRegion (capaFor d 1 0 a) s) (λ i s₁. andThen (heldRegion d i s₁) (λ l s₂. andThen (activate d a s₂) (λ v. done l)))
+    andThen (newRegion (capaFor d ROOT 0 a) s) (λ i s₁. andThen (heldRegion d i s₁) (λ l s₂. andThen (activate d a s₂) (λ v. done l)))
 
 unfoldable pub aliased : ℕ → ℕ → AccessRights → Tables → Step
 aliased d p a s =
-    pick (checkChild true s p a) (andThen (addChild d p 2 a s) (λ n s₁. andThen (activate d a s₁) (λ v. done n))) (refused Beyond s)
+    pick (checkChild true s p a) (andThen (addChild d p ALIAS a s) (λ n s₁. andThen (activate d a s₁) (λ v. done n))) (refused Beyond s)
 
 unfoldable pub carved : ℕ → ℕ → AccessRights → Tables → Step
 carved d p a s =
     pick (checkChild false s p a)
-    (andThen (addChild d p 3 a s) (λ n s₁. andThen (exchangeRights d (regionAt s p .rights) a s₁) (λ v. done n))) (refused Beyond s)
+    (andThen (addChild d p CARVE a s) (λ n s₁. andThen (exchangeRights d (regionAt s p .rights) a s₁) (λ v. done n))) (refused Beyond s)
 
 pub root-is : (h : Handle) (a : AccessRights) (s : Tables) → createRootRegion h a s ≡ andThen (liveDomain h s) (λ d s₁. andThen (roomForRegion d a s₁) (λ u. rooted d a))
 unfolding createRootRegion rooted

@@ -7,14 +7,12 @@ use calls::Call;
 use calls::Child;
 use region::AccessRights;
 use rights::Rights;
+use sizes::MOST_WORDS;
 use sizes::Sizes;
 use tables::Handle;
 
 pub mod input;
 pub mod output;
-
-// The words of the largest tables.
-const WORDS: usize = 34545;
 
 pub const MAKE: u64 = 16;
 
@@ -287,7 +285,7 @@ fn run_all(t: &mut [u64], w: &mut [u64]) {
 }
 
 fn main() {
-    let mut t = [0u64; WORDS];
-    let mut w = [0u64; WORDS];
+    let mut t = [0u64; MOST_WORDS];
+    let mut w = [0u64; MOST_WORDS];
     run_all(&mut t, &mut w);
 }

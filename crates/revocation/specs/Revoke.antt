@@ -4,6 +4,7 @@ use lib.Dec.{eqb}
 use Rattle.words.specs.Cases.{pick}
 use Rattle.rights.specs.Rights.{has, CLEANUP}
 use Rattle.tables.specs.declared.RegionCapa.{RegionCapa}
+use Rattle.tables.specs.Kinds.{ROOT, CARVE}
 use Rattle.tables.specs.Links.{slotTo}
 use Rattle.tables.specs.Tables.{Tables, regionAt}
 use Rattle.answers.specs.declared.Refusal.the-variants.{Memory}
@@ -12,15 +13,15 @@ use Rattle.domain.specs.Activate.{activate, deactivate, cleanup}
 use Rattle.segment.specs.Children.{removeChild}
 use Rattle.segment.specs.Regions.{access, freedRegion}
 
--- a root, kind 1, is in no list (the model's leaveParent)
+-- a root is in no list (the model's leaveParent)
 unfoldable pub leaveParent : ℕ → Tables → Tables
-leaveParent i s = pick (eqb (regionAt s i .kind) 1) s (removeChild s (slotTo (regionAt s i .parent)) i)
+leaveParent i s = pick (eqb (regionAt s i .kind) ROOT) s (removeChild s (slotTo (regionAt s i .parent)) i)
 
--- what a carve, kind 3, held goes back to its parent's domain with the parent's rights (the model's giveBack)
+-- what a carve held goes back to its parent's domain with the parent's rights (the model's giveBack)
 unfoldable pub giveBack : RegionCapa → Tables → Step
 giveBack g s =
     let p = regionAt s (slotTo (g .parent)) in
-    pick (eqb (g .kind) 3) (activate (slotTo (p .owner)) (access (g .start) (g .end) (p .rights)) s) (done 0 s)
+    pick (eqb (g .kind) CARVE) (activate (slotTo (p .owner)) (access (g .start) (g .end) (p .rights)) s) (done 0 s)
 
 unfoldable pub cleanupIf : RegionCapa → Tables → Step
 cleanupIf g s = pick (has (g .rights % 256) CLEANUP) (cleanup (g .start) (g .end) s) (done 0 s)

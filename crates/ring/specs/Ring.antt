@@ -8,6 +8,7 @@ use lib.ListN.{getD, set}
 use lib.Dec.{ltb, eqb}
 use Rattle.words.specs.Cases.{pick, both, both-true}
 use Rattle.tables.specs.declared.Update.{Update}
+use Rattle.tables.specs.Kinds.{PERMISSION, CLEANUP}
 use Rattle.tables.specs.Tables.{noUpdate}
 use Rattle.ring.specs.declared.Ring.{Ring}
 use Rattle.ring.specs.declared.PushOut.{PushOut}
@@ -18,10 +19,10 @@ abbrev pub cap : ℕ
 cap = 129
 
 abbrev pub permissionOf : ℕ → ℕ → ℕ → Update
-permissionOf d g m = record { kind = 1; a = d; b = g; c = m }
+permissionOf d g m = record { kind = PERMISSION; a = d; b = g; c = m }
 
 abbrev pub cleanupOf : ℕ → ℕ → Update
-cleanupOf s e = record { kind = 2; a = s; b = e; c = 0 }
+cleanupOf s e = record { kind = CLEANUP; a = s; b = e; c = 0 }
 
 -- the place after i in a ring of n places
 unfoldable pub afterOf : ℕ → ℕ → ℕ
@@ -60,7 +61,7 @@ inside m n i b e h = ltb-true i cap (both-true (not (eqb m n)) (ltb i cap) (sym 
 
 -- whether it is a permission update of the domain with that handle
 unfoldable pub namesOf : Update → ℕ → ℕ → Bool
-namesOf u d g = both (eqb (u .kind) 1) (both (eqb (u .a) d) (eqb (u .b) g))
+namesOf u d g = both (eqb (u .kind) PERMISSION) (both (eqb (u .a) d) (eqb (u .b) g))
 
 -- whether one of the next n places from i on, up to the write place, has one
 unfoldable pub queuedFrom : Ring → ℕ → ℕ → ℕ → ℕ → Bool

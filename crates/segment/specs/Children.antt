@@ -4,6 +4,7 @@ use Prim.Native.Nat.{ℕ, zero, suc, _%_}
 use lib.Dec.{eqb, ltb, leb}
 use Rattle.words.specs.Cases.{pick, both}
 use Rattle.tables.specs.declared.RegionCapa.{RegionCapa}
+use Rattle.tables.specs.Kinds.{CARVE}
 use Rattle.tables.specs.Tables.{Tables, regionAt, withRegion}
 use Rattle.rights.specs.Rights.{allowed}
 use Rattle.region.specs.declared.AccessRights.{AccessRights}
@@ -28,7 +29,7 @@ withOwner r k = record { kind = r .kind; owner = k; parent = r .parent; start = 
 
 -- a range and a region overlap; touching ranges do not (the model's overlaps)
 unfoldable pub overlapsB : Overlap → RegionCapa → Bool
-overlapsB o r = both (pick (o .carves) (eqb (r .kind) 3) true) (both (ltb (o .start) (r .end)) (ltb (r .start) (o .end)))
+overlapsB o r = both (pick (o .carves) (eqb (r .kind) CARVE) true) (both (ltb (o .start) (r .end)) (ltb (r .start) (o .end)))
 
 -- the child with link k, region r, ends the search
 abbrev pub endsB : Search → ℕ → RegionCapa → Bool

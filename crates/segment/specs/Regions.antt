@@ -3,6 +3,7 @@ use Prim.Native.Nat.{ℕ, zero, suc, _%_}
 use lib.Dec.{eqb, ltb}
 use Rattle.words.specs.Cases.{pick}
 use Rattle.tables.specs.declared.RegionCapa.{RegionCapa}
+use Rattle.tables.specs.Kinds.{CARVE}
 use Rattle.tables.specs.Tables.{Tables, regionAt, withRegion, withRegionPool}
 use Rattle.arena.specs.declared.Given.{Given}
 use Rattle.arena.specs.declared.Given.the-variants.{At, Full}
@@ -55,7 +56,7 @@ sendFrom old new r e zero x k s = refused Memory s
 sendFrom old new r e (suc n) x k s =
     let c = regionAt s (slotTo k) in
     pick (eqb k 0) (movePiece old new r x e s)
-    (pick (eqb (c .kind) 3) (andThen (movePiece old new r x (c .start) s) (λ v. sendFrom old new r e n (c .end) (c .next))) (sendFrom old new r e n x (c .next) s))
+    (pick (eqb (c .kind) CARVE) (andThen (movePiece old new r x (c .start) s) (λ v. sendFrom old new r e n (c .end) (c .next))) (sendFrom old new r e n x (c .next) s))
 
 -- region i becomes domain new's, with its effective ranges (the model's sendRegion)
 unfoldable pub sendRegion : ℕ → ℕ → Tables → Step

@@ -44,7 +44,7 @@ fn find(t: &[u64], p: usize, search: Search) -> Place
     let parent = tables::load_region(t, p);
     let mut prev = 0;
     let mut at = parent.child;
-    let mut left = words::size(t, 2);
+    let mut left = words::size(t, sizes::REGIONS);
     while 0 < left {
         if at == 0 {
             return Place { prev, at };

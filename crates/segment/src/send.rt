@@ -51,7 +51,7 @@ pub fn send_region(t: &mut [u64], i: usize, new: usize) -> Answer
     ensures { λ r. ⌜ r ≡ sendRegion i new (view (now (t .entry))) .answer ⌝ }
     ensures { λ _. ⌜ Left (now (t .exit)) (sendRegion i new (view (now (t .entry))) .tables) ⌝ }
 {
-    let limit = words::size(t, 2) + 1;
+    let limit = words::size(t, sizes::REGIONS) + 1;
     let g = tables::load_region(t, i);
     let mut h = g;
     h.owner = tables::link_to(new as u64);

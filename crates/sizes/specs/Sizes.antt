@@ -8,17 +8,42 @@ use Rattle.sizes.specs.declared.Sizes.{Sizes}
 unfoldable pub sizesOf : List ℕ → Sizes
 sizesOf t = record { domains = getD t 0 0; slots = getD t 1 0; regions = getD t 2 0; records = getD t 3 0; updates = getD t 4 0 }
 
+-- ---- how many words each has: the header; a domain before its slots; a slot; a region; a tracker record; a ring place
+
+abbrev pub headerWidth : ℕ
+headerWidth = 7
+
+abbrev pub headWidth : ℕ
+headWidth = 5
+
+abbrev pub slotWidth : ℕ
+slotWidth = 3
+
+abbrev pub regionWidth : ℕ
+regionWidth = 8
+
+abbrev pub recordWidth : ℕ
+recordWidth = 9
+
+abbrev pub updateWidth : ℕ
+updateWidth = 4
+
+-- a domain with its slots
 abbrev pub stride : Sizes → ℕ
-stride z = 5 + z .slots * 3
+stride z = headWidth + z .slots * slotWidth
 
 abbrev pub poolWidth : ℕ → ℕ
 poolWidth n = 2 + (n + n)
 
+-- how many sections there are
+abbrev pub sections : ℕ
+sections = 8
+
 -- the widths of the sections: header, three pools, domains, regions, tracker records, ring
 abbrev pub widths : Sizes → List ℕ
 widths z =
-    7 ∷ poolWidth (z .domains) ∷ poolWidth (z .regions) ∷ poolWidth (z .records) ∷ (z .domains * stride z) ∷ (z .regions * 8) ∷ (z .records * 9) ∷ ((z .updates + 1) * 4) ∷ []
+    headerWidth ∷ poolWidth (z .domains) ∷ poolWidth (z .regions) ∷ poolWidth (z .records) ∷ (z .domains * stride z) ∷ (z .regions * regionWidth) ∷ (z .records * recordWidth) ∷ ((z .updates + 1) * updateWidth) ∷ []
 
 unfoldable pub total : Sizes → ℕ
 unfolding offset
-total z = offset (widths z) 8
+total z = offset (widths z) sections

@@ -3,7 +3,60 @@ ghost use mathlib.Core.Path.{_≡_};
 ghost use Rattle.words.specs.Cuts.{offset};
 ghost use Rattle.sizes.specs.Limits.{Limits, withinB, limitsB};
 ghost use Rattle.sizes.specs.Tests.{sizedB};
-ghost use Rattle.sizes.specs.Sizes.{sizesOf, widths, total};
+ghost use Rattle.sizes.specs.Sizes.{sizesOf, stride, widths, total};
+
+// ---- The header's words: five sizes, and the ring's two places
+
+pub const DOMAINS: usize = 0;
+
+pub const SLOTS: usize = 1;
+
+pub const REGIONS: usize = 2;
+
+pub const RECORDS: usize = 3;
+
+pub const UPDATES: usize = 4;
+
+pub const READ: usize = 5;
+
+pub const WRITE: usize = 6;
+
+// ---- How many words each has: the header; a domain before its slots; a slot; a region; a tracker record; a ring place
+
+pub const HEADER_WIDTH: usize = 7;
+
+// a pool's head and count, before two words for each slot
+pub const POOL_HEAD: usize = 2;
+
+pub const HEAD_WIDTH: usize = 5;
+
+pub const SLOT_WIDTH: usize = 3;
+
+pub const REGION_WIDTH: usize = 8;
+
+pub const RECORD_WIDTH: usize = 9;
+
+pub const UPDATE_WIDTH: usize = 4;
+
+// ---- The limits, and the words of the largest tables
+
+pub const MOST_DOMAINS: usize = 32;
+
+pub const MOST_SLOTS: usize = 128;
+
+pub const MOST_REGIONS: usize = 1024;
+
+pub const MOST_RECORDS: usize = 1024;
+
+pub const MOST_UPDATES: usize = 128;
+
+pub const MOST_WORDS: usize = HEADER_WIDTH
+    + 3 * POOL_HEAD
+    + 2 * (MOST_DOMAINS + MOST_REGIONS + MOST_RECORDS)
+    + MOST_DOMAINS * (HEAD_WIDTH + MOST_SLOTS * SLOT_WIDTH)
+    + MOST_REGIONS * REGION_WIDTH
+    + MOST_RECORDS * RECORD_WIDTH
+    + (MOST_UPDATES + 1) * UPDATE_WIDTH;
 
 // How many of each the tables hold; `slots` in each domain.
 pub struct Sizes {
@@ -18,11 +71,11 @@ pub fn read_sizes(t: &[u64]) -> Sizes
     ensures { λ r. ⌜ r ≡ sizesOf (now (t .entry)) ⌝ }
 {
     Sizes {
-        domains: words::size(t, 0),
-        slots: words::size(t, 1),
-        regions: words::size(t, 2),
-        records: words::size(t, 3),
-        updates: words::size(t, 4),
+        domains: words::size(t, DOMAINS),
+        slots: words::size(t, SLOTS),
+        regions: words::size(t, REGIONS),
+        records: words::size(t, RECORDS),
+        updates: words::size(t, UPDATES),
     }
 }
 
@@ -36,46 +89,71 @@ fn within(n: usize, high: usize) -> bool
 pub fn limits_hold(z: Sizes) -> bool
     ensures { λ r. ⌜ r ≡ limitsB z ⌝ }
 {
-    let domains = words::both(within(z.domains, 32), within(z.slots, 128));
-    let pools = words::both(within(z.regions, 1024), within(z.records, 1024));
-    words::both(domains, words::both(pools, within(z.updates, 128)))
+    let domains = words::both(within(z.domains, MOST_DOMAINS), within(z.slots, MOST_SLOTS));
+    let pools = words::both(
+        within(z.regions, MOST_REGIONS),
+        within(z.records, MOST_RECORDS),
+    );
+    words::both(domains, words::both(pools, within(z.updates, MOST_UPDATES)))
 }
 
-// ---- Where the sections of records start
+// How many words a domain with its slots has.
+pub fn domain_width(z: Sizes) -> usize
+    requires { ⌜ Limits z ⌝ }
+    ensures { λ r. ⌜ r ≡ stride z ⌝ }
+{
+    HEAD_WIDTH + z.slots * SLOT_WIDTH
+}
+
+// ---- Where the sections start: the domain pool behind the header, each other one behind the section before it
+
+pub fn region_pool_at(z: Sizes) -> usize
+    requires { ⌜ Limits z ⌝ }
+    ensures { λ r. ⌜ r ≡ offset (widths z) 2 ⌝ }
+{
+    HEADER_WIDTH + (POOL_HEAD + 2 * z.domains)
+}
+
+pub fn record_pool_at(z: Sizes) -> usize
+    requires { ⌜ Limits z ⌝ }
+    ensures { λ r. ⌜ r ≡ offset (widths z) 3 ⌝ }
+{
+    region_pool_at(z) + (POOL_HEAD + 2 * z.regions)
+}
 
 pub fn domains_at(z: Sizes) -> usize
     requires { ⌜ Limits z ⌝ }
     ensures { λ r. ⌜ r ≡ offset (widths z) 4 ⌝ }
 {
-    13 + 2 * (z.domains + z.regions + z.records)
+    record_pool_at(z) + (POOL_HEAD + 2 * z.records)
 }
 
 pub fn regions_at(z: Sizes) -> usize
     requires { ⌜ Limits z ⌝ }
     ensures { λ r. ⌜ r ≡ offset (widths z) 5 ⌝ }
 {
-    domains_at(z) + z.domains * (5 + z.slots * 3)
+    domains_at(z) + z.domains * domain_width(z)
 }
 
 pub fn records_at(z: Sizes) -> usize
     requires { ⌜ Limits z ⌝ }
     ensures { λ r. ⌜ r ≡ offset (widths z) 6 ⌝ }
 {
-    regions_at(z) + z.regions * 8
+    regions_at(z) + z.regions * REGION_WIDTH
 }
 
 pub fn ring_at(z: Sizes) -> usize
     requires { ⌜ Limits z ⌝ }
     ensures { λ r. ⌜ r ≡ offset (widths z) 7 ⌝ }
 {
-    records_at(z) + z.records * 9
+    records_at(z) + z.records * RECORD_WIDTH
 }
 
 pub fn total_of(z: Sizes) -> usize
     requires { ⌜ Limits z ⌝ }
     ensures { λ r. ⌜ r ≡ total z ⌝ }
 {
-    ring_at(z) + (z.updates + 1) * 4
+    ring_at(z) + (z.updates + 1) * UPDATE_WIDTH
 }
 
 // Whether the words are as many as the sizes in their header ask.

@@ -5,6 +5,7 @@ use lib.Dec.{ltb, eqb}
 use lib.ListN.{getD, set, take, replicate}
 use Rattle.words.specs.Cases.{pick, both}
 use Rattle.tables.specs.declared.Slot.{Slot}
+use Rattle.tables.specs.Kinds.{FREE}
 use Rattle.tables.specs.Tables.{noSlot}
 use Rattle.slot_list.specs.declared.SlotList.{SlotList}
 use Rattle.slot_list.specs.declared.Given.{Given}
@@ -15,10 +16,10 @@ abbrev pub noList : SlotList
 noList = record { slots = replicate 128 noSlot; head = 0; count = 0; size = 0 }
 
 abbrev pub freeSlot : ℕ → Slot
-freeSlot next = record { kind = 1; handle = record { slot = next; generation = 0 } }
+freeSlot next = record { kind = FREE; handle = record { slot = next; generation = 0 } }
 
 abbrev pub isFreeB : Slot → Bool
-isFreeB x = eqb (x .kind) 1
+isFreeB x = eqb (x .kind) FREE
 
 -- slot i; past the size a free one
 unfoldable pub slotIn : SlotList → ℕ → Slot

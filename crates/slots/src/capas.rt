@@ -14,8 +14,8 @@ fn has_room(t: &[u64], d: usize) -> bool
     ensures { λ r. ⌜ r ≡ roomB (view (now (t .entry))) d ⌝ }
 {
     let h = tables::load_head(t, d);
-    let room = (h.count as usize) < words::size(t, 1);
-    words::both(d < words::size(t, 0), room)
+    let room = (h.count as usize) < words::size(t, sizes::SLOTS);
+    words::both(d < words::size(t, sizes::DOMAINS), room)
 }
 
 // Whether a slot is free, a full list being swept first (document 01, 12 NoLocal).
@@ -71,7 +71,10 @@ pub fn capa_at(t: &[u64], d: usize, i: usize) -> Slot
     requires { ⌜ Sized (now t) ⌝ }
     ensures { λ r. ⌜ r ≡ capaAt (view (now (t .entry))) d i ⌝ }
 {
-    if words::both(d < words::size(t, 0), i < words::size(t, 1)) {
+    if words::both(
+        d < words::size(t, sizes::DOMAINS),
+        i < words::size(t, sizes::SLOTS),
+    ) {
         tables::load_slot(t, d, i)
     } else {
         slot_list::free_slot(0)

@@ -9,6 +9,7 @@ use Rattle.words.specs.Cases.{pick, both}
 use Rattle.sizes.specs.declared.Sizes.{Sizes}
 use Rattle.tables.specs.declared.Handle.{Handle}
 use Rattle.tables.specs.declared.Slot.{Slot}
+use Rattle.tables.specs.Kinds.{REGION, «REGION_REVOKE», MANAGEMENT, CHANNEL, ROOT}
 use Rattle.tables.specs.Tables.{Tables, Arena, headAt, slotAt, regionAt}
 use Rattle.arena.specs.Arena.{isFreeB, liveB, capacityOf}
 use Rattle.sound_capas.specs.Claims.{claimsHold}
@@ -44,7 +45,7 @@ regionClaim v d h =
 
 -- "no RegionRevoke names a live root"
 unfoldable pub revokeClaim : Tables → Handle → ℕ
-revokeClaim v h = claimBy (wrong (v .sizes)) (v .regionPool) h (pick (eqb (regionAt v (h .slot) .kind) 1) (wrong (v .sizes)) 0)
+revokeClaim v h = claimBy (wrong (v .sizes)) (v .regionPool) h (pick (eqb (regionAt v (h .slot) .kind) ROOT) (wrong (v .sizes)) 0)
 
 -- "each live managed domain has one Management slot, in its manager's list"
 unfoldable pub managementClaim : Tables → ℕ → Handle → ℕ
@@ -57,10 +58,10 @@ channelClaim v h = claimBy (wrong (v .sizes)) (v .domainPool) h 0
 
 unfoldable pub slotClaim : Tables → ℕ → Slot → ℕ
 slotClaim v d x =
-    pick (eqb (x .kind) 2) (regionClaim v d (x .handle))
-    (pick (eqb (x .kind) 3) (revokeClaim v (x .handle))
-    (pick (eqb (x .kind) 4) (managementClaim v d (x .handle))
-    (pick (eqb (x .kind) 5) (channelClaim v (x .handle)) 0)))
+    pick (eqb (x .kind) REGION) (regionClaim v d (x .handle))
+    (pick (eqb (x .kind) «REGION_REVOKE») (revokeClaim v (x .handle))
+    (pick (eqb (x .kind) MANAGEMENT) (managementClaim v d (x .handle))
+    (pick (eqb (x .kind) CHANNEL) (channelClaim v (x .handle)) 0)))
 
 -- ---- a domain's head
 

@@ -9,6 +9,7 @@ use crate::reads;
 use pools::Pool;
 use sizes::Sizes;
 use tables::Handle;
+use tables::RegionCapa;
 use tables::Slot;
 
 fn wrong_of(z: Sizes) -> usize
@@ -46,7 +47,13 @@ fn revoke_claim(t: &[u64], h: Handle) -> usize
 {
     let bad = wrong_of(sizes::read_sizes(t));
     let g = tables::load_region(t, h.slot as usize);
-    claim_by(t, Pool::Regions, bad, h, reads::select(g.kind == 1, bad, 0))
+    claim_by(
+        t,
+        Pool::Regions,
+        bad,
+        h,
+        reads::select(g.kind == RegionCapa::ROOT, bad, 0),
+    )
 }
 
 fn management_claim(t: &[u64], d: usize, h: Handle) -> usize
@@ -75,16 +82,16 @@ fn slot_claim(t: &[u64], d: usize, x: Slot) -> usize
 {
     let kind = x.kind;
     let h = x.handle;
-    if kind == 2 {
+    if kind == Slot::REGION {
         return region_claim(t, d, h);
     }
-    if kind == 3 {
+    if kind == Slot::REGION_REVOKE {
         return revoke_claim(t, h);
     }
-    if kind == 4 {
+    if kind == Slot::MANAGEMENT {
         return management_claim(t, d, h);
     }
-    if kind == 5 {
+    if kind == Slot::CHANNEL {
         return channel_claim(t, h);
     }
     0
@@ -135,7 +142,7 @@ fn row_claim(t: &[u64], d: usize, j: usize) -> usize
     if pools::is_free_in(t, Pool::Domains, d) {
         return 0;
     }
-    if j < words::size(t, 1) {
+    if j < words::size(t, sizes::SLOTS) {
         return slot_claim(t, d, tables::load_slot(t, d, j));
     }
     head_claim(t, d)

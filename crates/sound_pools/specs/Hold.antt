@@ -11,6 +11,7 @@ use Rattle.tables.specs.declared.DomainHead.{DomainHead}
 use Rattle.tables.specs.declared.Slot.{Slot}
 use Rattle.tables.specs.declared.RegionCapa.{RegionCapa}
 use Rattle.tables.specs.declared.Region.{Region}
+use Rattle.tables.specs.Kinds.{NONE, FREE, CHANNEL}
 use Rattle.tables.specs.Tables.{Tables, headAt, slotAt, regionAt, recordAt}
 use Rattle.sound_pools.specs.declared.links.Stack.{Stack}
 use Rattle.sound_pools.specs.declared.links.Stack.the-variants.{Domains, Regions, Records, Slots, Trackers}
@@ -32,7 +33,7 @@ unfoldable pub eligible : Tables → Stack → ℕ → Bool
 eligible v Domains i = ltb 0 (getD (v .domainPool .links) i 0)
 eligible v Regions i = ltb 0 (getD (v .regionPool .links) i 0)
 eligible v Records i = ltb 0 (getD (v .recordPool .links) i 0)
-eligible v (Slots d) i = eqb (slotAt v d i .kind) 1
+eligible v (Slots d) i = eqb (slotAt v d i .kind) FREE
 eligible v Trackers i = eqb (getD (v .recordPool .links) i 0) 0
 
 -- May a walk meet slot i?
@@ -94,7 +95,7 @@ slotClear x = both (eqb (x .kind) 0) (both (eqb (x .handle .slot) 0) (eqb (x .ha
 
 -- the kind is known; no slot word where it is `Capa::None`, no generation where it is that or free
 unfoldable pub slotTidy : Slot → Bool
-slotTidy x = pick (leb (x .kind) 1) (pick (eqb (x .kind) 0) (both (eqb (x .handle .generation) 0) (eqb (x .handle .slot) 0)) (eqb (x .handle .generation) 0)) (leb (x .kind) 5)
+slotTidy x = pick (leb (x .kind) FREE) (pick (eqb (x .kind) NONE) (both (eqb (x .handle .generation) 0) (eqb (x .handle .slot) 0)) (eqb (x .handle .generation) 0)) (leb (x .kind) CHANNEL)
 
 unfoldable pub regionClear : RegionCapa → Bool
 regionClear r =

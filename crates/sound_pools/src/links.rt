@@ -8,6 +8,7 @@ ghost use Rattle.sound_pools.specs.Walk.{linkTo, mark as markB};
 ghost use Rattle.sound_pools.specs.Hold.{slotsOf, eligible as eligibleB, mayMeet, nextOf, topOf};
 ghost use Rattle.sound_pools.specs.Loops.{topIn};
 use pools::Pool;
+use tables::Slot;
 
 // The free stacks of the three pools and of domain d's list, and the records that are in use.
 pub enum Stack {
@@ -68,11 +69,11 @@ pub fn slots_of(t: &[u64], s: Stack) -> usize
     ensures { λ r. ⌜ r ≡ slotsOf (view (now (t .entry))) s ⌝ }
 {
     match s {
-        Stack::Domains => words::size(t, 0),
-        Stack::Regions => words::size(t, 2),
-        Stack::Records => words::size(t, 3),
-        Stack::Slots(_) => words::size(t, 1),
-        Stack::Trackers => words::size(t, 3),
+        Stack::Domains => words::size(t, sizes::DOMAINS),
+        Stack::Regions => words::size(t, sizes::REGIONS),
+        Stack::Records => words::size(t, sizes::RECORDS),
+        Stack::Slots(_) => words::size(t, sizes::SLOTS),
+        Stack::Trackers => words::size(t, sizes::RECORDS),
     }
 }
 
@@ -84,7 +85,7 @@ fn eligible(t: &[u64], s: Stack, i: usize) -> bool
         Stack::Domains => 0 < link_in(t, Pool::Domains, i),
         Stack::Regions => 0 < link_in(t, Pool::Regions, i),
         Stack::Records => 0 < link_in(t, Pool::Records, i),
-        Stack::Slots(d) => tables::load_slot(t, d, i).kind == 1,
+        Stack::Slots(d) => tables::load_slot(t, d, i).kind == Slot::FREE,
         Stack::Trackers => link_in(t, Pool::Records, i) == 0,
     }
 }
@@ -104,7 +105,10 @@ pub fn next_of(t: &[u64], s: Stack, i: usize) -> u64
         Stack::Domains => link_in(t, Pool::Domains, i),
         Stack::Regions => link_in(t, Pool::Regions, i),
         Stack::Records => link_in(t, Pool::Records, i),
-        Stack::Slots(d) => link_to(words::size(t, 1), tables::load_slot(t, d, i).handle.slot),
+        Stack::Slots(d) => link_to(
+            words::size(t, sizes::SLOTS),
+            tables::load_slot(t, d, i).handle.slot,
+        ),
         Stack::Trackers => tables::load_record(t, i).next,
     }
 }

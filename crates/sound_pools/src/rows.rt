@@ -84,7 +84,7 @@ fn slots_hold(t: &[u64], d: usize, free: bool) -> bool
     requires { ⌜ Sized (now t) ⌝ }
     ensures { λ r. ⌜ r ≡ slotsHold (view (now (t .entry))) d free ⌝ }
 {
-    let n = words::size(t, 1);
+    let n = words::size(t, sizes::SLOTS);
     let mut j = 0;
     while j < n {
         let fits = slot_fits(free, tables::load_slot(t, d, j));

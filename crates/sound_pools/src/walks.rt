@@ -83,8 +83,8 @@ fn trackers_mark(t: &[u64], w: &mut [u64]) -> bool
     requires { ⌜ length (now w) ≡ length (now t) ⌝ }
     ensures { λ r. ⌜ TrackersMarked (view (now (t .entry))) (now (w .entry)) r (now (w .exit)) ⌝ }
 {
-    let n = words::size(t, 0);
-    let records = words::size(t, 3);
+    let n = words::size(t, sizes::DOMAINS);
+    let records = words::size(t, sizes::RECORDS);
     let mut d = 0;
     while d < n {
         if !links::may_meet(t, Stack::Domains, d) {

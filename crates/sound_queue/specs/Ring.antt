@@ -7,23 +7,24 @@ use Rattle.words.specs.Cases.{pick, both}
 use Rattle.tables.specs.declared.Update.{Update}
 use Rattle.tables.specs.declared.Handle.{Handle}
 use Rattle.tables.specs.Tables.{Tables, updateAt}
+use Rattle.tables.specs.Kinds.{NOTHING, PERMISSION, CLEANUP}
 use Rattle.arena.specs.Arena.{liveB}
 
 -- ---- one update
 
 abbrev pub clearB : Update → Bool
-clearB u = both (both (eqb (u .kind) 0) (eqb (u .a) 0)) (both (eqb (u .b) 0) (eqb (u .c) 0))
+clearB u = both (both (eqb (u .kind) NOTHING) (eqb (u .a) 0)) (both (eqb (u .b) 0) (eqb (u .c) 0))
 
 -- a permission update, or a cleanup, which has two words
 abbrev pub tidyB : Update → Bool
-tidyB u = pick (eqb (u .kind) 1) true (both (eqb (u .kind) 2) (eqb (u .c) 0))
+tidyB u = pick (eqb (u .kind) PERMISSION) true (both (eqb (u .kind) CLEANUP) (eqb (u .c) 0))
 
 abbrev pub handleAt : Update → Handle
 handleAt u = record { slot = u .a; generation = u .b }
 
 -- "queued domains are live"
 abbrev pub liveIn : Tables → Update → Bool
-liveIn v u = pick (eqb (u .kind) 1) (liveB (v .domainPool) (handleAt u)) true
+liveIn v u = pick (eqb (u .kind) PERMISSION) (liveB (v .domainPool) (handleAt u)) true
 
 -- an update that is queued, or a place where none is
 unfoldable pub updateFits : Tables → Update → Bool → Bool
@@ -31,7 +32,7 @@ updateFits v u queued = pick queued (both (tidyB u) (liveIn v u)) (clearB u)
 
 -- both are permission updates of the same handle: slot and generation
 unfoldable pub sameDomain : Update → Update → Bool
-sameDomain u x = both (both (eqb (u .kind) 1) (eqb (x .kind) 1)) (both (eqb (u .a) (x .a)) (eqb (u .b) (x .b)))
+sameDomain u x = both (both (eqb (u .kind) PERMISSION) (eqb (x .kind) PERMISSION)) (both (eqb (u .a) (x .a)) (eqb (u .b) (x .b)))
 
 -- ---- the updates by number
 

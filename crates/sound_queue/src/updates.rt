@@ -8,17 +8,17 @@ use tables::Update;
 fn is_clear(u: Update) -> bool
     ensures { λ r. ⌜ r ≡ clearB u ⌝ }
 {
-    let front = words::both(u.kind == 0, u.a == 0);
+    let front = words::both(u.kind == Update::NOTHING, u.a == 0);
     words::both(front, words::both(u.b == 0, u.c == 0))
 }
 
 fn is_tidy(u: Update) -> bool
     ensures { λ r. ⌜ r ≡ tidyB u ⌝ }
 {
-    if u.kind == 1 {
+    if u.kind == Update::PERMISSION {
         return true;
     }
-    words::both(u.kind == 2, u.c == 0)
+    words::both(u.kind == Update::CLEANUP, u.c == 0)
 }
 
 // Whether the domain of a permission update is live.
@@ -26,7 +26,7 @@ fn is_live(t: &[u64], u: Update) -> bool
     requires { ⌜ Sized (now t) ⌝ }
     ensures { λ r. ⌜ r ≡ liveIn (view (now (t .entry))) u ⌝ }
 {
-    if u.kind == 1 {
+    if u.kind == Update::PERMISSION {
         let handle = Handle {
             slot: u.a,
             generation: u.b,
@@ -53,6 +53,6 @@ pub fn update_fits(t: &[u64], u: Update, queued: bool) -> bool
 pub fn is_same(u: Update, x: Update) -> bool
     ensures { λ r. ⌜ r ≡ sameDomain u x ⌝ }
 {
-    let kinds = words::both(u.kind == 1, x.kind == 1);
+    let kinds = words::both(u.kind == Update::PERMISSION, x.kind == Update::PERMISSION);
     words::both(kinds, words::both(u.a == x.a, u.b == x.b))
 }

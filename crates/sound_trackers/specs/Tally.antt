@@ -8,6 +8,7 @@ use Rattle.rights.specs.Rights.{has, count, READ, WRITE, EXEC, SUPER}
 use Rattle.tables.specs.declared.Slot.{Slot}
 use Rattle.tables.specs.declared.RegionCapa.{RegionCapa}
 use Rattle.tables.specs.declared.Region.{Region}
+use Rattle.tables.specs.Kinds.{REGION, CARVE}
 use Rattle.tables.specs.Tables.{Tables, slotAt, regionAt}
 use Rattle.arena.specs.Arena.{liveB}
 use Rattle.sound_trackers.specs.declared.Sums.{Sums}
@@ -48,7 +49,7 @@ coversB g a = both (leb (g .start) a) (ltb a (g .end))
 
 -- it is a carve over a; a kind that is none is read as a carve
 abbrev pub carvesB : ℕ → RegionCapa → Bool
-carvesB a g = both (leb 3 (g .kind)) (coversB g a)
+carvesB a g = both (leb CARVE (g .kind)) (coversB g a)
 
 -- none of the children from link k on is a carve over a
 unfoldable pub uncarvedB : Tables → ℕ → ℕ → Bool
@@ -62,7 +63,7 @@ countsB v a g = pick (coversB g a) (uncarvedB v a (g .child)) false
 
 -- the slot names a live region
 unfoldable pub namesB : Tables → Slot → Bool
-namesB v x = pick (eqb (x .kind) 2) (liveB (v .regionPool) (x .handle)) false
+namesB v x = pick (eqb (x .kind) REGION) (liveB (v .regionPool) (x .handle)) false
 
 -- what the slot's region counts for at a
 unfoldable pub share : Tables → ℕ → Slot → Sums

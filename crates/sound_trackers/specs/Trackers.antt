@@ -8,6 +8,7 @@ use Rattle.words.specs.Cases.{pick, both}
 use Rattle.tables.specs.declared.Slot.{Slot}
 use Rattle.tables.specs.declared.RegionCapa.{RegionCapa}
 use Rattle.tables.specs.declared.Region.{Region}
+use Rattle.tables.specs.Kinds.{CARVE}
 use Rattle.tables.specs.Tables.{Tables, noRecord, headAt, slotAt, regionAt, recordAt}
 use Rattle.arena.specs.Arena.{isFreeB}
 use Rattle.sound_trackers.specs.Chains.{every, slotsFrom, chain}
@@ -71,7 +72,7 @@ endsB v d g = pick (pointB v d (g .start)) (pointB v d (g .end)) false
 
 -- a child, if it is a carve
 unfoldable pub carveB : Tables → ℕ → RegionCapa → Bool
-carveB v d g = pick (leb 3 (g .kind)) (endsB v d g) true
+carveB v d g = pick (leb CARVE (g .kind)) (endsB v d g) true
 
 unfoldable pub carvesEndB : Tables → ℕ → ℕ → Bool
 carvesEndB v d k = every (λ i. carveB v d (regionAt v i)) (chain (λ i. regionAt v i .next) (v .sizes .regions) k)

@@ -35,7 +35,7 @@ pub fn point_holds(t: &[u64], d: usize, a: u64) -> bool
 {
     let head = tables::load_head(t, d);
     let mut at = head.tracker;
-    let mut left = words::size(t, 3);
+    let mut left = words::size(t, sizes::RECORDS);
     while 0 < left {
         if at == 0 {
             return records::is_empty(t, d, a);
@@ -80,7 +80,7 @@ fn carves_hold(t: &[u64], d: usize, k: u64) -> bool
     ensures { λ r. ⌜ r ≡ carvesEndB (view (now (t .entry))) d k ⌝ }
 {
     let mut at = k;
-    let mut left = words::size(t, 2);
+    let mut left = words::size(t, sizes::REGIONS);
     while 0 < left {
         if at == 0 {
             return true;
@@ -121,7 +121,7 @@ pub fn edges_hold(t: &[u64], d: usize) -> bool
     requires { ⌜ Sized (now t) ⌝ }
     ensures { λ r. ⌜ r ≡ edgesB (view (now (t .entry))) d ⌝ }
 {
-    let n = words::size(t, 1);
+    let n = words::size(t, sizes::SLOTS);
     let mut j = 0;
     while j < n {
         if !slot_holds(t, d, tables::load_slot(t, d, j)) {

@@ -37,7 +37,7 @@ pub fn trackers_hold(t: &[u64]) -> bool
     requires { ⌜ Sized (now t) ⌝ }
     ensures { λ r. ⌜ r ≡ trackersHoldB (view (now (t .entry))) ⌝ }
 {
-    let n = words::size(t, 0);
+    let n = words::size(t, sizes::DOMAINS);
     let mut d = 0;
     while d < n {
         if !domain_holds(t, d) {

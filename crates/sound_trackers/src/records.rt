@@ -78,7 +78,7 @@ pub fn records_hold(t: &[u64], d: usize) -> bool
 {
     let head = tables::load_head(t, d);
     let mut at = head.tracker;
-    let mut left = words::size(t, 3);
+    let mut left = words::size(t, sizes::RECORDS);
     while 0 < left {
         if at == 0 {
             return true;

@@ -82,7 +82,7 @@ fn is_uncarved(t: &[u64], a: u64, k: u64) -> bool
     ensures { λ r. ⌜ r ≡ uncarvedB (view (now (t .entry))) a k ⌝ }
 {
     let mut at = k;
-    let mut left = words::size(t, 2);
+    let mut left = words::size(t, sizes::REGIONS);
     while 0 < left {
         if at == 0 {
             return true;
@@ -141,7 +141,7 @@ pub fn tally(t: &[u64], d: usize, a: u64) -> Sums
     requires { ⌜ Sized (now t) ⌝ }
     ensures { λ r. ⌜ r ≡ tally (view (now (t .entry))) d a ⌝ }
 {
-    let n = words::size(t, 1);
+    let n = words::size(t, sizes::SLOTS);
     let mut s = no_sums();
     let mut j = 0;
     while j < n {

@@ -9,6 +9,7 @@ use lib.ListN.{getD, set, replicate, drop}
 use Rattle.rights.specs.Rights.{allowed}
 use Rattle.words.specs.Cases.{pick, both}
 use Rattle.tables.specs.declared.RegionCapa.{RegionCapa}
+use Rattle.tables.specs.Kinds.{ROOT, ALIAS, CARVE}
 use Rattle.tables.specs.Tables.{Tables, regionAt}
 use Rattle.sizes.specs.Sizes.{total}
 use Rattle.arena.specs.Arena.{isFreeB}
@@ -40,11 +41,11 @@ inParent g h = both (both (leb (h .start) (g .start)) (leb (g .end) (h .end))) (
 
 -- A root has no parent and no sibling; another has the parent h.
 unfoldable pub placeFits : RegionCapa → RegionCapa → Bool
-placeFits g h = pick (eqb (g .kind) 1) (both (eqb (g .parent) 0) (eqb (g .next) 0)) (both (ltb 0 (g .parent)) (inParent g h))
+placeFits g h = pick (eqb (g .kind) ROOT) (both (eqb (g .parent) 0) (eqb (g .next) 0)) (both (ltb 0 (g .parent)) (inParent g h))
 
 -- a known kind, an owner, a range that is "nonempty", rights in a byte
 unfoldable pub rowFits : RegionCapa → Bool
-rowFits g = both (both (leb 1 (g .kind)) (leb (g .kind) 3)) (both (ltb 0 (g .owner)) (both (ltb (g .start) (g .end)) (ltb (g .rights) 256)))
+rowFits g = both (both (leb ROOT (g .kind)) (leb (g .kind) CARVE)) (both (ltb 0 (g .owner)) (both (ltb (g .start) (g .end)) (ltb (g .rights) 256)))
 
 -- a region in use
 unfoldable pub regionFits : Tables → ℕ → Bool
@@ -61,11 +62,11 @@ larger a b = pick (ltb a b) b a
 
 -- behind the child r: the last start, the largest end of all and of the carves so far
 unfoldable pub after : Run → RegionCapa → Run
-after s r = record { last = r .start; far = larger (s .far) (r .end); carved = pick (eqb (r .kind) 3) (larger (s .carved) (r .end)) (s .carved) }
+after s r = record { last = r .start; far = larger (s .far) (r .end); carved = pick (eqb (r .kind) CARVE) (larger (s .carved) (r .end)) (s .carved) }
 
 -- "carves overlap no sibling": a carve starts behind all before it, another behind the carves before it
 unfoldable pub floorOf : Run → RegionCapa → ℕ
-floorOf s r = pick (eqb (r .kind) 3) (s .far) (s .carved)
+floorOf s r = pick (eqb (r .kind) CARVE) (s .far) (s .carved)
 
 -- a child of the region that the link `own` names: "lists ordered"
 unfoldable pub childFits : ℕ → Run → RegionCapa → Bool
@@ -88,7 +89,7 @@ listsFrom row left zero k = eqb left 0
 listsFrom row left (suc n) k = pick (ltb 0 (walked row left k)) (listsFrom row (walked row left k - 1) n (suc k)) false
 
 abbrev pub isChild : (ℕ → RegionCapa) → ℕ → Bool
-isChild row i = ltb 1 (row i .kind)
+isChild row i = ltb ROOT (row i .kind)
 
 unfoldable pub childCount : (ℕ → RegionCapa) → ℕ → ℕ
 childCount row n = tallyFrom (isChild row) n 0
@@ -97,7 +98,7 @@ childCount row n = tallyFrom (isChild row) n 0
 
 -- The words w have 1 for a region that is known to lead to a root.
 unfoldable pub stops : (ℕ → RegionCapa) → List ℕ → ℕ → Bool
-stops row w j = pick (ltb 0 (getD w j 0)) true (ltb (row j .kind) 2)
+stops row w j = pick (ltb 0 (getD w j 0)) true (ltb (row j .kind) ALIAS)
 
 -- from slot j up, at most n regions
 abbrev pub climbFrom : (ℕ → RegionCapa) → List ℕ → ℕ → ℕ → Bool

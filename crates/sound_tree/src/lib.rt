@@ -26,7 +26,7 @@ pub fn tree_holds(t: &[u64], w: &mut [u64]) -> bool
     if rows::rows_hold(t) {
         if lists::lists_hold(t) {
             let rooted = roots::roots_hold(t, w);
-            roots::clear_first(w, words::size(t, 2));
+            roots::clear_first(w, words::size(t, sizes::REGIONS));
             return rooted;
         }
     }

@@ -94,7 +94,7 @@ fn child_count(t: &[u64], n: usize) -> usize
     let mut i = 0;
     while i < n {
         let r = tables::load_region(t, i);
-        many += one_if(1 < r.kind);
+        many += one_if(RegionCapa::ROOT < r.kind);
         i += 1;
     }
     many
@@ -104,7 +104,7 @@ pub fn lists_hold(t: &[u64]) -> bool
     requires { ⌜ Sized (now t) ⌝ }
     ensures { λ r. ⌜ r ≡ listsHold (view (now (t .entry))) ⌝ }
 {
-    let n = words::size(t, 2);
+    let n = words::size(t, sizes::REGIONS);
     let mut left = child_count(t, n);
     let mut i = 0;
     while i < n {

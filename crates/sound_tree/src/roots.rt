@@ -6,6 +6,7 @@ ghost use Rattle.tables.specs.Tables.{regionAt};
 ghost use Rattle.tables.specs.View.{view, Sized};
 ghost use Rattle.sound_tree.specs.Tree.{stops, climbFrom, markFrom, rootsHold, beyond, cleared};
 use crate::rows;
+use tables::RegionCapa;
 
 fn parent_of(t: &[u64], j: usize) -> usize
     requires { ⌜ Sized (now t) ⌝ }
@@ -24,7 +25,7 @@ fn stops_at(t: &[u64], w: &[u64], j: usize) -> bool
         return true;
     }
     let r = tables::load_region(t, j);
-    r.kind < 2
+    r.kind < RegionCapa::ALIAS
 }
 
 fn climb(t: &[u64], w: &[u64], n: usize, i: usize) -> bool
@@ -75,7 +76,7 @@ pub fn roots_hold(t: &[u64], w: &mut [u64]) -> bool
     ensures { λ r. ⌜ r ≡ rootsHold (view (now (t .entry))) ⌝ }
     ensures { λ _. ⌜ beyond (now (t .entry)) (now (w .exit)) ≡ beyond (now (t .entry)) (now (w .entry)) ⌝ }
 {
-    let n = words::size(t, 2);
+    let n = words::size(t, sizes::REGIONS);
     let mut i = 0;
     while i < n {
         if !climb(t, w, n, i) {

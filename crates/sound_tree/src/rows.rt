@@ -46,7 +46,7 @@ fn place_fits(g: RegionCapa, h: RegionCapa) -> bool
 fn row_fits(g: RegionCapa) -> bool
     ensures { λ r. ⌜ r ≡ rowFits g ⌝ }
 {
-    let kind = words::both(1 <= g.kind, g.kind <= 3);
+    let kind = words::both(RegionCapa::ROOT <= g.kind, g.kind <= RegionCapa::CARVE);
     let range = words::both(g.start < g.end, g.rights < 256);
     words::both(kind, words::both(0 < g.owner, range))
 }
@@ -77,7 +77,7 @@ pub fn rows_hold(t: &[u64]) -> bool
     requires { ⌜ Sized (now t) ⌝ }
     ensures { λ r. ⌜ r ≡ rowsHold (view (now (t .entry))) ⌝ }
 {
-    let n = words::size(t, 2);
+    let n = words::size(t, sizes::REGIONS);
     let mut i = 0;
     while i < n {
         if !region_fits(t, i) {

@@ -15,7 +15,7 @@ use Rattle.words.specs.Cuts.{cuts, offset}
 use Rattle.sizes.specs.declared.Sizes.{Sizes}
 use Rattle.tables.specs.declared.Slot.{Slot}
 use Rattle.tables.specs.Tables.{Domain, noDomain, noSlot, putHead, putSlot, withDomains}
-use Rattle.sizes.specs.Sizes.{sizesOf, widths, stride}
+use Rattle.sizes.specs.Sizes.{sizesOf, widths, stride, headWidth, slotWidth}
 use Rattle.tables.specs.View.{view, ofParts, Sized, Left, domainOf, slotOf, slotWords}
 use Rattle.tables.specs.Sections.{section, section-inside, only-left}
 use Rattle.tables.specs.Rows.{rowAt, row-fetched, row-replaced}
@@ -27,14 +27,14 @@ use Rattle.stored_slots.specs.Record.{listOf, putList, withTop, domainOr
 -- ---- reading: the slots one by one
 
 -- the words of one slot
-pub slot-read : (p : List ℕ) (a : ℕ) → record { kind = getD p a 0; handle = record { slot = getD p (a + 1) 0; generation = getD p (a + 2) 0 } } ≡ slotOf (part p a 3)
+pub slot-read : (p : List ℕ) (a : ℕ) → record { kind = getD p a 0; handle = record { slot = getD p (a + 1) 0; generation = getD p (a + 2) 0 } } ≡ slotOf (part p a slotWidth)
 slot-read p a =
     let e : a + 0 ≡ a = omega arith in
     rw (part-at p a 3 0 (omega arith), part-at p a 3 1 (omega arith), part-at p a 3 2 (omega arith), e)
 
 -- the first i of n slots are read
 abbrev pub readTo : List ℕ → ℕ → List Slot
-readTo p i = rows 3 i slotOf (drop 5 p) ++ replicate (128 - i) noSlot
+readTo p i = rows slotWidth i slotOf (drop headWidth p) ++ replicate (128 - i) noSlot
 
 pub read-none : (p : List ℕ) → readTo p 0 ≡ replicate 128 noSlot
 unfolding rows
@@ -59,7 +59,7 @@ read-all p n = rw (length-rows 3 n slotOf (drop 5 p), getD-take 5 p 3 0 (omega a
 
 -- the first i slots are written
 pub record Written (n : ℕ) (x : Domain) (l : SlotList) (i : ℕ) (p : List ℕ) : Type 0 where
-  pub long : length p ≡ 5 + n * 3
+  pub long : length p ≡ headWidth + n * slotWidth
   pub top : domainOf n p .head ≡ x .head
   pub same : take i (domainOf n p .slots) ≡ take i (l .slots)
 
@@ -117,17 +117,17 @@ no-domain t d h = List·getD-eq-default (view t .domains) noDomain {n = d} (rw l
 pub record RowAt (t : List ℕ) (d : ℕ) (r : Row) : Type 0 where
   pub slots : r .slots ≡ sizesOf t .slots
   pub start : r .start ≡ domainPlace t d
-  pub end : r .end ≡ r .start + (5 + r .slots * 3)
+  pub end : r .end ≡ r .start + (headWidth + r .slots * slotWidth)
   pub inside : r .end ≤ length t
 
 -- the place that the code computes from the sizes z
-pub row-found : (t : List ℕ) (d : ℕ) (z : Sizes) (o a : ℕ) → Sized t → d < sizesOf t .domains → z ≡ sizesOf t → o ≡ offset (widths z) 4
-    → a ≡ rowAt (length t) o (z .domains) (5 + z .slots * 3) d → RowAt t d (record { start = a; end = a + (5 + z .slots * 3); slots = z .slots })
-row-found t d z o a s h ez eo ea =
-    let place : a ≡ domainPlace t d = ea ∙ rw (eo, ez) in
+pub row-found : (t : List ℕ) (d : ℕ) (z : Sizes) (o w a : ℕ) → Sized t → d < sizesOf t .domains → z ≡ sizesOf t → o ≡ offset (widths z) 4
+    → w ≡ stride z → a ≡ rowAt (length t) o (z .domains) w d → RowAt t d (record { start = a; end = a + w; slots = z .slots })
+row-found t d z o w a s h ez eo ew ea =
+    let place : a ≡ domainPlace t d = ea ∙ rw (ew, eo, ez) in
     let e : domainPlace t d ≡ offset (widths (sizesOf t)) 4 + d * stride (sizesOf t) = unfold rowAt in rw (lt-ltb d (sizesOf t .domains) h) in
     let same : z .slots ≡ sizesOf t .slots = ap (λ (y : Sizes). y .slots) ez in
-    record { slots = same; start = place; end = refl; inside = omega (arith, section-inside t 4 s, mul-le-mul-right (stride (sizesOf t)) h) }
+    record { slots = same; start = place; end = rw ew; inside = omega (arith, ew, section-inside t 4 s, mul-le-mul-right (stride (sizesOf t)) h) }
 
 module _ (t : List ℕ) (d : ℕ) (r : Row) (s : Sized t) (h : d < sizesOf t .domains) (at : RowAt t d r) where
   row-wide : r .end - r .start ≡ stride (sizesOf t)

@@ -4,12 +4,15 @@ ghost use Prim.Native.Nat.{_+_, _*_, _≤_, _<_};
 ghost use lib.ListN.{length};
 ghost use lib.Seq.{sets};
 ghost use Rattle.words.specs.Runs.{part};
-ghost use Rattle.sizes.specs.Sizes.{sizesOf};
+ghost use Rattle.sizes.specs.Sizes.{sizesOf, headWidth, slotWidth};
 ghost use Rattle.tables.specs.View.{view, Sized, Left, domainOf, slotOf, slotWords};
 ghost use Rattle.slot_list.specs.Lists.{noList};
 ghost use Rattle.stored_slots.specs.Record.{listOf, putList, listAt, withList};
 ghost use Rattle.stored_slots.specs.Rows.{RowAt};
+use sizes::HEAD_WIDTH;
+use sizes::SLOT_WIDTH;
 use slot_list::SlotList;
+use tables::DomainHead;
 use tables::Handle;
 use tables::Slot;
 
@@ -26,7 +29,7 @@ fn row_of(t: &[u64], d: usize) -> Row
     ensures { λ r. ⌜ RowAt (now (t .entry)) d r ⌝ }
 {
     let z = sizes::read_sizes(t);
-    let width = 5 + z.slots * 3;
+    let width = sizes::domain_width(z);
     let start = tables::rows::row_at(t, sizes::domains_at(z), z.domains, width, d);
     Row {
         start,
@@ -49,8 +52,8 @@ fn no_list() -> SlotList
 // ---- In the words of one domain
 
 fn read_slot(p: &[u64], a: usize) -> Slot
-    requires { ⌜ a + 3 ≤ length (now p) ⌝ }
-    ensures { λ r. ⌜ r ≡ slotOf (part (now (p .entry)) a 3) ⌝ }
+    requires { ⌜ a + slotWidth ≤ length (now p) ⌝ }
+    ensures { λ r. ⌜ r ≡ slotOf (part (now (p .entry)) a slotWidth) ⌝ }
 {
     let handle = Handle {
         slot: p[a + 1],
@@ -60,7 +63,7 @@ fn read_slot(p: &[u64], a: usize) -> Slot
 }
 
 fn write_slot(p: &mut [u64], a: usize, x: Slot)
-    requires { ⌜ a + 3 ≤ length (now p) ⌝ }
+    requires { ⌜ a + slotWidth ≤ length (now p) ⌝ }
     ensures { λ _. ⌜ now (p .exit) ≡ sets (now (p .entry)) a (slotWords x) ⌝ }
 {
     p[a] = x.kind;
@@ -69,37 +72,37 @@ fn write_slot(p: &mut [u64], a: usize, x: Slot)
 }
 
 fn list_of(p: &[u64], n: usize) -> SlotList
-    requires { ⌜ length (now p) ≡ 5 + n * 3 ⌝ }
+    requires { ⌜ length (now p) ≡ headWidth + n * slotWidth ⌝ }
     requires { ⌜ n ≤ 128 ⌝ }
     ensures { λ r. ⌜ r ≡ listOf (domainOf n (now (p .entry))) ⌝ }
 {
     let mut slots = [tables::no_slot(); 128];
     let mut i = 0;
     while i < n {
-        slots[i] = read_slot(p, 5 + i * 3);
+        slots[i] = read_slot(p, HEAD_WIDTH + i * SLOT_WIDTH);
         i += 1;
     }
     SlotList {
         slots,
-        head: p[3],
-        count: p[4],
+        head: p[DomainHead::HEAD],
+        count: p[DomainHead::COUNT],
         size: n,
     }
 }
 
 fn write_list(p: &mut [u64], n: usize, list: SlotList)
-    requires { ⌜ length (now p) ≡ 5 + n * 3 ⌝ }
+    requires { ⌜ length (now p) ≡ headWidth + n * slotWidth ⌝ }
     requires { ⌜ n ≤ 128 ⌝ }
     ensures { λ _. ⌜ domainOf n (now (p .exit)) ≡ putList (domainOf n (now (p .entry))) list ⌝ }
 {
     let mut i = 0;
     while i < n {
         let x = list.slots[i];
-        write_slot(p, 5 + i * 3, x);
+        write_slot(p, HEAD_WIDTH + i * SLOT_WIDTH, x);
         i += 1;
     }
-    p[3] = list.head;
-    p[4] = list.count;
+    p[DomainHead::HEAD] = list.head;
+    p[DomainHead::COUNT] = list.count;
 }
 
 // ---- In the tables
@@ -108,7 +111,7 @@ pub fn load_list(t: &[u64], d: usize) -> SlotList
     requires { ⌜ Sized (now t) ⌝ }
     ensures { λ r. ⌜ r ≡ listAt (view (now (t .entry))) d ⌝ }
 {
-    if d < words::size(t, 0) {
+    if d < words::size(t, sizes::DOMAINS) {
         let r = row_of(t, d);
         let a = r.start;
         let e = r.end;
@@ -123,7 +126,7 @@ pub fn store_list(t: &mut [u64], d: usize, list: SlotList)
     requires { ⌜ Sized (now t) ⌝ }
     ensures { λ _. ⌜ Left (now (t .exit)) (withList (view (now (t .entry))) d list) ⌝ }
 {
-    if d < words::size(t, 0) {
+    if d < words::size(t, sizes::DOMAINS) {
         let r = row_of(t, d);
         let a = r.start;
         let e = r.end;

@@ -14,7 +14,7 @@ use Rattle.words.specs.Rows.{rows, length-rows, getD-rows}
 use Rattle.words.specs.Cuts.{cuts}
 use Rattle.tables.specs.declared.DomainHead.{DomainHead}
 use Rattle.tables.specs.Tables.{Domain, noDomain, noSlot, headAt, slotAt, putHead, withDomains, withHead}
-use Rattle.sizes.specs.Sizes.{sizesOf, stride}
+use Rattle.sizes.specs.Sizes.{sizesOf, stride, headWidth, slotWidth}
 use Rattle.tables.specs.View.{view, ofParts, Sized, Left, domainOf, headOf, headWords, slotOf}
 use Rattle.sizes.specs.Tests.{total-fits}
 use Rattle.tables.specs.Sections.{section, section-length, section-inside, only-left}
@@ -24,7 +24,7 @@ abbrev pub domainPlace : List ℕ → ℕ → ℕ
 domainPlace t i = placed t 4 (sizesOf t .domains) (stride (sizesOf t)) i
 
 abbrev pub slotPlace : List ℕ → ℕ → ℕ → ℕ
-slotPlace t i j = pick (ltb j (sizesOf t .slots)) (domainPlace t i + (5 + j * 3)) (length t)
+slotPlace t i j = pick (ltb j (sizesOf t .slots)) (domainPlace t i + (headWidth + j * slotWidth)) (length t)
 
 -- no place of a slot wraps
 pub domain-place-low : (t : List ℕ) (i : ℕ) → Sized t → domainPlace t i ≤ 34545
@@ -36,7 +36,7 @@ domain-place-low t i s =
       | ge h ↦ rw (le-ltb i (sizesOf t .domains) h) (omega (arith, s .exact))
     ]
 
-pub slot-place : (t : List ℕ) (i j n a : ℕ) → n ≡ getD t 1 0 → j < n → a ≡ domainPlace t i → a + (5 + j * 3) ≡ slotPlace t i j
+pub slot-place : (t : List ℕ) (i j n a : ℕ) → n ≡ getD t 1 0 → j < n → a ≡ domainPlace t i → a + (headWidth + j * slotWidth) ≡ slotPlace t i j
 unfolding sizesOf
 slot-place t i j n a en h ea = rw (lt-ltb j (sizesOf t .slots) (omega arith), ea)
 
@@ -101,10 +101,10 @@ module _ (t : List ℕ) (s : Sized t) (i a : ℕ) where
         | ge h ↦ ap headOf (out-domain 0 5 h (omega arith)) ∙ sym (ap (λ (x : Domain). x .head) (no-domain t i h))
       ]
 
-  pub head-loaded : (p : List ℕ) → a ≡ domainPlace t i → p ≡ fetched t a 5 → headOf p ≡ headAt (view t) i
+  pub head-loaded : (p : List ℕ) → a ≡ domainPlace t i → p ≡ fetched t a headWidth → headOf p ≡ headAt (view t) i
   head-loaded p e ep = let z : a ≡ domainPlace t i + 0 = omega arith in rw (ep, z) head-fetched
 
-  pub slot-loaded : (j : ℕ) (p : List ℕ) → a ≡ slotPlace t i j → p ≡ fetched t a 3 → slotOf p ≡ slotAt (view t) i j
+  pub slot-loaded : (j : ℕ) (p : List ℕ) → a ≡ slotPlace t i j → p ≡ fetched t a slotWidth → slotOf p ≡ slotAt (view t) i j
   unfolding slotAt
   slot-loaded j p e ep =
       elim (cmp j (sizesOf t .slots)) [

@@ -1,3 +1,4 @@
+pub mod Kinds
 pub mod Links
 pub mod Tables
 pub mod View

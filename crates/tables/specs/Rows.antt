@@ -13,7 +13,7 @@ use Rattle.words.specs.Runs.{part, length-part, sets-all, fetched, fetched-in, 
 use Rattle.words.specs.Rows.{rows, length-rows, getD-rows, rows-sets}
 use Rattle.words.specs.Cuts.{cuts, offset, cuts-part}
 use Rattle.sizes.specs.declared.Sizes.{Sizes}
-use Rattle.sizes.specs.Sizes.{sizesOf, widths}
+use Rattle.sizes.specs.Sizes.{sizesOf, widths, sections}
 use Rattle.tables.specs.View.{Sized}
 use Rattle.tables.specs.Sections.{section, section-length, section-inside, Only, only-same, only-sets, section-sets}
 
@@ -37,7 +37,7 @@ set-when l i x y h =
     elim (cmp i (length l)) [ lt q ↦ ap (set l i) (h q) | ge q ↦ set-out l i x q ∙ sym (set-out l i y q) ]
 
 -- section k + 1 holds n rows of w words
-module _ (t : List ℕ) (k n w : ℕ) (s : Sized t) (hk : suc k < 8) (width : getD (widths (sizesOf t)) (suc k) 0 ≡ n * w) where
+module _ (t : List ℕ) (k n w : ℕ) (s : Sized t) (hk : suc k < sections) (width : getD (widths (sizesOf t)) (suc k) 0 ≡ n * w) where
   row-inside : (i j m : ℕ) → i < n → j + m ≤ w → i * w + j + m ≤ n * w
   row-inside i j m h hj = omega (arith, mul-le-mul-right w h)
 

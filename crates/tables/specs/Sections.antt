@@ -9,7 +9,7 @@ use lib.Seq.{sets, length-sets, set-getD, getD-set-same, take-all}
 use Rattle.words.specs.Runs.{part, getD-before, sets-all, lent-back}
 use Rattle.words.specs.Cuts.{cuts, offset, offset-inside, cuts-sets, cuts-part, length-cut}
 use Rattle.tables.specs.Tables.{Tables}
-use Rattle.sizes.specs.Sizes.{sizesOf, widths, total}
+use Rattle.sizes.specs.Sizes.{sizesOf, sections, widths, total}
 use Rattle.tables.specs.View.{view, ofParts, Sized, Left}
 
 abbrev pub section : List ℕ → ℕ → List ℕ
@@ -37,13 +37,13 @@ sizes-kept t vs i h =
     rw (getD-before vs t 0 i (omega arith), getD-before vs t 1 i (omega arith), getD-before vs t 2 i (omega arith), getD-before vs t 3 i (omega arith), getD-before vs t 4 i (omega arith))
 
 -- what the store does to its section
-pub section-sets : (t vs : List ℕ) (k j : ℕ) → k < 8 → j + length vs ≤ getD (widths (sizesOf t)) k 0
+pub section-sets : (t vs : List ℕ) (k j : ℕ) → k < sections → j + length vs ≤ getD (widths (sizesOf t)) k 0
     → getD (cuts (widths (sizesOf t)) (sets t (offset (widths (sizesOf t)) k + j) vs)) k [] ≡ sets (section t k) j vs
 section-sets t vs k j hk h =
     let ps = cuts (widths (sizesOf t)) t in
     ap (λ (x : List (List ℕ)). getD x k []) (cuts-sets (widths (sizesOf t)) t vs k j h) ∙ getD-set-same ps k (sets (section t k) j vs) [] (unfold cuts in hk)
 
-pub only-sets : (t vs : List ℕ) (k j : ℕ) → k < 8 → 5 ≤ offset (widths (sizesOf t)) k + j → j + length vs ≤ getD (widths (sizesOf t)) k 0
+pub only-sets : (t vs : List ℕ) (k j : ℕ) → k < sections → 5 ≤ offset (widths (sizesOf t)) k + j → j + length vs ≤ getD (widths (sizesOf t)) k 0
     → Only t (sets t (offset (widths (sizesOf t)) k + j) vs) k
 only-sets t vs k j hk h5 h =
     record {
@@ -79,7 +79,7 @@ module _ (t : List ℕ) (k a e : ℕ) (s : Sized t) (start : a ≡ offset (width
       ∙ take-all n (section t k) (omega (arith, section-length t k s))
 
   -- p comes back
-  pub section-back : (p : List ℕ) → k < 8 → 5 ≤ a → length p ≡ length (take (e - a) (drop a t))
+  pub section-back : (p : List ℕ) → k < sections → 5 ≤ a → length p ≡ length (take (e - a) (drop a t))
       → Only t (putMid a (e - a) t p) k × (getD (cuts (widths (sizesOf t)) (putMid a (e - a) t p)) k [] ≡ p)
   section-back p hk h5 hp =
       let o = offset (widths (sizesOf t)) k in

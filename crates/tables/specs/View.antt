@@ -14,7 +14,7 @@ use Rattle.tables.specs.declared.Region.{Region}
 use Rattle.tables.specs.declared.Update.{Update}
 use Rattle.tables.specs.Tables.{Tables, Domain, Arena}
 use Rattle.sizes.specs.Limits.{Limits}
-use Rattle.sizes.specs.Sizes.{sizesOf, stride, widths, total}
+use Rattle.sizes.specs.Sizes.{sizesOf, headWidth, slotWidth, regionWidth, recordWidth, updateWidth, stride, widths, total}
 
 -- ---- a record in its words
 
@@ -41,7 +41,7 @@ arenaOf n p = record { head = getD p 0 0; count = getD p 1 0; links = part p 2 n
 
 -- a domain with n slots
 unfoldable pub domainOf : ℕ → List ℕ → Domain
-domainOf n p = record { head = headOf (take 5 p); slots = rows 3 n slotOf (drop 5 p) }
+domainOf n p = record { head = headOf (take headWidth p); slots = rows slotWidth n slotOf (drop headWidth p) }
 
 -- ---- the whole
 
@@ -55,9 +55,9 @@ ofParts z ps =
       regionPool = arenaOf (z .regions) (getD ps 2 []);
       recordPool = arenaOf (z .records) (getD ps 3 []);
       domains = rows (stride z) (z .domains) (domainOf (z .slots)) (getD ps 4 []);
-      regions = rows 8 (z .regions) regionOf (getD ps 5 []);
-      records = rows 9 (z .records) recordOf (getD ps 6 []);
-      ring = rows 4 (z .updates + 1) updateOf (getD ps 7 []);
+      regions = rows regionWidth (z .regions) regionOf (getD ps 5 []);
+      records = rows recordWidth (z .records) recordOf (getD ps 6 []);
+      ring = rows updateWidth (z .updates + 1) updateOf (getD ps 7 []);
     }
 
 unfoldable pub view : List ℕ → Tables

@@ -1,6 +1,7 @@
 // Domains: the five words before the slots, loaded and stored; a slot, loaded by itself.
 ghost use mathlib.Core.Path.{_≡_};
 ghost use lib.ListN.{length};
+ghost use Rattle.sizes.specs.Sizes.{headWidth, slotWidth};
 ghost use Rattle.tables.specs.Tables.{headAt, slotAt, withHead};
 ghost use Rattle.tables.specs.View.{view, Sized, Left, headOf, slotOf};
 ghost use Rattle.tables.specs.Domains.{domainPlace, slotPlace};
@@ -10,17 +11,25 @@ use crate::Slot;
 use crate::no_head;
 use crate::no_slot;
 use crate::rows;
+use sizes::HEAD_WIDTH;
+use sizes::SLOT_WIDTH;
 
 fn domain_at(t: &[u64], i: usize) -> usize
     requires { ⌜ Sized (now t) ⌝ }
     ensures { λ r. ⌜ r ≡ domainPlace (now (t .entry)) i ⌝ }
 {
     let z = sizes::read_sizes(t);
-    rows::row_at(t, sizes::domains_at(z), z.domains, 5 + z.slots * 3, i)
+    rows::row_at(
+        t,
+        sizes::domains_at(z),
+        z.domains,
+        sizes::domain_width(z),
+        i,
+    )
 }
 
 fn head_of(p: &[u64]) -> DomainHead
-    requires { ⌜ length (now p) ≡ 5 ⌝ }
+    requires { ⌜ length (now p) ≡ headWidth ⌝ }
     ensures { λ r. ⌜ r ≡ headOf (now (p .entry)) ⌝ }
 {
     DomainHead {
@@ -36,8 +45,12 @@ pub fn load_head(t: &[u64], i: usize) -> DomainHead
     requires { ⌜ Sized (now t) ⌝ }
     ensures { λ r. ⌜ r ≡ headAt (view (now (t .entry))) i ⌝ }
 {
-    let p = words::run(t, domain_at(t, i), 5);
-    if p.len() == 5 { head_of(p) } else { no_head() }
+    let p = words::run(t, domain_at(t, i), HEAD_WIDTH);
+    if p.len() == HEAD_WIDTH {
+        head_of(p)
+    } else {
+        no_head()
+    }
 }
 
 pub fn store_head(t: &mut [u64], i: usize, h: DomainHead)
@@ -54,15 +67,15 @@ fn slot_at(t: &[u64], i: usize, j: usize) -> usize
     requires { ⌜ Sized (now t) ⌝ }
     ensures { λ r. ⌜ r ≡ slotPlace (now (t .entry)) i j ⌝ }
 {
-    if j < words::size(t, 1) {
-        domain_at(t, i) + (5 + j * 3)
+    if j < words::size(t, sizes::SLOTS) {
+        domain_at(t, i) + (HEAD_WIDTH + j * SLOT_WIDTH)
     } else {
         t.len()
     }
 }
 
 fn slot_of(p: &[u64]) -> Slot
-    requires { ⌜ length (now p) ≡ 3 ⌝ }
+    requires { ⌜ length (now p) ≡ slotWidth ⌝ }
     ensures { λ r. ⌜ r ≡ slotOf (now (p .entry)) ⌝ }
 {
     let handle = Handle {
@@ -76,6 +89,10 @@ pub fn load_slot(t: &[u64], i: usize, j: usize) -> Slot
     requires { ⌜ Sized (now t) ⌝ }
     ensures { λ r. ⌜ r ≡ slotAt (view (now (t .entry))) i j ⌝ }
 {
-    let p = words::run(t, slot_at(t, i, j), 3);
-    if p.len() == 3 { slot_of(p) } else { no_slot() }
+    let p = words::run(t, slot_at(t, i, j), SLOT_WIDTH);
+    if p.len() == SLOT_WIDTH {
+        slot_of(p)
+    } else {
+        no_slot()
+    }
 }

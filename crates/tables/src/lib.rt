@@ -59,6 +59,13 @@ pub struct DomainHead {
     pub count: u64,
 }
 
+impl DomainHead {
+    // Where the list's head and count stand among its words.
+    pub const HEAD: usize = 3;
+
+    pub const COUNT: usize = 4;
+}
+
 // A region; owner, parent, first child and next sibling are links.
 pub struct RegionCapa {
     pub kind: u64,

@@ -1,23 +1,25 @@
 // Tracker records.
 ghost use mathlib.Core.Path.{_≡_};
 ghost use lib.ListN.{length};
+ghost use Rattle.sizes.specs.Sizes.{recordWidth};
 ghost use Rattle.tables.specs.Tables.{recordAt, withRecord};
 ghost use Rattle.tables.specs.View.{view, Sized, Left, recordOf};
 ghost use Rattle.tables.specs.Accessors.{recordPlace};
 use crate::Region;
 use crate::no_record;
 use crate::rows;
+use sizes::RECORD_WIDTH;
 
 fn record_at(t: &[u64], i: usize) -> usize
     requires { ⌜ Sized (now t) ⌝ }
     ensures { λ r. ⌜ r ≡ recordPlace (now (t .entry)) i ⌝ }
 {
     let z = sizes::read_sizes(t);
-    rows::row_at(t, sizes::records_at(z), z.records, 9, i)
+    rows::row_at(t, sizes::records_at(z), z.records, RECORD_WIDTH, i)
 }
 
 fn record_of(p: &[u64]) -> Region
-    requires { ⌜ length (now p) ≡ 9 ⌝ }
+    requires { ⌜ length (now p) ≡ recordWidth ⌝ }
     ensures { λ r. ⌜ r ≡ recordOf (now (p .entry)) ⌝ }
 {
     Region {
@@ -37,8 +39,8 @@ pub fn load_record(t: &[u64], i: usize) -> Region
     requires { ⌜ Sized (now t) ⌝ }
     ensures { λ r. ⌜ r ≡ recordAt (view (now (t .entry))) i ⌝ }
 {
-    let p = words::run(t, record_at(t, i), 9);
-    if p.len() == 9 {
+    let p = words::run(t, record_at(t, i), RECORD_WIDTH);
+    if p.len() == RECORD_WIDTH {
         record_of(p)
     } else {
         no_record()

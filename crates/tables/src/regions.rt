@@ -1,23 +1,25 @@
 // Regions.
 ghost use mathlib.Core.Path.{_≡_};
 ghost use lib.ListN.{length};
+ghost use Rattle.sizes.specs.Sizes.{regionWidth};
 ghost use Rattle.tables.specs.Tables.{regionAt, withRegion};
 ghost use Rattle.tables.specs.View.{view, Sized, Left, regionOf};
 ghost use Rattle.tables.specs.Accessors.{regionPlace};
 use crate::RegionCapa;
 use crate::no_region;
 use crate::rows;
+use sizes::REGION_WIDTH;
 
 fn region_at(t: &[u64], i: usize) -> usize
     requires { ⌜ Sized (now t) ⌝ }
     ensures { λ r. ⌜ r ≡ regionPlace (now (t .entry)) i ⌝ }
 {
     let z = sizes::read_sizes(t);
-    rows::row_at(t, sizes::regions_at(z), z.regions, 8, i)
+    rows::row_at(t, sizes::regions_at(z), z.regions, REGION_WIDTH, i)
 }
 
 fn region_of(p: &[u64]) -> RegionCapa
-    requires { ⌜ length (now p) ≡ 8 ⌝ }
+    requires { ⌜ length (now p) ≡ regionWidth ⌝ }
     ensures { λ r. ⌜ r ≡ regionOf (now (p .entry)) ⌝ }
 {
     RegionCapa {
@@ -36,8 +38,8 @@ pub fn load_region(t: &[u64], i: usize) -> RegionCapa
     requires { ⌜ Sized (now t) ⌝ }
     ensures { λ r. ⌜ r ≡ regionAt (view (now (t .entry))) i ⌝ }
 {
-    let p = words::run(t, region_at(t, i), 8);
-    if p.len() == 8 {
+    let p = words::run(t, region_at(t, i), REGION_WIDTH);
+    if p.len() == REGION_WIDTH {
         region_of(p)
     } else {
         no_region()

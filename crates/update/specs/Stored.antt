@@ -11,7 +11,7 @@ use Rattle.words.specs.Cuts.{offset}
 use Rattle.tables.specs.declared.Update.{Update}
 use Rattle.sizes.specs.declared.Sizes.{Sizes}
 use Rattle.tables.specs.Tables.{Tables, noUpdate, withRing, withPlaces}
-use Rattle.sizes.specs.Sizes.{sizesOf, widths}
+use Rattle.sizes.specs.Sizes.{sizesOf, widths, updateWidth}
 use Rattle.tables.specs.View.{view, ofParts, Sized, Left, updateOf}
 use Rattle.tables.specs.Sections.{section-inside, section-lent}
 use Rattle.ring.specs.declared.Ring.{Ring}
@@ -27,24 +27,24 @@ withRingOf s r = withPlaces (withRing s (fitted (length (s .ring)) (r .places)))
 
 -- the ring of the words p, n places
 abbrev pub ringIn : ℕ → List ℕ → ℕ → ℕ → Ring
-ringIn n p i j = record { places = fitted cap (rows 4 n updateOf p); read = i; write = j; size = n }
+ringIn n p i j = record { places = fitted cap (rows updateWidth n updateOf p); read = i; write = j; size = n }
 
 -- ---- place by place
 
-pub update-read : (p : List ℕ) (a : ℕ) → record { kind = getD p a 0; a = getD p (a + 1) 0; b = getD p (a + 2) 0; c = getD p (a + 3) 0 } ≡ updateOf (part p a 4)
+pub update-read : (p : List ℕ) (a : ℕ) → record { kind = getD p a 0; a = getD p (a + 1) 0; b = getD p (a + 2) 0; c = getD p (a + 3) 0 } ≡ updateOf (part p a updateWidth)
 update-read p a =
     let e : a + 0 ≡ a = omega arith in
     rw (part-at p a 4 0 (omega arith), part-at p a 4 1 (omega arith), part-at p a 4 2 (omega arith), part-at p a 4 3 (omega arith), e)
 
 -- the first i places are read
 abbrev pub readTo : List ℕ → ℕ → List Update
-readTo p i = fitted cap (rows 4 i updateOf p)
+readTo p i = fitted cap (rows updateWidth i updateOf p)
 
 pub read-none : (p : List ℕ) → readTo p 0 ≡ replicate cap noUpdate
 unfolding rows
 read-none p = fitted-empty cap
 
-pub read-more : (p : List ℕ) (i : ℕ) → i < cap → set (readTo p i) i (updateOf (part p (i * 4) 4)) ≡ readTo p (i + 1)
+pub read-more : (p : List ℕ) (i : ℕ) → i < cap → set (readTo p i) i (updateOf (part p (i * updateWidth) updateWidth)) ≡ readTo p (i + 1)
 read-more p i h = rw (add-one, rows-more 4 i updateOf p) (fitted-more cap (rows 4 i updateOf p) _ i (length-rows 4 i updateOf p) h)
 
 -- ---- the ring's words in the tables
@@ -53,13 +53,13 @@ read-more p i h = rw (add-one, rows-more 4 i updateOf p) (fitted-more cap (rows 
 pub record RingAt (t : List ℕ) (r : Span) : Type 0 where
   pub places : r .places ≡ sizesOf t .updates + 1
   pub start : r .start ≡ offset (widths (sizesOf t)) 7
-  pub end : r .end ≡ r .start + r .places * 4
+  pub end : r .end ≡ r .start + r .places * updateWidth
   pub inside : r .end ≤ length t
   pub few : r .places ≤ cap
 
 -- the place that the code computes from the sizes z
 pub ring-found : (t : List ℕ) (z : Sizes) (o : ℕ) → Sized t → z ≡ sizesOf t → o ≡ offset (widths z) 7
-    → RingAt t (record { start = o; end = o + (z .updates + 1) * 4; places = z .updates + 1 })
+    → RingAt t (record { start = o; end = o + (z .updates + 1) * updateWidth; places = z .updates + 1 })
 ring-found t z o s ez eo =
     let n : z .updates ≡ sizesOf t .updates = ap (λ (y : Sizes). y .updates) ez in
     let e : o ≡ offset (widths (sizesOf t)) 7 = eo ∙ rw ez in

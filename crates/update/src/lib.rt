@@ -3,6 +3,7 @@ ghost use mathlib.Core.Path.{_≡_};
 ghost use Prim.Native.Nat.{_+_, _*_, _≤_};
 ghost use lib.ListN.{length};
 ghost use Rattle.words.specs.Runs.{part};
+ghost use Rattle.sizes.specs.Sizes.{updateWidth};
 ghost use Rattle.tables.specs.Tables.{withPlaces, withUpdate};
 ghost use Rattle.tables.specs.View.{view, Sized, Left, updateOf};
 ghost use Rattle.ring.specs.Ring.{cap, cleanupOf, pushOf, popOf, markOf};
@@ -12,6 +13,7 @@ use ring::PLACES;
 use ring::Ring;
 use ring::cleanup;
 use ring::permission;
+use sizes::UPDATE_WIDTH;
 use tables::Update;
 
 // The words of the ring, from `start` up to `end`.
@@ -30,7 +32,7 @@ fn span_of(t: &[u64]) -> Span
     let places = z.updates + 1;
     Span {
         start,
-        end: start + places * 4,
+        end: start + places * UPDATE_WIDTH,
         places,
     }
 }
@@ -38,8 +40,8 @@ fn span_of(t: &[u64]) -> Span
 // ---- In the words of the ring
 
 fn read_update(p: &[u64], a: usize) -> Update
-    requires { ⌜ a + 4 ≤ length (now p) ⌝ }
-    ensures { λ r. ⌜ r ≡ updateOf (part (now (p .entry)) a 4) ⌝ }
+    requires { ⌜ a + updateWidth ≤ length (now p) ⌝ }
+    ensures { λ r. ⌜ r ≡ updateOf (part (now (p .entry)) a updateWidth) ⌝ }
 {
     Update {
         kind: p[a],
@@ -50,14 +52,14 @@ fn read_update(p: &[u64], a: usize) -> Update
 }
 
 fn ring_in(p: &[u64], n: usize, read: usize, write: usize) -> Ring
-    requires { ⌜ length (now p) ≡ n * 4 ⌝ }
+    requires { ⌜ length (now p) ≡ n * updateWidth ⌝ }
     requires { ⌜ n ≤ cap ⌝ }
     ensures { λ r. ⌜ r ≡ ringIn n (now (p .entry)) read write ⌝ }
 {
     let mut places = [tables::no_update(); PLACES];
     let mut i = 0;
     while i < n {
-        places[i] = read_update(p, i * 4);
+        places[i] = read_update(p, i * UPDATE_WIDTH);
         i += 1;
     }
     Ring {

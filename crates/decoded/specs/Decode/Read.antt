@@ -15,6 +15,7 @@ use Rattle.tables.specs.declared.Slot.{Slot}
 use Rattle.tables.specs.declared.RegionCapa.{RegionCapa}
 use Rattle.tables.specs.declared.Region.{Region}
 use Rattle.tables.specs.declared.Update.{Update}
+use Rattle.tables.specs.Kinds.{PERMISSION}
 use Rattle.tables.specs.Tables.{Tables, Arena, Domain, noDomain, noSlot, noRegion, noRecord, noUpdate}
 
 -- ---- walks
@@ -66,7 +67,7 @@ tableFrom n a f = map (λ i. if taken a i then some (f i) else none) (countUp 0 
 abbrev pub handleFrom : Handle → state.Handle
 handleFrom h = record { slot = h .slot; gen = h .generation }
 
--- what a slot holds, by its kind; a kind above 5 is none that a list has
+-- what a slot holds, by its kind; a kind above CHANNEL is none that a list has
 abbrev pub capaFrom : ℕ → Handle → Option Capa
 capaFrom zero h = some noCapa
 capaFrom (suc zero) h = none
@@ -132,9 +133,9 @@ regionsFrom v = tableFrom (v .sizes .regions) (v .regionPool) (λ i. regionFrom 
 
 -- ---- the ring
 
--- by the kind word; only 1 and 2 stand in a queue
+-- by the kind word; only permissions and cleanups stand in a queue
 abbrev pub updateFrom : Update → state.Update
-updateFrom u = if eqb (u .kind) 1 then permission (record { slot = u .a; gen = u .b }) (u .c) else cleanup (u .a) (u .b)
+updateFrom u = if eqb (u .kind) PERMISSION then permission (record { slot = u .a; gen = u .b }) (u .c) else cleanup (u .a) (u .b)
 
 -- from place p of n up to place w, going round, at most k places
 abbrev pub placesFrom : ℕ → ℕ → ℕ → ℕ → List ℕ

@@ -12,6 +12,7 @@ use Rattle.tables.specs.declared.Slot.{Slot}
 use Rattle.tables.specs.declared.RegionCapa.{RegionCapa}
 use Rattle.tables.specs.declared.Region.{Region}
 use Rattle.tables.specs.declared.Update.{Update}
+use Rattle.tables.specs.Kinds.{NONE, FREE, CHANNEL, ROOT, ALIAS, CARVE, PERMISSION, CLEANUP}
 use Rattle.tables.specs.Tables.{Tables, Arena, Domain, noDomain, noSlot, noRegion, noRecord, noUpdate}
 use Rattle.decoded.specs.Tables.{domainFor, tablesOf}
 use Rattle.decoded.specs.Decode.Read.{afterFree, freeFrom, taken, afterSlot, listFrom, childrenFrom, domainsFrom, stateOf}
@@ -36,9 +37,9 @@ Marked n a = (i : ℕ) → i < n → taken a i ≡ not (any (eqb i) (freeFrom n 
 
 -- a slot of a capability list
 pub record SlotTidy (x : Slot) : Type 0 where
-  pub kindKnown : x .kind ≤ 5
-  pub noneClear : x .kind ≡ 0 → x .handle .slot ≡ 0
-  pub generationClear : x .kind ≤ 1 → x .handle .generation ≡ 0
+  pub kindKnown : x .kind ≤ CHANNEL
+  pub noneClear : x .kind ≡ NONE → x .handle .slot ≡ 0
+  pub generationClear : x .kind ≤ FREE → x .handle .generation ≡ 0
 
 -- A domain in use, with m slots: its free stack as that of a pool.
 pub record DomainTidy (m : ℕ) (x : Domain) : Type 0 where
@@ -48,18 +49,18 @@ pub record DomainTidy (m : ℕ) (x : Domain) : Type 0 where
 
 -- a region in use
 pub record RegionTidy (r : RegionCapa) : Type 0 where
-  pub kindLow : 1 ≤ r .kind
-  pub kindHigh : r .kind ≤ 3
+  pub kindLow : ROOT ≤ r .kind
+  pub kindHigh : r .kind ≤ CARVE
   pub owned : 0 < r .owner
-  pub rootParent : r .kind ≡ 1 → r .parent ≡ 0
-  pub rootNext : r .kind ≡ 1 → r .next ≡ 0
-  pub childParent : 2 ≤ r .kind → 0 < r .parent
+  pub rootParent : r .kind ≡ ROOT → r .parent ≡ 0
+  pub rootNext : r .kind ≡ ROOT → r .next ≡ 0
+  pub childParent : ALIAS ≤ r .kind → 0 < r .parent
 
 -- a place of the ring where an update is queued
 pub record UpdateTidy (u : Update) : Type 0 where
-  pub kindLow : 1 ≤ u .kind
-  pub kindHigh : u .kind ≤ 2
-  pub cleanupClear : u .kind ≡ 2 → u .c ≡ 0
+  pub kindLow : PERMISSION ≤ u .kind
+  pub kindHigh : u .kind ≤ CLEANUP
+  pub cleanupClear : u .kind ≡ CLEANUP → u .c ≡ 0
 
 -- ---- the whole
 

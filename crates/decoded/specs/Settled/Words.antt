@@ -11,7 +11,7 @@ use Rattle.model.specs.Layout.{words}
 use Rattle.model.specs.Sound.{Sound}
 use Rattle.words.specs.Runs.{length-part}
 use Rattle.words.specs.Rows.{rows, length-rows}
-use Rattle.sizes.specs.Sizes.{sizesOf, stride}
+use Rattle.sizes.specs.Sizes.{sizesOf, stride, headWidth, slotWidth, regionWidth, recordWidth, updateWidth}
 use Rattle.tables.specs.View.{slotOf, regionOf, recordOf, updateOf, arenaOf, domainOf, ofParts, view, Sized}
 use Rattle.tables.specs.Sections.{section, section-length}
 use Rattle.decoded.specs.Shape.{PoolShaped, Shaped}
@@ -33,7 +33,7 @@ each-row P w (suc n) f l h = (h (take w l), each-row P w n f (drop w l) h)
 
 slots-many : (n : ℕ) (p : List ℕ) → length (domainOf n p .slots) ≡ n
 unfolding domainOf
-slots-many n p = length-rows 3 n slotOf (drop 5 p)
+slots-many n p = length-rows slotWidth n slotOf (drop headWidth p)
 
 pub view-shaped : (t : List ℕ) → Sized t → Shaped (view t)
 unfolding view ofParts
@@ -46,9 +46,9 @@ view-shaped t s =
       recordPool = arena-shaped (z .records) (section t 3) (section-length t 3 s);
       domains = length-rows (stride z) (z .domains) (domainOf (z .slots)) (section t 4);
       slots = each-row _ (stride z) (z .domains) (domainOf (z .slots)) (section t 4) (slots-many (z .slots));
-      regions = length-rows 8 (z .regions) regionOf (section t 5);
-      records = length-rows 9 (z .records) recordOf (section t 6);
-      ring = length-rows 4 (z .updates + 1) updateOf (section t 7);
+      regions = length-rows regionWidth (z .regions) regionOf (section t 5);
+      records = length-rows recordWidth (z .records) recordOf (section t 6);
+      ring = length-rows updateWidth (z .updates + 1) updateOf (section t 7);
     }
 
 -- ---- the words of a sound state

@@ -1,18 +1,12 @@
--- The widths of the sections before.
-use Prim.Native.Nat.{_-_}
-use Rattle.arena.specs.Arena.{given}
-use Rattle.sizes.specs.Sizes.{sizesOf}
+-- The section's start, at the sizes that the header has.
 use Rattle.words.specs.Cuts.{offset}
 use borrow.Author.Needs.{needs}
-use native.Mathlib.Omega.{arith}
+use mathlib.Core.Path.{_∙_}
 use Rattle.pools.proofs.start_of.Statement.{statement}
 use Rattle.pools.proofs.start_of.Tie as tie
 
-size-requires : tie.Need-size-requires
-size-requires c κs = search needs
-
-size-requires-2 : tie.Need-size-requires-2
-size-requires-2 c κs = search needs
+read-sizes-requires : tie.Need-read-sizes-requires
+read-sizes-requires c κs = search needs
 
 enum-told : tie.Need-enum-told
 enum-told c = search needs
@@ -20,55 +14,35 @@ enum-told c = search needs
 enum-told-2 : tie.Need-enum-told-2
 enum-told-2 c = search needs
 
-mul-result : tie.Need-mul-result
-unfolding sizesOf
-mul-result c = omega (arith, (c .before .before .before .size .ensures), (c .before .before .size2 .ensures), (c .before .before .before .before .before .pre .limits .domains-high), (c .before .before .before .before .before .pre .limits .regions-high))
-
-add-result : tie.Need-add-result
-unfolding sizesOf
-add-result c = omega (arith, (c .before .before .before .size .ensures), (c .before .before .size2 .ensures), (c .before .before .before .before .before .pre .limits .domains-high), (c .before .before .before .before .before .pre .limits .regions-high))
+region-pool-at-requires : tie.Need-region-pool-at-requires
+region-pool-at-requires c κs = rw (c .before .before .read-sizes .ensures) (c .before .before .before .before .pre .limits)
 
 enum-told-3 : tie.Need-enum-told-3
 enum-told-3 c = search needs
 
-add-result-2 : tie.Need-add-result-2
-unfolding sizesOf
-add-result-2 c = omega (arith, (c .before .before .before .size .ensures), (c .before .before .size2 .ensures), (c .before .before .before .before .before .pre .limits .domains-high), (c .before .before .before .before .before .pre .limits .regions-high))
-
-mul-result-2 : tie.Need-mul-result-2
-unfolding sizesOf
-mul-result-2 c = omega (arith, (c .before .before .before .size .ensures), (c .before .before .size2 .ensures), (c .before .before .before .before .before .pre .limits .domains-high), (c .before .before .before .before .before .pre .limits .regions-high))
-
-add-result-3 : tie.Need-add-result-3
-unfolding sizesOf
-add-result-3 c = omega (arith, (c .before .before .before .size .ensures), (c .before .before .size2 .ensures), (c .before .before .before .before .before .pre .limits .domains-high), (c .before .before .before .before .before .pre .limits .regions-high))
+record-pool-at-requires : tie.Need-record-pool-at-requires
+record-pool-at-requires c κs = rw (c .before .before .read-sizes .ensures) (c .before .before .before .before .pre .limits)
 
 returns : tie.Need-returns
-unfolding sizesOf offset
-returns c = rw ((c .enum-told .given .1)) (omega (arith, (c .before .before .before .size .ensures), (c .before .before .size2 .ensures)))
+unfolding offset
+returns c = rw (c .enum-told .given .1)
 
 returns-2 : tie.Need-returns-2
-unfolding sizesOf offset
-returns-2 c = rw ((c .enum-told2 .given .1)) (omega (arith, (c .before .before .before .size .ensures), (c .before .before .size2 .ensures)))
+returns-2 c = rw (c .before .enum-told2 .given .1) ((c .region-pool-at .ensures) ∙ rw (c .before .before .before .read-sizes .ensures))
 
 returns-3 : tie.Need-returns-3
-unfolding sizesOf offset
-returns-3 c = rw ((c .enum-told3 .given .1)) (omega (arith, (c .before .before .before .size .ensures), (c .before .before .size2 .ensures)))
+returns-3 c = rw (c .before .enum-told3 .given .1) ((c .record-pool-at .ensures) ∙ rw (c .before .before .before .read-sizes .ensures))
 
 pub start-of-spec : {M : Type 1} → statement M
 start-of-spec =
     tie.close
     (tie.spec
-    size-requires
-    size-requires-2
+    read-sizes-requires
     enum-told
     enum-told-2
-    mul-result
-    add-result
+    region-pool-at-requires
     enum-told-3
-    add-result-2
-    mul-result-2
-    add-result-3
+    record-pool-at-requires
     returns
     returns-2
     returns-3)

@@ -5,21 +5,22 @@ use native.Mathlib.Omega.{arith}
 use Rattle.sizes.proofs.domains_at.Statement.{statement}
 use Rattle.sizes.proofs.domains_at.Tie as tie
 
-add-result : tie.Need-add-result
-add-result c = search needs
-
-add-result-2 : tie.Need-add-result-2
-add-result-2 c = search needs
+record-pool-at-requires : tie.Need-record-pool-at-requires
+record-pool-at-requires c κs = search needs
 
 mul-result : tie.Need-mul-result
 mul-result c = search needs
 
-add-result-3 : tie.Need-add-result-3
-add-result-3 c = search needs
+add-result : tie.Need-add-result
+add-result c = search needs
+
+add-result-2 : tie.Need-add-result-2
+unfolding offset
+add-result-2 c = omega arith
 
 returns : tie.Need-returns
 unfolding offset
 returns c = omega arith
 
 pub domains-at-spec : {M : Type 1} → statement M
-domains-at-spec = tie.close (tie.spec add-result add-result-2 mul-result add-result-3 returns)
+domains-at-spec = tie.close (tie.spec record-pool-at-requires mul-result add-result add-result-2 returns)

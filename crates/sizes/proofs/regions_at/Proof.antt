@@ -9,24 +9,21 @@ use Rattle.sizes.proofs.regions_at.Tie as tie
 domains-at-requires : tie.Need-domains-at-requires
 domains-at-requires c κs = search needs
 
+domain-width-requires : tie.Need-domain-width-requires
+domain-width-requires c κs = search needs
+
 mul-result : tie.Need-mul-result
-mul-result c = search needs
+mul-result c = let h = rw (← (c .before .domain-width .ensures)) at (domains-fit (c .before .before .before .args .z) (c .before .before .before .pre)) in omega arith
 
 add-result : tie.Need-add-result
-add-result c = search needs
-
-mul-result-2 : tie.Need-mul-result-2
-mul-result-2 c = omega (arith, domains-fit (c .before .before .before .args .z) (c .before .before .before .pre))
-
-add-result-2 : tie.Need-add-result-2
 unfolding offset
-add-result-2 c = omega (arith, domains-fit (c .before .before .before .args .z) (c .before .before .before .pre))
+add-result c = let h = rw (← (c .before .domain-width .ensures)) at (domains-fit (c .before .before .before .args .z) (c .before .before .before .pre)) in omega arith
 
 returns : tie.Need-returns
 unfolding offset
-returns c = omega arith
+returns c = rw (c .before .domain-width .ensures) (omega arith)
 
 pub regions-at-spec : {M : Type 1} → statement M
 regions-at-spec =
     tie.close
-    (tie.spec domains-at-requires mul-result add-result mul-result-2 add-result-2 returns)
+    (tie.spec domains-at-requires domain-width-requires mul-result add-result returns)

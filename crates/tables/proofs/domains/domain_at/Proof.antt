@@ -1,9 +1,8 @@
 -- The place of row i, at the start and the width of its section.
-use Prim.Native.Nat.{_+_, _*_}
+use Prim.Native.Nat.{ℕ, _*_}
 use Rattle.tables.specs.Rows.{rows-inside}
 use borrow.Author.Needs.{needs}
-use mathlib.Core.Path.{refl, _∙_}
-use native.Mathlib.Omega.{arith}
+use mathlib.Core.Path.{sym, ap, _∙_}
 use Rattle.tables.proofs.domains.domain_at.Statement.{statement}
 use Rattle.tables.proofs.domains.domain_at.Tie as tie
 
@@ -13,17 +12,14 @@ read-sizes-requires c κs = search needs
 domains-at-requires : tie.Need-domains-at-requires
 domains-at-requires c κs = rw (c .read-sizes .ensures) (c .before .before .pre .limits)
 
-mul-row-at : tie.Need-mul-row-at
-mul-row-at c = let h = rw (← (c .before .before .read-sizes .ensures)) at (c .before .before .before .before .pre .limits) in omega arith
-
-add-row-at : tie.Need-add-row-at
-add-row-at c = let h = rw (← (c .before .before .read-sizes .ensures)) at (c .before .before .before .before .pre .limits) in omega arith
+domain-width-requires : tie.Need-domain-width-requires
+domain-width-requires c κs = rw (c .before .read-sizes .ensures) (c .before .before .before .pre .limits)
 
 row-at-requires : tie.Need-row-at-requires
-row-at-requires c κs = rows-inside _ 4 _ (c .before .before .read-sizes .result .domains) (5 + (c .before .before .read-sizes .result .slots) * 3) _ (c .before .before .before .before .pre) (c .before .before .read-sizes .ensures) (c .before .domains-at .ensures) refl
+row-at-requires c κs = rows-inside _ 4 _ (c .before .before .read-sizes .result .domains) (c .domain-width .result) _ (c .before .before .before .before .pre) (c .before .before .read-sizes .ensures) (c .before .domains-at .ensures) (ap (λ (w : ℕ). c .before .before .read-sizes .result .domains * w) (sym (c .domain-width .ensures)))
 
 returns : tie.Need-returns
-returns c = (c .row-at .ensures) ∙ rw ((c .before .before .domains-at .ensures), (c .before .before .before .read-sizes .ensures))
+returns c = (c .row-at .ensures) ∙ rw ((c .before .domain-width .ensures), (c .before .before .domains-at .ensures), (c .before .before .before .read-sizes .ensures))
 
 pub domain-at-spec : {M : Type 1} → statement M
 domain-at-spec =
@@ -31,7 +27,6 @@ domain-at-spec =
     (tie.spec
     read-sizes-requires
     domains-at-requires
-    mul-row-at
-    add-row-at
+    domain-width-requires
     row-at-requires
     returns)
