@@ -1,2 +1,2 @@
-pub mod Hands
+pub mod Buffered
 pub mod Bounds

@@ -3,11 +3,11 @@ ghost use mathlib.Core.Path.{_≡_};
 ghost use Prim.Native.Nat.{ℕ, _+_, _<_, _≤_};
 ghost use lib.ListN.{length, getD};
 ghost use mathlib.Core.Bool.{true};
-ghost use Rattle.byte_io.specs.Hands.{Within, Keeps};
+ghost use Rattle.byte_io.specs.Buffered.{Within, Keeps};
 use libc::STDIN_FILENO;
 
 // The bytes at hand are those from `at` up to `end`; `more`: the input had not ended behind them.
-pub struct Hand {
+pub struct Buffered {
     pub at: usize,
     pub end: usize,
     pub more: bool,
@@ -29,13 +29,13 @@ fn move_down(b: &mut [u8], at: usize, n: usize)
 }
 
 // Reads behind n bytes at the front.
-fn read_behind(b: &mut [u8], n: usize) -> Hand
+fn read_behind(b: &mut [u8], n: usize) -> Buffered
     requires { ⌜ n ≤ length (now b) ⌝ }
     ensures { λ r. ⌜ Within r (length (now (b .entry))) ⌝ }
     ensures { λ r. ⌜ Keeps (record { at = 0; end = n; more = true }) (now (b .entry)) r (now (b .exit)) ⌝ }
 {
     let got = io::read_full(STDIN_FILENO, &mut b[n..]);
-    Hand {
+    Buffered {
         at: 0,
         end: n + got,
         more: n + got == b.len(),
@@ -43,7 +43,7 @@ fn read_behind(b: &mut [u8], n: usize) -> Hand
 }
 
 // A whole record at hand, where the input has one; the bytes that were at hand are still the first.
-pub fn ready(b: &mut [u8], h: Hand) -> Hand
+pub fn ready(b: &mut [u8], h: Buffered) -> Buffered
     requires { ⌜ Within h (length (now b)) ⌝ }
     ensures { λ r. ⌜ Within r (length (now (b .entry))) ⌝ }
     ensures { λ r. ⌜ Keeps h (now (b .entry)) r (now (b .exit)) ⌝ }

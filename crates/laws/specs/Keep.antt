@@ -1,6 +1,6 @@
 -- The trackers, the pools and the update ring through the calls: the stored counts stay those of the regions, and the ring and the pools stay sound.
 pub mod Slots
-pub mod Aside
+pub mod SameDomains
 pub mod Outside
 pub mod Tracked
 pub mod Coupled

@@ -3,7 +3,7 @@ pub mod Named
 pub mod Takes
 pub mod Outcomes
 pub mod Chains
-pub mod Dealt
-pub mod Halfway
+pub mod RunScript
+pub mod BetweenRecords
 pub mod Steps
 pub mod Made

@@ -18,8 +18,8 @@ use Rattle.script_records.specs.Script.{scriptCalls}
 use Rattle.frame.specs.declared.replies.Reply.{Reply}
 use Rattle.frame.specs.Replies.{replyOf, Returns}
 use Rattle.frame.specs.Finish.{zeroed-clear}
-use Rattle.running.specs.Dealt.{Dealt}
-use Rattle.running.specs.Halfway.{RunsAll}
+use Rattle.running.specs.RunScript.{RanScript}
+use Rattle.running.specs.BetweenRecords.{RunsAll}
 
 -- ---- making
 
@@ -42,12 +42,12 @@ makes t w z y t₁ w₁ g (performed d s q l) = absurd q
 -- ---- the promise: r is what making replied, which left t₁ and w₁
 
 module _ (b t w : List ℕ) where
-  refused-by : (r : Reply) (y : Answer) (t₁ w₁ : List ℕ) → r ≡ replyOf y → (r .refusal ≡ 0 → ⊥) → Makes t w scriptSizes y t₁ w₁ → Dealt b t w r t₁ w₁
+  refused-by : (r : Reply) (y : Answer) (t₁ w₁ : List ℕ) → r ≡ replyOf y → (r .refusal ≡ 0 → ⊥) → Makes t w scriptSizes y t₁ w₁ → RanScript b t w r t₁ w₁
   refused-by r y t₁ w₁ e n (Makes.fits f) = absurd (n (ap (λ (x : Reply). x .refusal) e))
   refused-by r y t₁ w₁ e n (Makes.unfit f) = record { unfit = λ _. (e, refl); reply = λ g. absurd (f g); ended = λ g. absurd (f g); clear = refl }
 
   ran-by : (r : Reply) (y : Answer) (t₁ w₁ : List ℕ) → After t w (Call.Make scriptSizes) y t₁ w₁ → r ≡ replyOf y → r .refusal ≡ 0
-      → (x : Reply) (t₂ w₂ : List ℕ) → RunsAll b t₁ w₁ x t₂ w₂ → Makes t w scriptSizes y t₁ w₁ → Dealt b t w x t₂ w₂
+      → (x : Reply) (t₂ w₂ : List ℕ) → RunsAll b t₁ w₁ x t₂ w₂ → Makes t w scriptSizes y t₁ w₁ → RanScript b t w x t₂ w₂
   ran-by r y t₁ w₁ a e k x t₂ w₂ h (Makes.fits f) =
       record {
         unfit = λ n. absurd (n f);
@@ -65,8 +65,8 @@ module _ (b t w : List ℕ) where
     by-making : Makes t w scriptSizes (m .answer) t₁ w₁
     by-making = makes t w scriptSizes (m .answer) t₁ w₁ tt (m .after)
 
-    pub dealt-refused : (r .refusal ≡ 0 → ⊥) → Dealt b t w r t₁ w₁
+    pub dealt-refused : (r .refusal ≡ 0 → ⊥) → RanScript b t w r t₁ w₁
     dealt-refused n = refused-by r (m .answer) t₁ w₁ (m .reply) n by-making
 
-    pub dealt-ran : r .refusal ≡ 0 → (x : Reply) (t₂ w₂ : List ℕ) → RunsAll b t₁ w₁ x t₂ w₂ → Dealt b t w x t₂ w₂
+    pub dealt-ran : r .refusal ≡ 0 → (x : Reply) (t₂ w₂ : List ℕ) → RunsAll b t₁ w₁ x t₂ w₂ → RanScript b t w x t₂ w₂
     dealt-ran k x t₂ w₂ h = ran-by r (m .answer) t₁ w₁ (m .after) (m .reply) k x t₂ w₂ h by-making

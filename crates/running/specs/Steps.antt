@@ -24,8 +24,8 @@ use Rattle.running.specs.declared.scripts.Place.{Place}
 use Rattle.running.specs.declared.scripts.Ran.{Ran}
 use Rattle.running.specs.Chains.{chain-end, each-end}
 use Rattle.running.specs.Outcomes.{WasRun, NotRun}
-use Rattle.running.specs.Dealt.{scriptReply}
-use Rattle.running.specs.Halfway.{followed, Halfway, RunsAll}
+use Rattle.running.specs.RunScript.{scriptReply}
+use Rattle.running.specs.BetweenRecords.{followed, BetweenRecords, RunsAll}
 
 -- ---- bytes, and the work area
 
@@ -65,10 +65,10 @@ followed-one cs c r = ap (λ (l : List Call). (l, r .1)) (sym (append-assoc cs (
 -- ---- the laws
 
 module _ (b t₀ w₀ : List ℕ) where
-  pub half-start : Halfway b t₀ w₀ 0 0 t₀ w₀
+  pub half-start : BetweenRecords b t₀ w₀ 0 0 t₀ w₀
   half-start = record { calls = []; answers = []; chain = Chain.start; words = tt; rest = refl; count = refl; few = omega arith; inside = omega arith; work = λ h. h }
 
-  module _ (n at : ℕ) (t w : List ℕ) (h : Halfway b t₀ w₀ n at t w) where
+  module _ (n at : ℕ) (t w : List ℕ) (h : BetweenRecords b t₀ w₀ n at t w) where
     -- what follows is the end, or a bad record
     ended : (bad : Bool) → scriptCalls (drop at b) ≡ ([], bad) → RunsAll b t₀ w₀ (record { refusal = if bad then 17 else 0; value = n }) t w
     ended bad e =
@@ -94,7 +94,7 @@ module _ (b t₀ w₀ : List ℕ) where
       pub half-bad : NotRun found.Bad p t w t₂ w₂ → (r : Reply) → r ≡ record { refusal = 17; value = n } → RunsAll b t₀ w₀ r t₂ w₂
       half-bad x r d = rw (d, x .tables, x .work) (ended true (ap scriptCalls (sym e) ∙ bad-first p (x .stood)))
 
-      half-next : Bytes b → (y : Ran) → WasRun p t w y t₂ w₂ → Halfway b t₀ w₀ (n + 1) (at + y .size) t₂ w₂
+      half-next : Bytes b → (y : Ran) → WasRun p t w y t₂ w₂ → BetweenRecords b t₀ w₀ (n + 1) (at + y .size) t₂ w₂
       half-next known y x =
           let c = callIn (x .r) in
           let s = call-size p (x .r) (x .stood) in
@@ -116,5 +116,5 @@ module _ (b t₀ w₀ : List ℕ) where
             work = λ (v : w₀ ≡ zeroed w₀). after-clear t w c (x .answer) t₂ w₂ (x .after) ∙ ap zeroed (h .work v) ∙ zeroed-twice w₀;
           }
 
-      pub half-behind : Bytes b → (y : Ran) → WasRun p t w y t₂ w₂ → (q : Place) → q ≡ record { at = at + y .size; calls = n + 1 } → Halfway b t₀ w₀ (q .calls) (q .at) t₂ w₂
-      half-behind known y x q d = subst (λ (z : Place). Halfway b t₀ w₀ (z .calls) (z .at) t₂ w₂) (sym d) (half-next known y x)
+      pub half-behind : Bytes b → (y : Ran) → WasRun p t w y t₂ w₂ → (q : Place) → q ≡ record { at = at + y .size; calls = n + 1 } → BetweenRecords b t₀ w₀ (q .calls) (q .at) t₂ w₂
+      half-behind known y x q d = subst (λ (z : Place). BetweenRecords b t₀ w₀ (z .calls) (z .at) t₂ w₂) (sym d) (half-next known y x)

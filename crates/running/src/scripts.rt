@@ -3,8 +3,8 @@ ghost use mathlib.Core.Path.{_≡_};
 ghost use Prim.Native.Nat.{_+_, _<_, _^_};
 ghost use Rattle.script_records.specs.Parsed.{parsed};
 ghost use Rattle.running.specs.Takes.{Takes};
-ghost use Rattle.running.specs.Halfway.{RunsAll};
-ghost use Rattle.running.specs.Dealt.{Dealt};
+ghost use Rattle.running.specs.BetweenRecords.{RunsAll};
+ghost use Rattle.running.specs.RunScript.{RanScript};
 use crate::perform;
 use engine::make;
 use frame::Reply;
@@ -87,7 +87,7 @@ fn run_records(b: &[u8], t: &mut [u64], w: &mut [u64]) -> Reply
 // A whole script: makes its tables in the lent memory and runs the records of the lent bytes on them. The reply is the making's where that is
 // refused; else 0, or 17 where a bad record ended the script, with the number of calls run.
 pub fn run_script(b: &[u8], t: &mut [u64], w: &mut [u64]) -> Reply
-    ensures { λ x. ⌜ Dealt (now (b .entry)) (now (t .entry)) (now (w .entry)) x (now (t .exit)) (now (w .exit)) ⌝ }
+    ensures { λ x. ⌜ RanScript (now (b .entry)) (now (t .entry)) (now (w .entry)) x (now (t .exit)) (now (w .exit)) ⌝ }
 {
     let made = make::mityvurno_make_tables(t, w, 8, 16, 128, 128, 32);
     if made.refusal == 0 {

@@ -5,7 +5,7 @@ ghost use Prim.Native.Nat.{_+_, _≤_};
 ghost use lib.ListN.{length};
 ghost use Rattle.tables.specs.View.{Sized};
 use byte_io::input;
-use byte_io::input::Hand;
+use byte_io::input::Buffered;
 use byte_io::output;
 use engine::make;
 use engine::queue;
@@ -62,7 +62,7 @@ fn run_records(b: &mut [u8], text: &mut [u8], t: &mut [u64], w: &mut [u64]) -> u
     requires { ⌜ 128 ≤ length (now text) ⌝ }
     ensures { λ r. ⌜ r ≤ length (now (text .entry)) ⌝ }
 {
-    let mut h = Hand {
+    let mut h = Buffered {
         at: 0,
         end: 0,
         more: true,

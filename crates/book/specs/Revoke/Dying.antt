@@ -12,7 +12,7 @@ use Rattle.model.specs.State.{Handle, LocalList, Domain, Kind, Root, Alias, Car
 use Rattle.model.specs.Tree.{isRootKind}
 use Rattle.laws.specs.Cases.{true-is}
 use Rattle.laws.specs.Tree.Slots.{none-some}
-use Rattle.laws.specs.Keep.Aside.{untracked}
+use Rattle.laws.specs.Keep.SameDomains.{untracked}
 use Rattle.book.specs.Book.{Noted, Slots, noted, dying}
 use Rattle.book.specs.Demand3.{kindBy}
 use Rattle.book.specs.Matches.{Both, nil, cons, SameSlots, SameList, notOpened, isOpened}

@@ -18,7 +18,7 @@ use Rattle.laws.specs.Cases.{true-is, eqb-t, holds, fails, test}
 use Rattle.laws.specs.Tree.Slots.{none-some, some-same}
 use Rattle.laws.specs.Tree.Change.{bare, same-bare}
 use Rattle.laws.specs.Tree.Below.{Below, Revoked}
-use Rattle.laws.specs.Keep.Aside.{Aside}
+use Rattle.laws.specs.Keep.SameDomains.{SameDomains}
 use Rattle.laws.specs.Keep.Coupled.{sound-good}
 use Rattle.laws.specs.Keep.Revoke.{revoke-good}
 use Rattle.book.specs.Book.{Book, Noted, Slots, noted, isUnder, mostAbove, dying, killed}
@@ -34,7 +34,7 @@ most-above rs = omega arith
 
 -- ---- the regions
 
-module _ (b : Book) (s t : State) (at : ℕ → Handle) (place : ℕ → ℕ) (m : MatchesAt b s at place) (k : ℕ) (below : k < length (b .regions)) (lives : noted (b .regions) k .alive ≡ true) (p₀ : ℕ) (child : parentOf (noted (b .regions) k .kind) ≡ some p₀) (others : Aside s t) (gens : GensAfter s t) (done : Revoked (s .regions) (at k .slot) (t .regions)) where
+module _ (b : Book) (s t : State) (at : ℕ → Handle) (place : ℕ → ℕ) (m : MatchesAt b s at place) (k : ℕ) (below : k < length (b .regions)) (lives : noted (b .regions) k .alive ≡ true) (p₀ : ℕ) (child : parentOf (noted (b .regions) k .kind) ≡ some p₀) (others : SameDomains s t) (gens : GensAfter s t) (done : Revoked (s .regions) (at k .slot) (t .regions)) where
   abbrev rs : List Noted
   rs = b .regions
 

@@ -7,7 +7,7 @@ use Rattle.model.specs.State.{State, Sizes, Word, Pool, Domain, cleanup}
 use Rattle.model.specs.Updates.{push}
 use Rattle.model.specs.Sound.{Sound}
 use Rattle.laws.specs.Accepted.{All, weaken, both}
-use Rattle.laws.specs.Keep.Aside.{untracked, Aside, Beside, aside-turned, aside-in, aside-live}
+use Rattle.laws.specs.Keep.SameDomains.{untracked, SameDomains, SameOutside, same-domains-turned, same-domains-in, same-domains-live}
 use Rattle.laws.specs.Keep.Tracked.{push-queue}
 use Rattle.laws.specs.Keep.Pools.{Table, table-same}
 use Rattle.laws.specs.Keep.Ring.{Ring, sound-ring, calm-ring, cleanup-ring}
@@ -28,18 +28,18 @@ sound-base s h = record { ring = sound-ring s h; regions = record { size = h .ou
 
 -- ---- the domains are the same, but for their trackers
 
-aside-cores : (s t : State) → Aside s t → Ring s → (d : ℕ) (y : Domain) → In (t .domains) d y → Word (y .cores)
-aside-cores s t b r d y e =
-    let (x, i, m) = aside-in (aside-turned b) d y e in
+same-domains-cores : (s t : State) → SameDomains s t → Ring s → (d : ℕ) (y : Domain) → In (t .domains) d y → Word (y .cores)
+same-domains-cores s t b r d y e =
+    let (x, i, m) = same-domains-in (same-domains-turned b) d y e in
     subst Word (ap (λ (z : Domain). z .cores) m) (r .cores d x i)
 
-aside-ring : (s t : State) → Aside s t → t .queue ≡ s .queue → Ring s → Ring t
-aside-ring s t b q r = calm-ring s t (record {
+same-domains-ring : (s t : State) → SameDomains s t → t .queue ≡ s .queue → Ring s → Ring t
+same-domains-ring s t b q r = calm-ring s t (record {
   sizes = b .sizes;
   gens = ap (λ (p : Pool). p .gens) (b .domainPool);
   size = b .size;
-  live = aside-live b;
-  cores = aside-cores s t b r;
+  live = same-domains-live b;
+  cores = same-domains-cores s t b r;
   queue = q;
 }) r
 
@@ -47,20 +47,20 @@ some-untracked : (o : Option Domain) → isSome (untracked o) ≡ isSome o
 some-untracked none = refl
 some-untracked (some x) = refl
 
-aside-domains : (s t : State) → Aside s t → DomainTable s → DomainTable t
-aside-domains s t b k =
+same-domains-domains : (s t : State) → SameDomains s t → DomainTable s → DomainTable t
+same-domains-domains s t b k =
     let same : (d : ℕ) → isSome (slotOf (t .domains) d) ≡ isSome (slotOf (s .domains) d) = λ d. sym (some-untracked (slotOf (t .domains) d)) ∙ ap isSome (b .domains d) ∙ some-untracked (slotOf (s .domains) d) in
     subst (λ (p : Pool). Table (t .sizes .domains) (t .domains) p) (sym (b .domainPool)) (subst (λ (z : Sizes). Table (z .domains) (t .domains) (s .domainPool)) (sym (b .sizes)) (table-same (s .sizes .domains) (s .domains) (t .domains) (s .domainPool) (b .size) same k))
 
-pub aside-base : (s t : State) → Aside s t → t .queue ≡ s .queue → RegionTable t → Base s → Base t
-aside-base s t b q k r = record { ring = aside-ring s t b q (r .ring); regions = k; domains = aside-domains s t b (r .domains) }
+pub same-domains-base : (s t : State) → SameDomains s t → t .queue ≡ s .queue → RegionTable t → Base s → Base t
+same-domains-base s t b q k r = record { ring = same-domains-ring s t b q (r .ring); regions = k; domains = same-domains-domains s t b (r .domains) }
 
 -- and so are the regions; of the ring it is known
-pub beside-base : (s t : State) → Beside s t → Ring t → Base s → Base t
-beside-base s t b k r = record {
+pub same-outside-base : (s t : State) → SameOutside s t → Ring t → Base s → Base t
+same-outside-base s t b k r = record {
   ring = k;
-  regions = subst (λ (p : Pool). Table (t .sizes .regions) (t .regions) p) (sym (b .regionPool)) (subst (λ rs. Table (t .sizes .regions) rs (s .regionPool)) (sym (b .regions)) (subst (λ (z : Sizes). Table (z .regions) (s .regions) (s .regionPool)) (sym (b .aside .sizes)) (r .regions)));
-  domains = aside-domains s t (b .aside) (r .domains);
+  regions = subst (λ (p : Pool). Table (t .sizes .regions) (t .regions) p) (sym (b .regionPool)) (subst (λ rs. Table (t .sizes .regions) rs (s .regionPool)) (sym (b .regions)) (subst (λ (z : Sizes). Table (z .regions) (s .regions) (s .regionPool)) (sym (b .sameDomains .sizes)) (r .regions)));
+  domains = same-domains-domains s t (b .sameDomains) (r .domains);
 }
 
 -- ---- a range is queued

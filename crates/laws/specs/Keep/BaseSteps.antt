@@ -18,12 +18,12 @@ use Rattle.model.specs.Calls.{exchangeRights, addChild}
 use Rattle.laws.specs.Accepted.{All, accepted, bind, bind-any, weaken, branch, both}
 use Rattle.laws.specs.Tree.Slots.{in-length, live-is}
 use Rattle.laws.specs.Keep.Slots.{every-put, live-put}
-use Rattle.laws.specs.Keep.Aside.{Aside, Beside, aside-self, aside-then, aside-live}
+use Rattle.laws.specs.Keep.SameDomains.{SameDomains, SameOutside, same-domains-self, same-domains-then, same-domains-live}
 use Rattle.laws.specs.Keep.Tracked.{put, put-beside, put-queue, domain-at}
 use Rattle.laws.specs.Keep.Locals.{insert-all, allocate-free}
 use Rattle.laws.specs.Keep.Pools.{table-put, table-takes}
 use Rattle.laws.specs.Keep.Ring.{calm-ring, permission-ring}
-use Rattle.laws.specs.Keep.Base.{Base, aside-base, beside-base}
+use Rattle.laws.specs.Keep.Base.{Base, same-domains-base, same-outside-base}
 
 -- a domain is live
 abbrev pub Live : State → ℕ → Type 0
@@ -36,34 +36,34 @@ Ready d s = Base s × Live s d
 -- ---- a tracker is written
 
 module _ (s : State) (d : ℕ) (r : Ready d s) where
-  put-base : (w : Walk) → All (λ t. Base t × Beside s t) (putWalk d w s)
+  put-base : (w : Walk) → All (λ t. Base t × SameOutside s t) (putWalk d w s)
   unfolding putWalk
   put-base w =
       let (x, e) = live-is (slotOf (s .domains) d) (r .1) in
       let b = put-beside s d x e w in
-      let k = aside-base s (put s d w) (b (s .queue) .aside) refl (r .0 .regions) (r .0) in
-      weaken (both (branch (w .changed) (permission-ring d _ (put s d w) (getD-set-same (s .domains) d _ none (in-length (s .domains) d x e)) (k .ring)) (accepted (k .ring))) (put-queue s d w (Beside s) b)) (λ t (z, c). (beside-base s t c z (r .0), c))
+      let k = same-domains-base s (put s d w) (b (s .queue) .sameDomains) refl (r .0 .regions) (r .0) in
+      weaken (both (branch (w .changed) (permission-ring d _ (put s d w) (getD-set-same (s .domains) d _ none (in-length (s .domains) d x e)) (k .ring)) (accepted (k .ring))) (put-queue s d w (SameOutside s) b)) (λ t (z, c). (same-outside-base s t c z (r .0), c))
 
-  pub gained-base : (a : Access) → All (λ t. Base t × Beside s t) (activate d a s)
+  pub gained-base : (a : Access) → All (λ t. Base t × SameOutside s t) (activate d a s)
   unfolding activate
   gained-base a = bind-any _ put-base
 
-  pub lost-base : (a : Access) → All (λ t. Base t × Beside s t) (deactivate d a s)
+  pub lost-base : (a : Access) → All (λ t. Base t × SameOutside s t) (deactivate d a s)
   unfolding deactivate
   lost-base a = bind-any _ put-base
 
 pub exchange-base : (s : State) (d : ℕ) → Ready d s → (old : ℕ) (a : Access) → All Base (exchangeRights d old a s)
 unfolding exchangeRights
-exchange-base s d r old a = branch (eqb old (a .rights)) (accepted (r .0)) (bind (lost-base s d r _) (λ t (k, b). weaken (gained-base t d (k, aside-live (b .aside) d (r .1)) a) (λ u z. z .0)))
+exchange-base s d r old a = branch (eqb old (a .rights)) (accepted (r .0)) (bind (lost-base s d r _) (λ t (k, b). weaken (gained-base t d (k, same-domains-live (b .sameDomains) d (r .1)) a) (λ u z. z .0)))
 
-pub ranges-base : (old new r : ℕ) (l : List Range) (s : State) → Base s → Live s old → Live s new → All (λ t. Base t × Aside s t) (sendRanges old new r l s)
+pub ranges-base : (old new r : ℕ) (l : List Range) (s : State) → Base s → Live s old → Live s new → All (λ t. Base t × SameDomains s t) (sendRanges old new r l s)
 unfolding sendRanges
-ranges-base old new r [] s k lo ln = accepted (k, aside-self s)
+ranges-base old new r [] s k lo ln = accepted (k, same-domains-self s)
 ranges-base old new r (x ∷ l) s k lo ln =
     bind (lost-base s old (k, lo) _) (λ s₁ (k₁, b₁).
-    bind (gained-base s₁ new (k₁, aside-live (b₁ .aside) new ln) _) (λ s₂ (k₂, b₂).
-    let b = aside-then (b₁ .aside) (b₂ .aside) in
-    weaken (ranges-base old new r l s₂ k₂ (aside-live b old lo) (aside-live b new ln)) (λ t (k₃, b₃). (k₃, aside-then b b₃))))
+    bind (gained-base s₁ new (k₁, same-domains-live (b₁ .sameDomains) new ln) _) (λ s₂ (k₂, b₂).
+    let b = same-domains-then (b₁ .sameDomains) (b₂ .sameDomains) in
+    weaken (ranges-base old new r l s₂ k₂ (same-domains-live b old lo) (same-domains-live b new ln)) (λ t (k₃, b₃). (k₃, same-domains-then b b₃))))
 
 -- ---- a domain is put back
 
@@ -101,11 +101,11 @@ module _ (s : State) (d : ℕ) (r : Base s) (live : Live s d) where
   pub new-base : (k : Kind) (a : Access) → All (λ (y : ℕ × State). Ready d (y .1) × ((j : ℕ) → T (isSome (slotOf (s .regions) j)) → T (isSome (slotOf (y .1 .regions) j)))) (newRegion d k a s)
   unfolding newRegion
   new-base k a = bind (both (table-takes (s .sizes .regions) (s .regions) (s .regionPool) (r .regions) noRegion) (allocate-free (s .regions) (s .sizes .regions) (s .regionPool) (r .regions .size) (r .regions .pool) noRegion)) (λ (i, p) (t, l).
-      accepted ((aside-base s _ (record { sizes = refl; domainPool = refl; size = refl; domains = λ n. refl }) refl (t _) r, live), live-put (s .regions) i _ (l .0)))
+      accepted ((same-domains-base s _ (record { sizes = refl; domainPool = refl; size = refl; domains = λ n. refl }) refl (t _) r, live), live-put (s .regions) i _ (l .0)))
 
   -- region g in slot p is written
   pub region-base : (p : ℕ) (g h : Region) → In (s .regions) p g → Ready d (putRegion p h s)
-  region-base p g h e = (aside-base s (putRegion p h s) (record { sizes = refl; domainPool = refl; size = refl; domains = λ n. refl }) refl (table-put (s .sizes .regions) (s .regions) (s .regionPool) (r .regions) p g h e (in-length (s .regions) p g e)) r, live)
+  region-base p g h e = (same-domains-base s (putRegion p h s) (record { sizes = refl; domainPool = refl; size = refl; domains = λ n. refl }) refl (table-put (s .sizes .regions) (s .regions) (s .regionPool) (r .regions) p g h e (in-length (s .regions) p g e)) r, live)
 
   pub join-base : (p i : ℕ) → T (isSome (slotOf (s .regions) p)) → Ready d (insertChild p i s)
   unfolding insertChild

@@ -11,7 +11,7 @@ use Rattle.model.specs.Sound.{Sound}
 use Rattle.laws.specs.Accepted.{All, accepted, bind, both, checked}
 use Rattle.laws.specs.Tree.Slots.{live-is, is-live}
 use Rattle.laws.specs.Tree.Steps.{region-at}
-use Rattle.laws.specs.Keep.Aside.{Beside}
+use Rattle.laws.specs.Keep.SameDomains.{SameOutside}
 use Rattle.laws.specs.Keep.Coupled.{Behind, Good}
 use Rattle.laws.specs.Keep.Base.{Base}
 use Rattle.laws.specs.Keep.BaseSteps.{new-base, insert-base, child-base, gained-base, exchange-base}
@@ -74,4 +74,4 @@ module _ (s : State) (sound : Sound s) (h : Handle) (a : Access) where
       checked (checkCarve t (regionAt t p) a) _ (λ c.
       bind (both (carve-comes t (r .good) (r .base .regions .size) (r .base .regions .pool) d (r .domain) (r .at) a p (k .parent) (k .at) (r .nonempty) (rw e at c)) (child-base t d (r .base, is-live _ _ (r .at)) p (is-live _ _ (k .at)) (Carve p) a)) (λ (n, t₁) ((b, (trades, spare), live), k₁).
       let y = live-is _ live in
-      bind {P = λ u. (Good u × Beside t₁ u) × Base u} (both {P = λ u. Good u × Beside t₁ u} (rw e (trade-settles (t .regions) t₁ b d (y .0) (y .1) a (r .nonempty) (k .parent .rights) (λ v u w. rw own at (spare v u w)) (λ f j v. rw own at (trades f j v)))) (exchange-base t₁ d k₁ _ a)) (λ t₂ (z, k₂). accepted (z .0, k₂)))))
+      bind {P = λ u. (Good u × SameOutside t₁ u) × Base u} (both {P = λ u. Good u × SameOutside t₁ u} (rw e (trade-settles (t .regions) t₁ b d (y .0) (y .1) a (r .nonempty) (k .parent .rights) (λ v u w. rw own at (spare v u w)) (λ f j v. rw own at (trades f j v)))) (exchange-base t₁ d k₁ _ a)) (λ t₂ (z, k₂). accepted (z .0, k₂)))))

@@ -1,5 +1,5 @@
 -- Laws: what soundness asks outside the trackers and the ring does not look at trackers, record pool and ring. States that agree on all else
--- (`Beside`) have it together, and a ring is sound in both.
+-- (`SameOutside`) have it together, and a ring is sound in both.
 use mathlib.Core.Path.{_≡_, refl, sym, ap, subst, _∙_}
 use Prim.Native.Nat.{ℕ, _+_}
 use mathlib.Core.Option.{Option, none, some}
@@ -10,7 +10,7 @@ use Rattle.model.specs.Lists.{oneIf, isSome, count, slotOf, In}
 use Rattle.model.specs.State.{Word, Sizes, Handle, Pool, Domain, Queue, State, withTracker}
 use Rattle.model.specs.Pool.{handleOf}
 use Rattle.model.specs.Sound.{Sound, OutsideSound, TrackersSound, QueueSound, ManagerSound, ListSound, LiveOrOlder, names, isRegionOf, isManagementOf}
-use Rattle.laws.specs.Keep.Aside.{untracked, Aside, Beside, aside-turned, aside-in, aside-live}
+use Rattle.laws.specs.Keep.SameDomains.{untracked, SameDomains, SameOutside, same-domains-turned, same-domains-in, same-domains-live}
 use Rattle.laws.specs.Capas.Live.{live-onward, live-fits, fits-onward, list-onward, queue-onward}
 use Rattle.laws.specs.Capas.Domain.{Stay, managed-onward}
 
@@ -25,22 +25,22 @@ used o o′ e = bare o ∙ ap (λ z. oneIf (isSome z)) e ∙ sym (bare o′)
     bare none = refl
     bare (some x) = refl
 
-module _ (s : State) (ds : List (Option Domain)) (p : Pool) (q : Queue) (b : Aside s (moved s ds p q)) (h : OutsideSound s) where
+module _ (s : State) (ds : List (Option Domain)) (p : Pool) (q : Queue) (b : SameDomains s (moved s ds p q)) (h : OutsideSound s) where
   abbrev t : State
   t = moved s ds p q
 
   -- a domain of t is one of s, but for the tracker
   was : (d : ℕ) (y : Domain) → In ds d y → (x : Domain) × In (s .domains) d x × (withTracker [] x ≡ withTracker [] y)
-  was d y f = aside-in (aside-turned b) d y f
+  was d y f = same-domains-in (same-domains-turned b) d y f
 
   alive : (k : ℕ) → T (isSome (slotOf (s .domains) k)) → T (isSome (slotOf ds k))
-  alive = aside-live b
+  alive = same-domains-live b
 
   fits : (k : Handle) → LiveOrOlder (s .domainPool) (s .domains) k → LiveOrOlder (s .domainPool) ds k
   fits = fits-onward (s .domainPool) (s .domainPool) (s .domains) ds (λ k l. live-fits (s .domainPool) ds k (live-onward (s .domainPool) (s .domains) ds alive k l)) (λ i. le-refl _)
 
   stay : Stay (s .domains) ds
-  stay k x e = let (y, i, r) = aside-in b k x e in (y, i, ap (λ (z : Domain). z .manager) r)
+  stay k x e = let (y, i, r) = same-domains-in b k x e in (y, i, ap (λ (z : Domain). z .manager) r)
 
   manager : (d : ℕ) (y : Domain) → In ds d y → ManagerSound (s .domainPool) ds d y
   manager d y f =
@@ -74,24 +74,24 @@ module _ (s : State) (ds : List (Option Domain)) (p : Pool) (q : Queue) (b : Asi
     coresWords = λ d y f. let (x, e, r) = was d y f in subst Word (ap (λ (z : Domain). z .cores) r) (h .coresWords d x e);
   }
 
-pub outside-same : (s t : State) → Beside s t → OutsideSound s → OutsideSound t
+pub outside-same : (s t : State) → SameOutside s t → OutsideSound s → OutsideSound t
 outside-same s t b h =
     let ds = t .domains in
-    let a = b .aside in
+    let a = b .sameDomains in
     let back : moved s ds (t .recordPool) (t .queue) ≡ t = λ i. record { sizes = sym (a .sizes) i; domainPool = sym (a .domainPool) i; regionPool = sym (b .regionPool) i; recordPool = t .recordPool; domains = ds; regions = sym (b .regions) i; queue = t .queue } in
     subst OutsideSound back (moved-sound s ds (t .recordPool) (t .queue) (record { sizes = refl; domainPool = refl; size = a .size; domains = a .domains }) h)
 
 -- What soundness asks of a ring looks at the sizes, the domain pool and which domains are live.
-pub queue-same : (s t : State) → Aside s t → (q : Queue) → QueueSound (s .sizes .updates) (s .domainPool) (s .domains) q → QueueSound (t .sizes .updates) (t .domainPool) (t .domains) q
+pub queue-same : (s t : State) → SameDomains s t → (q : Queue) → QueueSound (s .sizes .updates) (s .domainPool) (s .domains) q → QueueSound (t .sizes .updates) (t .domainPool) (t .domains) q
 queue-same s t a q h =
-    let n = queue-onward (s .sizes .updates) (s .domainPool) (s .domainPool) (s .domains) (t .domains) (live-onward (s .domainPool) (s .domains) (t .domains) (aside-live a)) q h in
+    let n = queue-onward (s .sizes .updates) (s .domainPool) (s .domainPool) (s .domains) (t .domains) (live-onward (s .domainPool) (s .domains) (t .domains) (same-domains-live a)) q h in
     let m = subst (λ p. QueueSound (s .sizes .updates) p (t .domains) q) (sym (a .domainPool)) n in
     subst (λ (z : Sizes). QueueSound (z .updates) (t .domainPool) (t .domains) q) (sym (a .sizes)) m
 
 -- So sound trackers make a state sound that agrees on all else with one that is sound outside and whose ring is.
-pub retracked : (s t : State) → Beside s t → t .queue ≡ s .queue → OutsideSound s → QueueSound (s .sizes .updates) (s .domainPool) (s .domains) (s .queue) → TrackersSound t → Sound t
+pub retracked : (s t : State) → SameOutside s t → t .queue ≡ s .queue → OutsideSound s → QueueSound (s .sizes .updates) (s .domainPool) (s .domains) (s .queue) → TrackersSound t → Sound t
 retracked s t b e h q k = record {
   outside = outside-same s t b h;
   tracked = k;
-  queue = subst (QueueSound (t .sizes .updates) (t .domainPool) (t .domains)) (sym e) (queue-same s t (b .aside) (s .queue) q);
+  queue = subst (QueueSound (t .sizes .updates) (t .domainPool) (t .domains)) (sym e) (queue-same s t (b .sameDomains) (s .queue) q);
 }

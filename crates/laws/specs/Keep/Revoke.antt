@@ -26,7 +26,7 @@ use Rattle.laws.specs.Tree.Laws.{leaf-law, alias-goes, carve-goes}
 use Rattle.laws.specs.Tree.Steps.{region-at, leave-regions}
 use Rattle.laws.specs.Tree.Below.{Revoked}
 use Rattle.laws.specs.Tree.Revoke.{Leaves, revoke-all}
-use Rattle.laws.specs.Keep.Aside.{Aside, Beside, aside-self, aside-then, aside-live, beside-self, beside-then}
+use Rattle.laws.specs.Keep.SameDomains.{SameDomains, SameOutside, same-domains-self, same-domains-then, same-domains-live, same-outside-self, same-outside-then}
 use Rattle.laws.specs.Keep.Tracked.{Tracked, tracked-same, push-queue, activate-tracked, deactivate-tracked, lost-le}
 use Rattle.laws.specs.Keep.Coupled.{told, Good, queued-good}
 use Rattle.laws.specs.Keep.Settle.{spare-stored}
@@ -34,7 +34,7 @@ use Rattle.laws.specs.Keep.Slots.{every-put, every-less}
 
 -- ---- an update is queued
 
-queued-aside : (s t : State) (q : Queue) → Aside s t → Aside s (withQueue q t)
+queued-aside : (s t : State) (q : Queue) → SameDomains s t → SameDomains s (withQueue q t)
 queued-aside s t q b = record { sizes = b .sizes; domainPool = b .domainPool; size = b .size; domains = b .domains }
 
 -- ---- the region leaves its list
@@ -50,12 +50,12 @@ module _ (P : State → Type 0) (i : ℕ) (s : State) (h : P s) (k : (p : ℕ) �
   leave-all = leave-kind (regionAt s i .kind)
 
 module _ (i : ℕ) (s : State) (T : Field → ℕ → ℕ → ℕ) (h : Tracked s T) where
-  out-tracked : (p : ℕ) → Tracked (removeChild p i s) T × Aside s (removeChild p i s)
+  out-tracked : (p : ℕ) → Tracked (removeChild p i s) T × SameDomains s (removeChild p i s)
   unfolding removeChild
   out-tracked p = (record { form = h .form; counts = h .counts; pool = h .pool }, record { sizes = refl; domainPool = refl; size = refl; domains = λ d. refl })
 
-  leave-tracked : Tracked (leaveParent i s) T × Aside s (leaveParent i s)
-  leave-tracked = leave-all (λ t. Tracked t T × Aside s t) i s (h, aside-self s) out-tracked
+  leave-tracked : Tracked (leaveParent i s) T × SameDomains s (leaveParent i s)
+  leave-tracked = leave-all (λ t. Tracked t T × SameDomains s t) i s (h, same-domains-self s) out-tracked
 
 -- ---- what it had is given back
 
@@ -81,22 +81,22 @@ module _ (s : State) (good : Good s) (i p : ℕ) (g h : Region) (e : In (s .regi
   abbrev pub out : State
   out = leaveParent i s
 
-  pub out-beside : Tracked out (told (s .regions)) × Aside s out
+  pub out-beside : Tracked out (told (s .regions)) × SameDomains s out
   out-beside = leave-tracked i s (told (s .regions)) (good .tracked)
 
   had : (a : ℕ) → g .start ≤ a → a < g .end → Enough (g .rights) (storedCounts out (g .owner) a)
   had a u v = spare-stored out (s .regions) (out-beside .0) (g .owner) a (g .rights) (leaf-law s (good .regions) i g e empty p h at n .1 a u v)
 
   -- the owner of a region, in tables where the domains are as live
-  owner-in : (t : State) → Aside s t → (k : ℕ) (y : Region) → In (s .regions) k y → (x : Domain) × In (t .domains) (y .owner) x
-  owner-in t b k y m = live-is (slotOf (t .domains) (y .owner)) (aside-live b (y .owner) (good .owners k y m))
+  owner-in : (t : State) → SameDomains s t → (k : ℕ) (y : Region) → In (s .regions) k y → (x : Domain) × In (t .domains) (y .owner) x
+  owner-in t b k y m = live-is (slotOf (t .domains) (y .owner)) (same-domains-live b (y .owner) (good .owners k y m))
 
   counted : (f : Field) (d a : ℕ) → share f (some g) d a ≤ regionCount f (s .regions) d a
   counted =
       let x = owner-in out (out-beside .1) i g e in
       lost-le out (told (s .regions)) left (out-beside .0) (g .owner) (x .0) (x .1) (accessOf g) (good .regions i g e .nonempty) had
 
-  lost : All (λ t. Tracked t left × Beside out t) (deactivate (g .owner) (accessOf g) out)
+  lost : All (λ t. Tracked t left × SameOutside out t) (deactivate (g .owner) (accessOf g) out)
   lost =
       let x = owner-in out (out-beside .1) i g e in
       deactivate-tracked out (told (s .regions)) left (out-beside .0) (g .owner) (x .0) (x .1) (accessOf g) (good .regions i g e .nonempty) (λ f d a. omega (arith, counted f d a)) had
@@ -108,32 +108,32 @@ module _ (s : State) (good : Good s) (i p : ℕ) (g h : Region) (e : In (s .regi
   out-regions : out .regions ≡ childOut (s .regions) i p h
   out-regions = leave-regions i p g h s e n at
 
-  pub parent-there : (t : State) → Beside out t → In (t .regions) p parent
+  pub parent-there : (t : State) → SameOutside out t → In (t .regions) p parent
   parent-there t b = ap (λ (rs : List (Option Region)). slotOf rs p) (b .regions ∙ out-regions) ∙ getD-set-same (s .regions) p (some parent) none (in-length (s .regions) p h at)
 
-  given : (t : State) → Tracked t left → Beside out t → All (λ u. Tracked u (told less) × Beside t u) (giveBack g t)
-  given t k b = give-all (λ u. Tracked u (told less) × Beside t u) t g p n
-      (λ m. (tracked-same t left (told less) (λ f d a. omega (arith, alias-goes s (good .regions) i g e empty p h at m f d a)) k, beside-self t))
+  given : (t : State) → Tracked t left → SameOutside out t → All (λ u. Tracked u (told less) × SameOutside t u) (giveBack g t)
+  given t k b = give-all (λ u. Tracked u (told less) × SameOutside t u) t g p n
+      (λ m. (tracked-same t left (told less) (λ f d a. omega (arith, alias-goes s (good .regions) i g e empty p h at m f d a)) k, same-outside-self t))
       (λ m.
-      let x = owner-in t (aside-then (out-beside .1) (b .aside)) p h at in
+      let x = owner-in t (same-domains-then (out-beside .1) (b .sameDomains)) p h at in
       rw (region-at t p parent (parent-there t b)) (activate-tracked t left (told less) k (h .owner) (x .0) (x .1) (record { start = g .start; end = g .end; rights = h .rights }) (good .regions i g e .nonempty) (λ f d a. omega (arith, carve-goes s (good .regions) i g e empty p h at m f d a, counted f d a))))
 
-  module _ (t : State) (b : Aside s t) where
+  module _ (t : State) (b : SameDomains s t) where
     abbrev Owned : Region → Type 0
     Owned y = T (isSome (slotOf (t .domains) (y .owner)))
 
     still : (k : ℕ) (y : Region) → In (s .regions) k y → Owned y
-    still k y m = aside-live b (y .owner) (good .owners k y m)
+    still k y m = same-domains-live b (y .owner) (good .owners k y m)
 
     less-owned : (k : ℕ) (y : Region) → In less k y → Owned y
     less-owned = every-less Owned (childOut (s .regions) i p h) i (omega (arith, length-set (s .regions) p (some parent), in-length (s .regions) i g e)) (every-put Owned (s .regions) p (in-length (s .regions) p h at) still parent (still p h at))
 
   -- the slot is freed, and the trackers have caught up
-  freed : (t : State) → Tracked t (told less) → Beside out t → All (λ u. Good u × Aside s u) (freeRegion i t)
+  freed : (t : State) → Tracked t (told less) → SameOutside out t → All (λ u. Good u × SameDomains s u) (freeRegion i t)
   unfolding freeRegion
   freed t k b = bind-any _ (λ q.
       let gone : set (t .regions) i none ≡ less = ap (λ (rs : List (Option Region)). set rs i none) (b .regions ∙ out-regions) in
-      let b′ = aside-then (out-beside .1) (b .aside) in
+      let b′ = same-domains-then (out-beside .1) (b .sameDomains) in
       accepted (
         record {
           tracked = subst (λ rs. Tracked (withRegions q (set (t .regions) i none) t) (told rs)) (sym gone) (record { form = k .form; counts = k .counts; pool = k .pool });
@@ -143,19 +143,19 @@ module _ (s : State) (good : Good s) (i p : ℕ) (g h : Region) (e : In (s .regi
         record { sizes = b′ .sizes; domainPool = b′ .domainPool; size = b′ .size; domains = b′ .domains },
       ))
 
-  pub leaf-good : All (λ t. Good t × Aside s t) (revokeLeaf i s)
+  pub leaf-good : All (λ t. Good t × SameDomains s t) (revokeLeaf i s)
   unfolding revokeLeaf
   leaf-good = rw (region-at s i g e) (
       bind lost (λ s₁ (k, b).
       bind (given s₁ k b) (λ s₂ (k₂, b₂).
-      bind (freed s₂ k₂ (beside-then b b₂)) (λ s₃ (r, c).
+      bind (freed s₂ k₂ (same-outside-then b b₂)) (λ s₃ (r, c).
       branch (has (g .rights) CLEANUP) (push-queue _ _ s₃ (λ q. (queued-good s₃ q r, queued-aside s s₃ q c))) (accepted (r, c))))))
 
 -- ---- the region and all below it
 
-leaves-good : (s : State) → Leaves (λ t. Good t × Aside s t)
+leaves-good : (s : State) → Leaves (λ t. Good t × SameDomains s t)
 unfolding Leaves
-leaves-good s t i p g h (k, b) r e empty n at = weaken (leaf-good t k i p g h e empty n at) (λ u (j, c). (j, aside-then b c))
+leaves-good s t i p g h (k, b) r e empty n at = weaken (leaf-good t k i p g h e empty n at) (λ u (j, c). (j, same-domains-then b c))
 
-pub revoke-good : (s : State) → Good s → (i p : ℕ) (g : Region) → In (s .regions) i g → parentOf (g .kind) ≡ some p → All (λ t. (Good t × Aside s t) × Revoked (s .regions) i (t .regions)) (revokeRegion (liveRegions s) i s)
-revoke-good s k i p g e n = revoke-all (λ t. Good t × Aside s t) (leaves-good s) s i p g (k, aside-self s) (k .regions) e n
+pub revoke-good : (s : State) → Good s → (i p : ℕ) (g : Region) → In (s .regions) i g → parentOf (g .kind) ≡ some p → All (λ t. (Good t × SameDomains s t) × Revoked (s .regions) i (t .regions)) (revokeRegion (liveRegions s) i s)
+revoke-good s k i p g e n = revoke-all (λ t. Good t × SameDomains s t) (leaves-good s) s i p g (k, same-domains-self s) (k .regions) e n

@@ -19,14 +19,14 @@ use Rattle.laws.specs.Tree.Shares.{grant}
 use Rattle.laws.specs.Tree.Facts.{Regions}
 use Rattle.laws.specs.Tree.Laws.{hands-law}
 use Rattle.laws.specs.Tree.Send.{held, Loses, Receives, send-agrees}
-use Rattle.laws.specs.Keep.Aside.{Aside, Beside, aside-then, aside-live}
+use Rattle.laws.specs.Keep.SameDomains.{SameDomains, SameOutside, same-domains-then, same-domains-live}
 use Rattle.laws.specs.Keep.Tracked.{Tracked, tracked-same, activate-tracked, deactivate-tracked, lost-le}
 use Rattle.laws.specs.Keep.Coupled.{told, Good}
 use Rattle.laws.specs.Keep.Slots.{every-put}
 
 -- the trackers have the form and the record pool is sound, whatever they store
 abbrev Formed : State → State → Type 0
-Formed s t = Tracked t (held t) × Aside s t
+Formed s t = Tracked t (held t) × SameDomains s t
 
 module _ (s : State) (d : ℕ) (x : Domain) (e : In (s .domains) d x) (r : ℕ) where
   module _ (t : State) (q : Formed s t) (b c : ℕ) (z : b < c) where
@@ -34,10 +34,10 @@ module _ (s : State) (d : ℕ) (x : Domain) (e : In (s .domains) d x) (r : ℕ) 
     range = record { start = b; end = c; rights = r }
 
     there : (y : Domain) × In (t .domains) d y
-    there = live-is (slotOf (t .domains) d) (aside-live (q .1) d (is-live _ x e))
+    there = live-is (slotOf (t .domains) d) (same-domains-live (q .1) d (is-live _ x e))
 
-    own : (T : Field → ℕ → ℕ → ℕ) (u : State) → Tracked u T × Beside t u → Formed s u × ((f : Field) (k a : ℕ) → held u f k a ≡ T f k a)
-    own T u (k, v) = ((tracked-same u T (held u) (k .counts) k, aside-then (q .1) (v .aside)), k .counts)
+    own : (T : Field → ℕ → ℕ → ℕ) (u : State) → Tracked u T × SameOutside t u → Formed s u × ((f : Field) (k a : ℕ) → held u f k a ≡ T f k a)
+    own T u (k, v) = ((tracked-same u T (held u) (k .counts) k, same-domains-then (q .1) (v .sameDomains)), k .counts)
 
     gained : All (λ u. Formed s u × ((f : Field) (k a : ℕ) → held u f k a ≡ held t f k a + grant f d b c r k a)) (activate d range t)
     gained = weaken (activate-tracked t (held t) (λ f k a. held t f k a + grant f d b c r k a) (q .0) d (there .0) (there .1) range z (λ f k a. refl)) (own _)
@@ -69,7 +69,7 @@ module _ (s : State) (good : Good s) (i : ℕ) (g : Region) (e : In (s .regions)
   formed : Formed s (putRegion i (withOwner o g) s)
   formed = (record { form = good .tracked .form; counts = λ f d a. refl; pool = good .tracked .pool }, record { sizes = refl; domainPool = refl; size = refl; domains = λ d. refl })
 
-  pub send-good : All (λ t. Good t × Aside s t × (t .regions ≡ moved)) (sendRegion i o s)
+  pub send-good : All (λ t. Good t × SameDomains s t × (t .regions ≡ moved)) (sendRegion i o s)
   send-good =
       let y = live-is (slotOf (s .domains) (g .owner)) (good .owners i g e) in
       weaken (send-agrees (Formed s) s (good .regions) i o g e (loses s (g .owner) (y .0) (y .1) (g .rights)) (receives s o x at (g .rights)) formed (good .tracked .counts))
@@ -78,7 +78,7 @@ module _ (s : State) (good : Good s) (i : ℕ) (g : Region) (e : In (s .regions)
           tracked = tracked-same t (held t) (told (t .regions)) (λ f d a. sym (agrees f d a)) k;
           regions = subst Regions (sym r) (hands-law s (good .regions) i g e o .0);
           owners = subst (λ (rs : List (Option Region)). (j : ℕ) (z : Region) → In rs j z → T (isSome (slotOf (t .domains) (z .owner)))) (sym r)
-              (every-put (λ z. T (isSome (slotOf (t .domains) (z .owner)))) (s .regions) i (in-length (s .regions) i g e) (λ j z m. aside-live b (z .owner) (good .owners j z m)) (withOwner o g) (aside-live b o (is-live _ x at)));
+              (every-put (λ z. T (isSome (slotOf (t .domains) (z .owner)))) (s .regions) i (in-length (s .regions) i g e) (λ j z m. same-domains-live b (z .owner) (good .owners j z m)) (withOwner o g) (same-domains-live b o (is-live _ x at)));
         },
         b,
         r,

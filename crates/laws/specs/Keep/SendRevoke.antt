@@ -14,14 +14,14 @@ use Rattle.model.specs.Calls.{sendCapa, send, revokeUnlessRoot, revokeCapa, rev
 use Rattle.laws.specs.Accepted.{All, accepted, refused, bind, bind-any, weaken, branch-on, checked}
 use Rattle.laws.specs.Tree.Slots.{live-is, is-live}
 use Rattle.laws.specs.Tree.Steps.{region-at}
-use Rattle.laws.specs.Keep.Aside.{Aside, aside-self, aside-live}
+use Rattle.laws.specs.Keep.SameDomains.{SameDomains, same-domains-self, same-domains-live}
 use Rattle.laws.specs.Keep.Locals.{listed-live, listed-behind, insert-all, capacity-all}
 use Rattle.laws.specs.Keep.Checks.{domain-live, region-live}
 use Rattle.laws.specs.Keep.BaseSteps.{Live, listed-base}
 use Rattle.laws.specs.Keep.Whole.{Whole, revoke-whole, send-whole}
 
 abbrev Kept : State → State → Type 0
-Kept s t = Whole t × Aside s t
+Kept s t = Whole t × SameDomains s t
 
 pub live-slot : (s : State) (h : Handle) → T (isLive (s .regionPool) (s .regions) h) → (g : Region) × In (s .regions) (h .slot) g
 live-slot s h t = live-is (slotOf (s .regions) (h .slot)) (search and-l)
@@ -31,11 +31,11 @@ module _ (s : State) (good : Whole s) where
 
   pub send-capa : (c : Capa) (o : ℕ) (x : Domain) → In (s .domains) o x → All (Kept s) (sendCapa c o s)
   unfolding sendCapa
-  send-capa noCapa o x at = accepted (good, aside-self s)
+  send-capa noCapa o x at = accepted (good, same-domains-self s)
   send-capa (region h) o x at = bind (region-live s h) (λ i (n, t). let (g, e) = live-slot s h t in send-whole s good i g (ap (slotOf (s .regions)) n ∙ e) o x at)
-  send-capa (regionRevoke h) o x at = accepted (good, aside-self s)
+  send-capa (regionRevoke h) o x at = accepted (good, same-domains-self s)
   send-capa (management h) o x at = refused
-  send-capa (channel h) o x at = accepted (good, aside-self s)
+  send-capa (channel h) o x at = accepted (good, same-domains-self s)
 
   -- ---- revoke
 
@@ -52,11 +52,11 @@ module _ (s : State) (good : Whole s) where
 
   pub revoke-capa : (c : Capa) → All (Kept s) (revokeCapa c s)
   unfolding revokeCapa
-  revoke-capa noCapa = accepted (good, aside-self s)
+  revoke-capa noCapa = accepted (good, same-domains-self s)
   revoke-capa (region h) = bind (region-live s h) (λ i (n, t). let (g, e) = live-slot s h t in revoke-unless i g (ap (slotOf (s .regions)) n ∙ e))
-  revoke-capa (regionRevoke h) = branch-on (isLive (s .regionPool) (s .regions) h) (λ t. let (g, e) = live-slot s h t in revoke-unless (h .slot) g e) (λ t. accepted (good, aside-self s))
+  revoke-capa (regionRevoke h) = branch-on (isLive (s .regionPool) (s .regions) h) (λ t. let (g, e) = live-slot s h t in revoke-unless (h .slot) g e) (λ t. accepted (good, same-domains-self s))
   revoke-capa (management h) = refused
-  revoke-capa (channel h) = accepted (good, aside-self s)
+  revoke-capa (channel h) = accepted (good, same-domains-self s)
 
 -- ---- the calls
 
@@ -85,8 +85,8 @@ module _ (s : State) (good : Whole s) (h : Handle) (l : ℕ) where
       bind-any _ (λ c.
       let z = live-is _ lo in
       bind (send-capa s₁ g c o (z .0) (z .1)) (λ s₂ (g₂, b).
-      let r = remove-whole s₂ g₂ d l (aside-live b d ld) in
-      insert-all o (removeCapa d l s₂) c (λ (v : ℕ × State). Whole (v .1)) (λ n m. list-whole (removeCapa d l s₂) (r .0) o (r .1 o (aside-live b o lo)) m .0))))))))
+      let r = remove-whole s₂ g₂ d l (same-domains-live b d ld) in
+      insert-all o (removeCapa d l s₂) c (λ (v : ℕ × State). Whole (v .1)) (λ n m. list-whole (removeCapa d l s₂) (r .0) o (r .1 o (same-domains-live b o lo)) m .0))))))))
 
   pub revoke-keeps : All Whole (revoke h l s)
   unfolding revoke
@@ -94,4 +94,4 @@ module _ (s : State) (good : Whole s) (h : Handle) (l : ℕ) where
       bind (domain-live s h) (λ d (x, e).
       bind-any _ (λ c.
       bind (revoke-capa s good c) (λ s₁ (g, b).
-      accepted (empty-whole s₁ g d l (aside-live b d (is-live _ x e))))))
+      accepted (empty-whole s₁ g d l (same-domains-live b d (is-live _ x e))))))

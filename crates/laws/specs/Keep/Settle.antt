@@ -18,7 +18,7 @@ use Rattle.laws.specs.Tracker.Fields.{Enough}
 use Rattle.laws.specs.Tree.Shares.{grant}
 use Rattle.laws.specs.Tree.Facts.{Regions}
 use Rattle.laws.specs.Tree.Spare.{Spare, spare-enough}
-use Rattle.laws.specs.Keep.Aside.{Beside, aside-live, aside-in, beside-self, beside-then}
+use Rattle.laws.specs.Keep.SameDomains.{SameOutside, same-domains-live, same-domains-in, same-outside-self, same-outside-then}
 use Rattle.laws.specs.Keep.Tracked.{Tracked, tracked-same, activate-tracked, deactivate-tracked, lost-le}
 use Rattle.laws.specs.Keep.Coupled.{told, Owners, Behind, Good}
 
@@ -32,11 +32,11 @@ spare-stored s rs h d a r p = spare-enough rs d a r (storedCounts s d a) p (λ f
 
 -- ---- a step on a tracker leaves the regions and the live domains
 
-pub good-beside : (s t : State) → Beside s t → Regions (s .regions) → Owners s → Tracked t (told (s .regions)) → Good t
+pub good-beside : (s t : State) → SameOutside s t → Regions (s .regions) → Owners s → Tracked t (told (s .regions)) → Good t
 good-beside s t b r o k = record {
   tracked = subst (λ rs. Tracked t (told rs)) (sym (b .regions)) k;
   regions = subst Regions (sym (b .regions)) r;
-  owners = λ i g e. aside-live (b .aside) (g .owner) (o i g (rw (b .regions) at e));
+  owners = λ i g e. same-domains-live (b .sameDomains) (g .owner) (o i g (rw (b .regions) at e));
 }
 
 module _ (rs : List (Option Region)) (s : State) (h : Behind rs s) (d : ℕ) (x : Domain) (e : In (s .domains) d x) (a : Access) (z : a .start < a .end) where
@@ -44,7 +44,7 @@ module _ (rs : List (Option Region)) (s : State) (h : Behind rs s) (d : ℕ) (x 
   abbrev range : ℕ → Field → ℕ → ℕ → ℕ
   range r f k b = grant f d (a .start) (a .end) r k b
 
-  pub gain-settles : ((f : Field) (k b : ℕ) → regionCount f (s .regions) k b ≡ regionCount f rs k b + range (a .rights) f k b) → All (λ t. Good t × Beside s t) (activate d a s)
+  pub gain-settles : ((f : Field) (k b : ℕ) → regionCount f (s .regions) k b ≡ regionCount f rs k b + range (a .rights) f k b) → All (λ t. Good t × SameOutside s t) (activate d a s)
   gain-settles m = weaken (activate-tracked s (told rs) (told (s .regions)) (h .tracked) d x e a z m) (λ t (k, b). (good-beside s t b (h .regions) (h .owners) k, b))
 
   -- ---- the same range with other rights r is lost, and this one gained
@@ -64,15 +64,15 @@ module _ (rs : List (Option Region)) (s : State) (h : Behind rs s) (d : ℕ) (x 
     counted = lost-le s (told rs) left (h .tracked) d x e old z had
 
     equal : T (eqb r (a .rights)) → Good s
-    equal t = good-beside s s (beside-self s) (h .regions) (h .owners) (tracked-same s (told rs) (told (s .regions)) (λ f k b. omega (arith, m f k b, ap (λ (n : ℕ). range n f k b) (eqb→eq r (a .rights) t))) (h .tracked))
+    equal t = good-beside s s (same-outside-self s) (h .regions) (h .owners) (tracked-same s (told rs) (told (s .regions)) (λ f k b. omega (arith, m f k b, ap (λ (n : ℕ). range n f k b) (eqb→eq r (a .rights) t))) (h .tracked))
 
-    differ : All (λ t. Good t × Beside s t) (deactivate d old s >>= λ t. activate d a t)
+    differ : All (λ t. Good t × SameOutside s t) (deactivate d old s >>= λ t. activate d a t)
     differ =
         bind (deactivate-tracked s (told rs) left (h .tracked) d x e old z (λ f k b. omega (arith, counted f k b)) had) (λ t (k, b).
-        let y = aside-in (b .aside) d x e in
+        let y = same-domains-in (b .sameDomains) d x e in
         weaken (activate-tracked t left (told (s .regions)) k d (y .0) (y .1) a z (λ f j c. omega (arith, m f j c, counted f j c)))
-        (λ u (j, c). (good-beside s u (beside-then b c) (h .regions) (h .owners) j, beside-then b c)))
+        (λ u (j, c). (good-beside s u (same-outside-then b c) (h .regions) (h .owners) j, same-outside-then b c)))
 
-    pub trade-settles : All (λ t. Good t × Beside s t) (exchangeRights d r a s)
+    pub trade-settles : All (λ t. Good t × SameOutside s t) (exchangeRights d r a s)
     unfolding exchangeRights
-    trade-settles = branch-on (eqb r (a .rights)) (λ t. accepted (equal t, beside-self s)) (λ t. differ)
+    trade-settles = branch-on (eqb r (a .rights)) (λ t. accepted (equal t, same-outside-self s)) (λ t. differ)

@@ -30,7 +30,7 @@ use Rattle.laws.specs.Tracker.Slots.{gain-slots, lose-slots}
 use Rattle.laws.specs.Tree.Slots.{none-some, in-length}
 use Rattle.laws.specs.Tree.Shares.{grant}
 use Rattle.laws.specs.Tree.Send.{held}
-use Rattle.laws.specs.Keep.Aside.{untracked, Beside}
+use Rattle.laws.specs.Keep.SameDomains.{untracked, SameOutside}
 
 pub record Tracked (s : State) (T : Field → ℕ → ℕ → ℕ) : Type 0 where
   pub form : (d : ℕ) → Form (domainAt s d .tracker)
@@ -84,9 +84,9 @@ module _ (s : State) (d : ℕ) (w : Walk) where
 -- ---- a walk is put back
 
 module _ (s : State) (d : ℕ) (x : Domain) (e : In (s .domains) d x) (w : Walk) where
-  pub put-beside : (q : Queue) → Beside s (withQueue q (put s d w))
+  pub put-beside : (q : Queue) → SameOutside s (withQueue q (put s d w))
   put-beside q = record {
-    aside = record {
+    sameDomains = record {
       sizes = refl;
       domainPool = refl;
       size = length-set (s .domains) d _;
@@ -122,13 +122,13 @@ module _ (s : State) (d : ℕ) (x : Domain) (e : In (s .domains) d x) (w : Walk)
 
 -- whatever the trackers are
 module _ (s : State) (d : ℕ) (x : Domain) (e : In (s .domains) d x) (a : Access) where
-  pub activate-beside : All (Beside s) (activate d a s)
+  pub activate-beside : All (SameOutside s) (activate d a s)
   unfolding activate
-  activate-beside = bind-any _ (λ w. put-queue s d w (Beside s) (put-beside s d x e w))
+  activate-beside = bind-any _ (λ w. put-queue s d w (SameOutside s) (put-beside s d x e w))
 
-  pub deactivate-beside : All (Beside s) (deactivate d a s)
+  pub deactivate-beside : All (SameOutside s) (deactivate d a s)
   unfolding deactivate
-  deactivate-beside = bind-any _ (λ w. put-queue s d w (Beside s) (put-beside s d x e w))
+  deactivate-beside = bind-any _ (λ w. put-queue s d w (SameOutside s) (put-beside s d x e w))
 
 -- a range of domain d counts for no other
 grant-other : (f : Field) (d b e r k a : ℕ) → k ≢ d → grant f d b e r k a ≡ 0
@@ -141,12 +141,12 @@ module _ (s : State) (T T′ : Field → ℕ → ℕ → ℕ) (h : Tracked s T) 
   abbrev range : Field → ℕ → ℕ → ℕ
   range f k b = grant f d (a .start) (a .end) (a .rights) k b
 
-  pub activate-tracked : ((f : Field) (k b : ℕ) → T′ f k b ≡ T f k b + range f k b) → All (λ t. Tracked t T′ × Beside s t) (activate d a s)
+  pub activate-tracked : ((f : Field) (k b : ℕ) → T′ f k b ≡ T f k b + range f k b) → All (λ t. Tracked t T′ × SameOutside s t) (activate d a s)
   unfolding activate
   activate-tracked m =
       let l = domainAt s d .tracker in
       bind (both (gain-form (a .rights) (a .start) (a .end) l (s .recordPool) (h .form d) z) (both (gain-count (a .rights) (a .start) (a .end) l (s .recordPool) (h .form d .rising) z) (gain-slots (a .rights) (a .start) (a .end) l (s .recordPool)))) (λ w k.
-      put-queue s d w (λ t. Tracked t T′ × Beside s t) (λ q. (
+      put-queue s d w (λ t. Tracked t T′ × SameOutside s t) (λ q. (
         put-tracked s d x e w T T′ h (λ f j b n. omega (arith, m f j b, grant-other f d (a .start) (a .end) (a .rights) j b n)) (k .0) (λ f b. omega (arith, k .1 .0 f b, m f d b, h .counts f d b, grant-own f d (a .start) (a .end) (a .rights) b)) (k .1 .1) q,
         put-beside s d x e w q,
       )))
@@ -162,12 +162,12 @@ module _ (s : State) (T T′ : Field → ℕ → ℕ → ℕ) (h : Tracked s T) 
     | no m ↦ omega (arith, grant-other f d (a .start) (a .end) (a .rights) k b m)
   ]
 
-  pub deactivate-tracked : ((f : Field) (k b : ℕ) → T′ f k b + range f k b ≡ T f k b) → ((b : ℕ) → a .start ≤ b → b < a .end → Enough (a .rights) (storedCounts s d b)) → All (λ t. Tracked t T′ × Beside s t) (deactivate d a s)
+  pub deactivate-tracked : ((f : Field) (k b : ℕ) → T′ f k b + range f k b ≡ T f k b) → ((b : ℕ) → a .start ≤ b → b < a .end → Enough (a .rights) (storedCounts s d b)) → All (λ t. Tracked t T′ × SameOutside s t) (deactivate d a s)
   unfolding deactivate
   deactivate-tracked m n =
       let l = domainAt s d .tracker in
       bind (both (lose-form (a .rights) (a .start) (a .end) l (s .recordPool) (h .form d) z) (both (lose-count (a .rights) (a .start) (a .end) l (s .recordPool) (h .form d .rising) z n) (lose-slots (a .rights) (a .start) (a .end) l (s .recordPool)))) (λ w k.
-      put-queue s d w (λ t. Tracked t T′ × Beside s t) (λ q. (
+      put-queue s d w (λ t. Tracked t T′ × SameOutside s t) (λ q. (
         put-tracked s d x e w T T′ h (λ f j b u. omega (arith, m f j b, grant-other f d (a .start) (a .end) (a .rights) j b u)) (k .0) (λ f b. omega (arith, k .1 .0 f b, m f d b, h .counts f d b, grant-own f d (a .start) (a .end) (a .rights) b)) (k .1 .1) q,
         put-beside s d x e w q,
       )))

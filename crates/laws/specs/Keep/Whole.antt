@@ -16,13 +16,13 @@ use Rattle.laws.specs.Tree.Change.{childOut}
 use Rattle.laws.specs.Tree.Steps.{region-at, leave-regions}
 use Rattle.laws.specs.Tree.Below.{Revoked}
 use Rattle.laws.specs.Tree.Revoke.{Leaves, revoke-all}
-use Rattle.laws.specs.Keep.Aside.{Aside, Beside, aside-self, aside-then, aside-live, beside-self, beside-then}
+use Rattle.laws.specs.Keep.SameDomains.{SameDomains, SameOutside, same-domains-self, same-domains-then, same-domains-live, same-outside-self, same-outside-then}
 use Rattle.laws.specs.Keep.Coupled.{Good}
 use Rattle.laws.specs.Keep.Revoke.{leave-all, give-all, out-beside, parent, parent-there, leaf-good}
 use Rattle.laws.specs.Keep.Send.{send-good}
 use Rattle.laws.specs.Keep.Slots.{live-put}
 use Rattle.laws.specs.Keep.Pools.{Table, table-put, table-frees}
-use Rattle.laws.specs.Keep.Base.{Base, aside-base, cleanup-base}
+use Rattle.laws.specs.Keep.Base.{Base, same-domains-base, cleanup-base}
 use Rattle.laws.specs.Keep.BaseSteps.{gained-base, lost-base, ranges-base, region-base}
 
 -- what every call keeps
@@ -36,7 +36,7 @@ unfolding removeChild
 leave-same i s = leave-all (λ t. (t .queue ≡ s .queue) × (t .regionPool ≡ s .regionPool) × (t .sizes ≡ s .sizes)) i s (refl, refl, refl) (λ p. (refl, refl, refl))
 
 module _ (s : State) (good : Good s) (r : Base s) (i p : ℕ) (g h : Region) (e : In (s .regions) i g) (empty : g .children ≡ []) (n : parentOf (g .kind) ≡ some p) (at : In (s .regions) p h) where
-  left : Aside s (leaveParent i s)
+  left : SameDomains s (leaveParent i s)
   left = out-beside s good i p g h e empty n at .1
 
   abbrev less : List (Option Region)
@@ -53,40 +53,40 @@ module _ (s : State) (good : Good s) (r : Base s) (i p : ℕ) (g h : Region) (e 
       let (q, z, m) = leave-same i s in
       let k = subst (λ (w : Sizes). Table (w .regions) less (s .regionPool)) (sym m) less-table in
       let k₁ = subst (λ (w : Pool). Table (leaveParent i s .sizes .regions) less w) (sym z) k in
-      aside-base s (leaveParent i s) left q (subst (λ rs. Table (leaveParent i s .sizes .regions) rs (leaveParent i s .regionPool)) (sym less-there) k₁) r
+      same-domains-base s (leaveParent i s) left q (subst (λ rs. Table (leaveParent i s .sizes .regions) rs (leaveParent i s .regionPool)) (sym less-there) k₁) r
 
-  pub given-base : (t : State) → Base t → Beside (leaveParent i s) t → All (λ u. Base u × Beside t u) (giveBack g t)
-  given-base t k b = give-all (λ u. Base u × Beside t u) t g p n (λ m. (k, beside-self t)) (λ m.
-      rw (region-at t p (parent s good i p g h e empty n at) (parent-there s good i p g h e empty n at t b)) (gained-base t (h .owner) (k, aside-live (aside-then left (b .aside)) (h .owner) (good .owners p h at)) _))
+  pub given-base : (t : State) → Base t → SameOutside (leaveParent i s) t → All (λ u. Base u × SameOutside t u) (giveBack g t)
+  given-base t k b = give-all (λ u. Base u × SameOutside t u) t g p n (λ m. (k, same-outside-self t)) (λ m.
+      rw (region-at t p (parent s good i p g h e empty n at) (parent-there s good i p g h e empty n at t b)) (gained-base t (h .owner) (k, same-domains-live (same-domains-then left (b .sameDomains)) (h .owner) (good .owners p h at)) _))
 
   -- the slot is still in use
-  slot-there : (t : State) → Beside (leaveParent i s) t → (y : Region) × In (t .regions) i y
+  slot-there : (t : State) → SameOutside (leaveParent i s) t → (y : Region) × In (t .regions) i y
   slot-there t b = live-is (slotOf (t .regions) i) (subst (λ (rs : List (Option Region)). T (isSome (slotOf rs i))) (sym (b .regions ∙ less-there)) (live-put (s .regions) p _ (in-length (s .regions) p h at) i (is-live _ g e)))
 
-  pub free-base : (t : State) → Base t → Beside (leaveParent i s) t → All Base (freeRegion i t)
+  pub free-base : (t : State) → Base t → SameOutside (leaveParent i s) t → All Base (freeRegion i t)
   unfolding freeRegion
   free-base t k b =
       let (y, m) = slot-there t b in
-      bind (table-frees (t .sizes .regions) (t .regions) (t .regionPool) (k .regions) i y m (in-length (t .regions) i y m)) (λ q z. accepted (aside-base t _ (record { sizes = refl; domainPool = refl; size = refl; domains = λ d. refl }) refl z k))
+      bind (table-frees (t .sizes .regions) (t .regions) (t .regionPool) (k .regions) i y m (in-length (t .regions) i y m)) (λ q z. accepted (same-domains-base t _ (record { sizes = refl; domainPool = refl; size = refl; domains = λ d. refl }) refl z k))
 
   leaf-base : All Base (revokeLeaf i s)
   unfolding revokeLeaf
   leaf-base =
       let z = good .regions i g e in
       rw (region-at s i g e) (
-      bind (lost-base (leaveParent i s) (g .owner) (leave-base, aside-live left (g .owner) (good .owners i g e)) (accessOf g)) (λ s₁ (k, b).
+      bind (lost-base (leaveParent i s) (g .owner) (leave-base, same-domains-live left (g .owner) (good .owners i g e)) (accessOf g)) (λ s₁ (k, b).
       bind (given-base s₁ k b) (λ s₂ (k₂, b₂).
-      bind (free-base s₂ k₂ (beside-then b b₂)) (λ s₃ k₃.
+      bind (free-base s₂ k₂ (same-outside-then b b₂)) (λ s₃ k₃.
       branch (has (g .rights) CLEANUP) (cleanup-base (g .start) (g .end) s₃ k₃ (z .startWord) (z .endWord)) (accepted k₃)))))
 
 -- ---- the region and all below it
 
-pub leaves-whole : (s : State) → Leaves (λ t. Whole t × Aside s t)
+pub leaves-whole : (s : State) → Leaves (λ t. Whole t × SameDomains s t)
 unfolding Leaves
-leaves-whole s t i p g h ((k, r), b) q e empty n at = weaken (both (leaf-good t k i p g h e empty n at) (leaf-base t k r i p g h e empty n at)) (λ u ((j, c), v). ((j, v), aside-then b c))
+leaves-whole s t i p g h ((k, r), b) q e empty n at = weaken (both (leaf-good t k i p g h e empty n at) (leaf-base t k r i p g h e empty n at)) (λ u ((j, c), v). ((j, v), same-domains-then b c))
 
-pub revoke-whole : (s : State) → Whole s → (i p : ℕ) (g : Region) → In (s .regions) i g → parentOf (g .kind) ≡ some p → All (λ t. (Whole t × Aside s t) × Revoked (s .regions) i (t .regions)) (revokeRegion (liveRegions s) i s)
-revoke-whole s k i p g e n = revoke-all (λ t. Whole t × Aside s t) (leaves-whole s) s i p g (k, aside-self s) (k .0 .regions) e n
+pub revoke-whole : (s : State) → Whole s → (i p : ℕ) (g : Region) → In (s .regions) i g → parentOf (g .kind) ≡ some p → All (λ t. (Whole t × SameDomains s t) × Revoked (s .regions) i (t .regions)) (revokeRegion (liveRegions s) i s)
+revoke-whole s k i p g e n = revoke-all (λ t. Whole t × SameDomains s t) (leaves-whole s) s i p g (k, same-domains-self s) (k .0 .regions) e n
 
 -- ---- a region is sent
 
@@ -98,5 +98,5 @@ module _ (s : State) (k : Whole s) (i : ℕ) (g : Region) (e : In (s .regions) i
       let t = region-base s (g .owner) (k .1) live i g (withOwner o g) e in
       rw (region-at s i g e) (weaken (ranges-base (g .owner) o (g .rights) _ (putRegion i (withOwner o g) s) (t .0) live (is-live _ x at)) (λ u z. z .0))
 
-  pub send-whole : All (λ t. Whole t × Aside s t) (sendRegion i o s)
+  pub send-whole : All (λ t. Whole t × SameDomains s t) (sendRegion i o s)
   send-whole = weaken (both (send-good s (k .0) i g e o x at) sent-base) (λ t (u, r). ((u .0, r), u .1))

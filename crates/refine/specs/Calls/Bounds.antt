@@ -31,7 +31,7 @@ use Rattle.laws.specs.Tree.Sum.{sum-le}
 use Rattle.laws.specs.Tree.Slots.{live-is}
 use Rattle.laws.specs.Tree.Shares.{grant, share, carved, clear, tally-is, weight}
 use Rattle.laws.specs.Tree.Send.{held}
-use Rattle.laws.specs.Keep.Aside.{Beside}
+use Rattle.laws.specs.Keep.SameDomains.{SameOutside}
 use Rattle.laws.specs.Keep.Tracked.{Tracked, put-queue, put-tracked, activate-tracked}
 use Rattle.laws.specs.Keep.Coupled.{told, Behind}
 use Rattle.laws.specs.Keep.Base.{Base}
@@ -114,7 +114,7 @@ module _ (b : ℕ) (s : State) (h : Bounded b s) (d : ℕ) (live : Live s d) (a 
   abbrev raised : Field → ℕ → ℕ → ℕ
   raised f k c = held s f k c + grant f d (a .start) (a .end) (a .rights) k c
 
-  pub gain-bounded : All (λ t. Bounded (suc b) t × Beside s t) (activate d a s)
+  pub gain-bounded : All (λ t. Bounded (suc b) t × SameOutside s t) (activate d a s)
   gain-bounded =
       let (x, e) = live-is (slotOf (s .domains) d) live in
       weaken (both (gained-base s d (h .0, live) a) (activate-tracked s (held s) raised (formed-tracked b s (h .1)) d x e a z (λ f k c. refl)))
@@ -139,7 +139,7 @@ module _ (b : ℕ) (s : State) (h : Bounded b s) (d : ℕ) (live : Live s d) (a 
       put-queue s d w (Formed b) (λ q.
       tracked-formed b _ (left w) (put-tracked s d x e w (held s) (left w) (formed-tracked b s (h .1)) (λ f j c n. rw (eqb-f j d n)) (k .0) (λ f c. rw (eqb-t d d refl)) (k .1 .1) q) (left-low w (k .1 .0))))
 
-  pub loss-bounded : All (λ t. Bounded b t × Beside s t) (deactivate d a s)
+  pub loss-bounded : All (λ t. Bounded b t × SameOutside s t) (deactivate d a s)
   loss-bounded = weaken (both (lost-base s d (h .0, live) a) lost-formed) (λ t ((k, n), m). ((k, m), n))
 
 -- ---- where the trackers store what the regions count

@@ -23,7 +23,7 @@ use Rattle.laws.specs.Accepted.{All, weaken, both}
 use Rattle.laws.specs.Cases.{holds, fails, test}
 use Rattle.laws.specs.Tree.Slots.{in-length, live-is, is-live}
 use Rattle.laws.specs.Tree.Steps.{region-at}
-use Rattle.laws.specs.Keep.Aside.{Beside, aside-live}
+use Rattle.laws.specs.Keep.SameDomains.{SameOutside, same-domains-live}
 use Rattle.laws.specs.Keep.Coupled.{Behind, Good}
 use Rattle.laws.specs.Keep.Base.{Base, sound-base}
 use Rattle.laws.specs.Keep.BaseSteps.{Live, Ready, new-base, insert-base, join-base, child-base}
@@ -135,9 +135,9 @@ exchange-refines s k d live old byte a z =
       | holds t ↦ rw t (refl, refl)
       | fails t ↦ rw t (
           agrees-call _ _ _ (bind-assoc (steps.deactivate d had s) _ _) (
-          agrees-on {P = λ u. Bounded 1024 u × Beside s u} (deactivate d (access (a .start) (a .end) old) (tablesOf s)) (λ v. activate d a) (steps.deactivate d had s) (λ u. (0, u)) _
+          agrees-on {P = λ u. Bounded 1024 u × SameOutside s u} (deactivate d (access (a .start) (a .end) old) (tablesOf s)) (λ v. activate d a) (steps.deactivate d had s) (λ u. (0, u)) _
           (follows-range deactivate steps.deactivate deactivate-refines s d (a .start) (a .end) old byte (bounded-able 1024 s (lit< tt) k) live z)
-          (loss-bounded 1024 s k d live had z) (λ u (j, b). activate-refines u d a (bounded-able 1024 u (lit< tt) j) (aside-live (b .aside) d live) z)))
+          (loss-bounded 1024 s k d live had z) (λ u (j, b). activate-refines u d a (bounded-able 1024 u (lit< tt) j) (same-domains-live (b .sameDomains) d live) z)))
     ]
 
 -- ---- the calls

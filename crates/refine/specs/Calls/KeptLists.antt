@@ -18,7 +18,7 @@ use Rattle.laws.specs.Tree.Slots.{in-length}
 use Rattle.laws.specs.Words.SameDomains.{Listed}
 use Rattle.laws.specs.Capas.Held.{domain-at}
 use Rattle.laws.specs.Keep.Slots.{every-put}
-use Rattle.laws.specs.Keep.Aside.{Aside, aside-turned, aside-in}
+use Rattle.laws.specs.Keep.SameDomains.{SameDomains, same-domains-turned, same-domains-in}
 use Rattle.laws.specs.Keep.Base.{Base}
 use Rattle.laws.specs.Keep.Locals.{allocate-free}
 use Rattle.refine.specs.Slots.Sweep.{freed-listed, swept-for}
@@ -33,9 +33,9 @@ domain-small s k d x e = omega (arith, in-length (s .domains) d x e, k .ring .sl
 
 -- ---- domains that differ in their trackers only
 
-pub aside-lists : (s t : State) → Aside s t → Lists s → Lists t
-aside-lists s t b h d y e =
-    let (x, i, m) = aside-in (aside-turned b) d y e in
+pub same-domains-lists : (s t : State) → SameDomains s t → Lists s → Lists t
+same-domains-lists s t b h d y e =
+    let (x, i, m) = same-domains-in (same-domains-turned b) d y e in
     let l = subst (λ (z : Sizes). Listed (z .slots) (x .locals)) (sym (b .sizes)) (h d x i) in
     subst (Listed (t .sizes .slots)) (ap (λ (z : Domain). z .locals) m) l
 

@@ -24,7 +24,7 @@ use Rattle.laws.specs.Cases.{holds, fails, test}
 use Rattle.laws.specs.Stack.{one}
 use Rattle.laws.specs.Tree.Slots.{none-some, some-same}
 use Rattle.laws.specs.Tree.Steps.{region-at, leave-regions}
-use Rattle.laws.specs.Keep.Aside.{Aside, Beside, aside-then, aside-live, beside-then}
+use Rattle.laws.specs.Keep.SameDomains.{SameDomains, SameOutside, same-domains-then, same-domains-live, same-outside-then}
 use Rattle.laws.specs.Keep.Revoke.{out-beside, parent, parent-there}
 use Rattle.laws.specs.Keep.Base.{Base}
 use Rattle.laws.specs.Keep.BaseSteps.{Live}
@@ -123,17 +123,17 @@ module _ (act : Acts) (deact : Deacts) (s : State) (whole : Whole s) (i p : ℕ)
   left-is : leaveParent i (tablesOf s) ≡ tablesOf out
   left-is = leave-parent-is s long p h at kids i g e n not-own few listed
 
-  aside : Aside s out
-  aside = out-beside s (whole .0) i p g h e empty n at .1
+  sameDomains : SameDomains s out
+  sameDomains = out-beside s (whole .0) i p g h e empty n at .1
 
   out-bounded : Bounded 1024 out
   out-bounded = (leave-base s (whole .0) (whole .1) i p g h e empty n at, told-formed s out (whole .1) (out-beside s (whole .0) i p g h e empty n at .0))
 
   -- ---- what is there in a state beside that one
 
-  module _ (t : State) (b : Beside out t) where
+  module _ (t : State) (b : SameOutside out t) where
     owner-live : (k : ℕ) (y : state.Region) → In (s .regions) k y → Live t (y .owner)
-    owner-live k y m = aside-live (aside-then aside (b .aside)) (y .owner) (whole .0 .owners k y m)
+    owner-live k y m = same-domains-live (same-domains-then sameDomains (b .sameDomains)) (y .owner) (whole .0 .owners k y m)
 
     still-there : In (t .regions) i g
     still-there =
@@ -170,14 +170,14 @@ module _ (act : Acts) (deact : Deacts) (s : State) (whole : Whole s) (i p : ℕ)
       agrees-step _ _ (plain (model.revokeLeaf i s)) code-leaf
       (agrees-call _ (plain (model.revokeLeaf i s)) _ model-leaf
       (agrees-state (deactivate (g .owner) (access (g .start) (g .end) (g .rights)) (tablesOf out)) _ (model.deactivate (g .owner) (accessOf g) out) (λ s₁. model.giveBack g s₁ >>= λ s₂. model.freeRegion i s₂ >>= λ s₃. plain (last s₃))
-      (follows-range deactivate model.deactivate deact out (g .owner) (g .start) (g .end) (g .rights) byte (bounded-able 1024 out (lit< tt) out-bounded) (aside-live aside (g .owner) (whole .0 .owners i g e)) nonempty)
+      (follows-range deactivate model.deactivate deact out (g .owner) (g .start) (g .end) (g .rights) byte (bounded-able 1024 out (lit< tt) out-bounded) (same-domains-live sameDomains (g .owner) (whole .0 .owners i g e)) nonempty)
       (λ s₁ e₁.
-      let (k₁, b₁) = all-ok _ _ s₁ (loss-bounded 1024 out out-bounded (g .owner) (aside-live aside (g .owner) (whole .0 .owners i g e)) (accessOf g) nonempty) e₁ in
+      let (k₁, b₁) = all-ok _ _ s₁ (loss-bounded 1024 out out-bounded (g .owner) (same-domains-live sameDomains (g .owner) (whole .0 .owners i g e)) (accessOf g) nonempty) e₁ in
       agrees-state (giveBack row (tablesOf s₁)) _ (model.giveBack g s₁) (λ s₂. model.freeRegion i s₂ >>= λ s₃. plain (last s₃))
       (give-back-refines act s₁ (bounded-able 1024 s₁ (lit< tt) k₁) p (parent s (whole .0) i p g h e empty n at) (parent-there s (whole .0) i p g h e empty n at s₁ b₁) (whole .0 .regions p h at .rightsByte) (owner-live s₁ b₁ p h at) (s .regions) i g n nonempty)
       (λ s₂ e₂.
       let (k₂, b₂) = all-ok _ _ s₂ (given-base s (whole .0) (whole .1) i p g h e empty n at s₁ (k₁ .0) b₁) e₂ in
-      let b = beside-then b₁ b₂ in
+      let b = same-outside-then b₁ b₂ in
       agrees-state (freedRegion i (tablesOf s₂)) _ (model.freeRegion i s₂) (λ s₃. plain (last s₃))
       (free-region-refines s₂ (k₂ .regions .size) (k₂ .regions .pool) i g (still-there s₂ b) empty)
       (λ s₃ e₃.

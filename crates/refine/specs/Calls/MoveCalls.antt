@@ -21,7 +21,7 @@ use Rattle.laws.specs.Cases.{true-is, holds, fails, test}
 use Rattle.laws.specs.Tree.Slots.{live-is, is-live}
 use Rattle.laws.specs.Tree.Steps.{region-at}
 use Rattle.laws.specs.Capas.Held.{domain-at}
-use Rattle.laws.specs.Keep.Aside.{Aside, aside-in, aside-live}
+use Rattle.laws.specs.Keep.SameDomains.{SameDomains, same-domains-in, same-domains-live}
 use Rattle.laws.specs.Keep.Coupled.{sound-good}
 use Rattle.laws.specs.Keep.Base.{Base, sound-base}
 use Rattle.laws.specs.Keep.BaseSteps.{Live}
@@ -52,7 +52,7 @@ use Rattle.refine.specs.Calls.Activation.{activate-refines, deactivate-r
 use Rattle.refine.specs.Calls.Sends as region-sent
 use Rattle.refine.specs.Calls.Revokes as region-revoked
 use Rattle.refine.specs.Calls.Checks.{Lists, region-test, live-region-refines, capa-refines, target-held-refines, room-here}
-use Rattle.refine.specs.Calls.KeptLists.{sound-lists, aside-lists, capacity-lists, remove-lists}
+use Rattle.refine.specs.Calls.KeptLists.{sound-lists, same-domains-lists, capacity-lists, remove-lists}
 use Rattle.refine.specs.Calls.CallSteps.{from-domain, insert-here, root-test}
 
 -- ---- two calls, and a third from both of their answers
@@ -129,20 +129,20 @@ module _ (s : State) (whole : Whole s) where
         agrees-call _ _ _ (bind-assoc (locals.capaAt s d l) _ _)
         (capa-refines s (whole .1) d x e lists l f _ (λ c i. agrees-call _ _ (plain (m c)) (bind-assoc (m c) _ _ ∙ bind-same (m c) _ _ (λ t. ok-then _ _)) (h c)))
 
-    kept : ((c : Capa) → All (λ t. Whole t × Aside s t) (m c)) → All (λ (y : Capa × State). In (domainAt s d .locals .held) l (y .0) × Whole (y .1) × Aside s (y .1)) both-of
+    kept : ((c : Capa) → All (λ t. Whole t × SameDomains s t) (m c)) → All (λ (y : Capa × State). In (domainAt s d .locals .held) l (y .0) × Whole (y .1) × SameDomains s (y .1)) both-of
     kept h = bind (capa-in s d l) (λ c i. bind (h c) (λ t (w, a). accepted (i, w, a)))
 
 -- ---- the slot, once the region has moved or is gone
 
-module _ (s t : State) (base : Base s) (lists : Lists s) (whole : Whole t) (aside : Aside s t) (d : ℕ) (ld : Live s d) (l : ℕ) (c : Capa) (slot : In (domainAt s d .locals .held) l c) where
+module _ (s t : State) (base : Base s) (lists : Lists s) (whole : Whole t) (aside : SameDomains s t) (d : ℕ) (ld : Live s d) (l : ℕ) (c : Capa) (slot : In (domainAt s d .locals .held) l c) where
   before : (x : Domain) × In (s .domains) d x × In (x .locals .held) l c
   before = let (x, e) = live-is (slotOf (s .domains) d) ld in (x, e, ap (λ (y : Domain). slotOf (y .locals .held) l) (sym (domain-at s d x e)) ∙ slot)
 
   after : (y : Domain) × In (t .domains) d y × In (y .locals .held) l c
-  after = let (x, e, i) = before in let (y, f, m) = aside-in aside d x e in (y, f, ap (λ (z : Domain). slotOf (z .locals .held) l) m ∙ i)
+  after = let (x, e, i) = before in let (y, f, m) = same-domains-in aside d x e in (y, f, ap (λ (z : Domain). slotOf (z .locals .held) l) m ∙ i)
 
   lists-after : Lists t
-  lists-after = aside-lists s t aside lists
+  lists-after = same-domains-lists s t aside lists
 
   slot-read : capaAt (tablesOf s) d l ≡ capaSlot c
   slot-read = let (x, e, i) = before in capa-read s (base .domains .size) d x e l c (lists d x e .heldLength) i
@@ -158,7 +158,7 @@ module _ (s t : State) (base : Base s) (lists : Lists s) (whole : Whole t) (asid
       let (y, f, i) = after in
       let (w, on) = remove-whole t whole d l (is-live _ y f) in
       agrees-step _ _ (insertCapa to c (removeCapa d l t)) (ap (insert to (capaAt (tablesOf s) d l)) removed)
-      (insert-here (removeCapa d l t) to (w .1, remove-lists t lists-after d y f l c i, on to (aside-live aside to lt)) c _ slot-read)
+      (insert-here (removeCapa d l t) to (w .1, remove-lists t lists-after d y f l c i, on to (same-domains-live aside to lt)) c _ slot-read)
 
 -- ---- the calls
 

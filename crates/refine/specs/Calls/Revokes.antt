@@ -24,7 +24,7 @@ use Rattle.laws.specs.Tree.Rank.{Ranked, rank, ranked, rank-low}
 use Rattle.laws.specs.Tree.Below.{was, not-below}
 use Rattle.laws.specs.Tree.Revoke.{Ok, ok-all, fewer, ranked-left}
 use Rattle.laws.specs.Tree.Steps.{region-at}
-use Rattle.laws.specs.Keep.Aside.{Aside, aside-self}
+use Rattle.laws.specs.Keep.SameDomains.{SameDomains, same-domains-self}
 use Rattle.laws.specs.Keep.Whole.{Whole, leaves-whole}
 use Rattle.tables.specs.declared.RegionCapa.{RegionCapa}
 use Rattle.tables.specs.Tables.{Tables, regionAt}
@@ -96,7 +96,7 @@ module _ (act : Acts) (deact : Deacts) (r : ℕ → ℕ) where
       unfolding Turns Ok
       then t o =
           let (y, ey, ny) = head in
-          let ((k′, a), u) = all-ok _ _ t (ok-all (λ v. Whole v × Aside s v) (leaves-whole s) r m s c i y (k, aside-self s) (k .0 .regions) q ey ny lower) o in
+          let ((k′, a), u) = all-ok _ _ t (ok-all (λ v. Whole v × SameDomains s v) (leaves-whole s) r m s c i y (k, same-domains-self s) (k .0 .regions) q ey ny lower) o in
           let w = was (t .regions) (s .regions) i g (sym (u .kept i (not-below (s .regions) (t .regions) (t .regions) r i c q y ey ny u))) e in
           turns t i p (w .0) k′ (ranked-left (s .regions) (t .regions) r c q u) (w .1) (w .2 ∙ n) (omega (arith, fewer (s .regions) (t .regions) c y ey u))
 

@@ -23,7 +23,7 @@ use Rattle.laws.specs.Cases.{lt, ge, cmp, ltb-t, ltb-f, eqb-f, holds, fails, te
 use Rattle.laws.specs.Stack.{one}
 use Rattle.laws.specs.Tree.Slots.{in-length, live-is}
 use Rattle.laws.specs.Tree.Steps.{region-at}
-use Rattle.laws.specs.Keep.Aside.{Beside, aside-live, beside-self, beside-then}
+use Rattle.laws.specs.Keep.SameDomains.{SameOutside, same-domains-live, same-outside-self, same-outside-then}
 use Rattle.laws.specs.Keep.BaseSteps.{Live, region-base}
 use Rattle.laws.specs.Keep.Whole.{Whole}
 use Rattle.tables.specs.declared.RegionCapa.{RegionCapa}
@@ -65,9 +65,9 @@ rows-of t rs (c ∷ cs) h f =
     (k .0, k .1, k .2, h .0, rows-of t rs cs (h .1) (λ d n. f d (omega arith)))
 
 -- a step on a tracker leaves the rows
-beside-row : (s t : State) → Beside s t → (c : ℕ) → regionAt (tablesOf t) c ≡ regionAt (tablesOf s) c
+same-outside-row : (s t : State) → SameOutside s t → (c : ℕ) → regionAt (tablesOf t) c ≡ regionAt (tablesOf s) c
 unfolding tablesOf regionAt
-beside-row s t b c = ap₂ (λ n rs. getD (regionsFor n rs) c noRegion) (ap (λ z. z .regions) (b .aside .sizes)) (b .regions)
+same-outside-row s t b c = ap₂ (λ n rs. getD (regionsFor n rs) c noRegion) (ap (λ z. z .regions) (b .sameDomains .sizes)) (b .regions)
 
 -- ---- the ranges that the model sends
 
@@ -92,22 +92,22 @@ module _ (act : Acts) (deact : Deacts) (old new r : ℕ) (byte : r < 256) where
           (follows-range deactivate model.deactivate deact s old x y r byte (bounded-able b s (omega arith) h) lo z)
           (λ s₁ e.
           let (k, n) = all-ok _ _ s₁ (loss-bounded b s h old lo (record { start = x; end = y; rights = r }) z) e in
-          follows-range activate model.activate act s₁ new x y r byte (bounded-able b s₁ (omega arith) k) (aside-live (n .aside) new ln) z))
+          follows-range activate model.activate act s₁ new x y r byte (bounded-able b s₁ (omega arith) k) (same-domains-live (n .sameDomains) new ln) z))
 
-      once-bounded : All (λ t. Bounded (suc b) t × Beside s t) once
+      once-bounded : All (λ t. Bounded (suc b) t × SameOutside s t) once
       once-bounded =
           bind (loss-bounded b s h old lo (record { start = x; end = y; rights = r }) z) (λ s₁ (k, n).
-          weaken (gain-bounded b s₁ k new (aside-live (n .aside) new ln) (record { start = x; end = y; rights = r }) z) (λ s₂ (k₂, n₂). (k₂, beside-then n n₂)))
+          weaken (gain-bounded b s₁ k new (same-domains-live (n .sameDomains) new ln) (record { start = x; end = y; rights = r }) z) (λ s₂ (k₂, n₂). (k₂, same-outside-then n n₂)))
 
       one-range : sendRanges old new r ((x, y) ∷ []) s ≡ once
       unfolding sendRanges
       one-range = bind-same _ _ _ (λ s₁. bind-ok _)
 
-    piece-bounded : All (λ t. Bounded (suc b) t × Beside s t) (sendRanges old new r (piece x y) s)
+    piece-bounded : All (λ t. Bounded (suc b) t × SameOutside s t) (sendRanges old new r (piece x y) s)
     unfolding sendRanges
     piece-bounded = elim (cmp x y) [
       | lt z ↦ rw (ltb-t x y z, one-range z) (once-bounded z)
-      | ge z ↦ rw (ltb-f x y z) (accepted (bounded-more b (suc b) s (omega arith) h, beside-self s))
+      | ge z ↦ rw (ltb-f x y z) (accepted (bounded-more b (suc b) s (omega arith) h, same-outside-self s))
     ]
 
     piece-refines : Agrees (movePiece old new r x y (tablesOf s)) (plain (sendRanges old new r (piece x y) s))
@@ -167,7 +167,7 @@ module _ (act : Acts) (deact : Deacts) (old new r : ℕ) (byte : r < 256) where
             (piece-refines b s h (omega arith) lo ln x (y .start))
             (λ u m.
             let (k, v) = all-ok _ _ u (piece-bounded b s h (omega arith) lo ln x (y .start)) m in
-            rest n (suc b) (y .end) u f (omega arith) k (aside-live (v .aside) old lo) (aside-live (v .aside) new ln) (rows-same (tablesOf s) (tablesOf u) rs cs (beside-row s u v) (q .4)))
+            rest n (suc b) (y .end) u f (omega arith) k (same-domains-live (v .sameDomains) old lo) (same-domains-live (v .sameDomains) new ln) (rows-same (tablesOf s) (tablesOf u) rs cs (same-outside-row s u v) (q .4)))
 
         one-child : Agrees (sendFrom old new r e (suc n) x (suc c) (tablesOf s)) (plain (sendRanges old new r (ranges x (c ∷ cs)) s))
         unfolding Sent

@@ -2,7 +2,7 @@
 use Prim.Native.Nat.{_-_, _≤_}
 use mathlib.Core.Path.{_≡_}
 use lib.ListN.{length}
-use Rattle.byte_io.specs.Hands.{Within}
+use Rattle.byte_io.specs.Buffered.{Within}
 use borrow.Author.Needs.{needs}
 use Rattle.script.proofs.run_records.Statement.{statement}
 use Rattle.script.proofs.run_records.Tie as tie

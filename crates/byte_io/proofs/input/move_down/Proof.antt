@@ -1,5 +1,5 @@
 -- The bytes before i are moved, and those from i on are as they were. The bytes that are left to move fall.
-use Rattle.byte_io.specs.Hands.{move-more, move-rest}
+use Rattle.byte_io.specs.Buffered.{move-more, move-rest}
 use Prim.Native.Nat.{ℕ, _+_, _-_, _<_, _≤_}
 use mathlib.Core.Path.{_≡_, refl}
 use native.Mathlib.Omega.{arith}

@@ -1,5 +1,5 @@
 -- The part that is read into comes back behind the first n bytes.
-use Rattle.byte_io.specs.Hands.{keeps-front}
+use Rattle.byte_io.specs.Buffered.{keeps-front}
 use borrow.Author.Needs.{needs}
 use Rattle.byte_io.proofs.input.read_behind.Statement.{statement}
 use Rattle.byte_io.proofs.input.read_behind.Tie as tie

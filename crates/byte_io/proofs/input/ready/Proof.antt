@@ -1,5 +1,5 @@
 -- The bytes at hand are moved, and stay the first when more are read.
-use Rattle.byte_io.specs.Hands.{keeps-moved}
+use Rattle.byte_io.specs.Buffered.{keeps-moved}
 use borrow.Author.Needs.{needs}
 use Rattle.byte_io.proofs.input.ready.Statement.{statement}
 use Rattle.byte_io.proofs.input.ready.Tie as tie

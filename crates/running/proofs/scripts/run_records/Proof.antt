@@ -6,14 +6,14 @@ use denote.Ref.{now}
 use native.Mathlib.Omega.{arith}
 use Rattle.running.specs.declared.scripts.Place.{Place}
 use Rattle.running.specs.Outcomes.{taken-size, was-run, was-short, was-bad}
-use Rattle.running.specs.Halfway.{Halfway}
+use Rattle.running.specs.BetweenRecords.{BetweenRecords}
 use Rattle.running.specs.Steps.{part-rest, half-start, half-ended, half-short, half-bad, half-behind}
 use borrow.Author.Needs.{needs}
 use Rattle.running.proofs.scripts.run_records.Statement.{statement}
 use Rattle.running.proofs.scripts.run_records.Tie as tie
 
 abbrev Inv-loop : tie.InvT-loop
-Inv-loop b t₀ w₀ p₀ t w p = Halfway b t₀ w₀ (p .calls) (p .at) t w × (length t ≡ length t₀) × (length w ≡ length w₀)
+Inv-loop b t₀ w₀ p₀ t w p = BetweenRecords b t₀ w₀ (p .calls) (p .at) t w × (length t ≡ length t₀) × (length w ≡ length w₀)
 
 abbrev μ-loop : tie.MeasureT-loop
 μ-loop b t₀ w₀ p₀ t w p = length b - p .at

@@ -34,7 +34,7 @@ pub record Ended (cs : List Call) (t : List ℕ) : Type 0 where
   pub claims : ClaimsOf (noteAll (blank scriptSizes) cs answers) t
 
 -- The script b run in tables t and a work area w: the reply x, and what is left in both.
-pub record Dealt (b t w : List ℕ) (x : Reply) (t′ w′ : List ℕ) : Type 0 where
+pub record RanScript (b t w : List ℕ) (x : Reply) (t′ w′ : List ℕ) : Type 0 where
   -- "1 Memory, either length wrong": nothing is run, and the tables are as found
   pub unfit : ¬ Fit t w scriptSizes → (x ≡ record { refusal = 1; value = 0 }) × (t′ ≡ t)
   -- both lengths are right: all calls of the script are run, up to its end or to the first bad record, whatever t held before

@@ -7,14 +7,14 @@ use native.Mathlib.Omega.{arith}
 use lib.ListN.{length, length-take, getD, set, take, List·getD-append}
 use lib.Seq.{getD-take, getD-set-same, getD-set-other}
 use Rattle.words.specs.Cases.{lt, ge, cmp}
-use Rattle.byte_io.specs.declared.input.Hand.{Hand}
+use Rattle.byte_io.specs.declared.input.Buffered.{Buffered}
 
-pub record Within (h : Hand) (n : ℕ) : Type 0 where
+pub record Within (h : Buffered) (n : ℕ) : Type 0 where
   pub rising : h .at ≤ h .end
   pub inside : h .end ≤ n
 
 -- The bytes at hand h in b are the first of those at hand r in b′.
-pub record Keeps (h : Hand) (b : List ℕ) (r : Hand) (b′ : List ℕ) : Type 0 where
+pub record Keeps (h : Buffered) (b : List ℕ) (r : Buffered) (b′ : List ℕ) : Type 0 where
   pub as-many : h .end - h .at ≤ r .end - r .at
   pub same : (k : ℕ) → k < h .end - h .at → getD b′ (r .at + k) 0 ≡ getD b (h .at + k) 0
 
@@ -28,7 +28,7 @@ pub keeps-front : (b rest : List ℕ) (n got : ℕ) (more : Bool) → n ≤ leng
 keeps-front b rest n got more h = record { as-many = omega arith; same = λ k u. front-same b rest n (0 + k) h (omega arith) }
 
 -- the bytes at hand moved to the front of b₁, then more read
-pub keeps-moved : (h r : Hand) (b b₁ b₂ : List ℕ) → ((k : ℕ) → k < h .end - h .at → getD b₁ k 0 ≡ getD b (h .at + k) 0)
+pub keeps-moved : (h r : Buffered) (b b₁ b₂ : List ℕ) → ((k : ℕ) → k < h .end - h .at → getD b₁ k 0 ≡ getD b (h .at + k) 0)
     → Keeps (record { at = 0; end = h .end - h .at; more = true }) b₁ r b₂ → Keeps h b r b₂
 keeps-moved h r b b₁ b₂ m x = record {
   as-many = omega (arith, x .as-many);

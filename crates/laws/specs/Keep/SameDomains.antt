@@ -16,48 +16,48 @@ untracked none = none
 untracked (some x) = some (withTracker [] x)
 
 -- trackers, regions, the pools of both and the queue aside
-pub record Aside (s t : State) : Type 0 where
+pub record SameDomains (s t : State) : Type 0 where
   pub sizes : t .sizes ≡ s .sizes
   pub domainPool : t .domainPool ≡ s .domainPool
   pub size : length (t .domains) ≡ length (s .domains)
   pub domains : (d : ℕ) → untracked (slotOf (t .domains) d) ≡ untracked (slotOf (s .domains) d)
 
 -- and the regions
-pub record Beside (s t : State) : Type 0 where
-  pub aside : Aside s t
+pub record SameOutside (s t : State) : Type 0 where
+  pub sameDomains : SameDomains s t
   pub regionPool : t .regionPool ≡ s .regionPool
   pub regions : t .regions ≡ s .regions
 
-pub aside-self : (s : State) → Aside s s
-aside-self s = record { sizes = refl; domainPool = refl; size = refl; domains = λ d. refl }
+pub same-domains-self : (s : State) → SameDomains s s
+same-domains-self s = record { sizes = refl; domainPool = refl; size = refl; domains = λ d. refl }
 
-pub aside-then : {s t u : State} → Aside s t → Aside t u → Aside s u
-aside-then h k = record {
+pub same-domains-then : {s t u : State} → SameDomains s t → SameDomains t u → SameDomains s u
+same-domains-then h k = record {
   sizes = k .sizes ∙ h .sizes;
   domainPool = k .domainPool ∙ h .domainPool;
   size = k .size ∙ h .size;
   domains = λ d. k .domains d ∙ h .domains d;
 }
 
-pub aside-turned : {s t : State} → Aside s t → Aside t s
-aside-turned h = record { sizes = sym (h .sizes); domainPool = sym (h .domainPool); size = sym (h .size); domains = λ d. sym (h .domains d) }
+pub same-domains-turned : {s t : State} → SameDomains s t → SameDomains t s
+same-domains-turned h = record { sizes = sym (h .sizes); domainPool = sym (h .domainPool); size = sym (h .size); domains = λ d. sym (h .domains d) }
 
-pub beside-self : (s : State) → Beside s s
-beside-self s = record { aside = aside-self s; regionPool = refl; regions = refl }
+pub same-outside-self : (s : State) → SameOutside s s
+same-outside-self s = record { sameDomains = same-domains-self s; regionPool = refl; regions = refl }
 
-pub beside-then : {s t u : State} → Beside s t → Beside t u → Beside s u
-beside-then h k = record { aside = aside-then (h .aside) (k .aside); regionPool = k .regionPool ∙ h .regionPool; regions = k .regions ∙ h .regions }
+pub same-outside-then : {s t u : State} → SameOutside s t → SameOutside t u → SameOutside s u
+same-outside-then h k = record { sameDomains = same-domains-then (h .sameDomains) (k .sameDomains); regionPool = k .regionPool ∙ h .regionPool; regions = k .regions ∙ h .regions }
 
 -- a domain that is there is there still, with the same manager, cores and list
-pub aside-in : {s t : State} → Aside s t → (d : ℕ) (x : Domain) → In (s .domains) d x → (y : Domain) × In (t .domains) d y × (withTracker [] y ≡ withTracker [] x)
-aside-in {s} {t} h d x e = go (slotOf (t .domains) d) refl (h .domains d ∙ ap untracked e)
+pub same-domains-in : {s t : State} → SameDomains s t → (d : ℕ) (x : Domain) → In (s .domains) d x → (y : Domain) × In (t .domains) d y × (withTracker [] y ≡ withTracker [] x)
+same-domains-in {s} {t} h d x e = go (slotOf (t .domains) d) refl (h .domains d ∙ ap untracked e)
   where
     go : (o : Option Domain) → slotOf (t .domains) d ≡ o → untracked o ≡ some (withTracker [] x) → (y : Domain) × In (t .domains) d y × (withTracker [] y ≡ withTracker [] x)
     go none q k = absurd (none-some none (withTracker [] x) refl k)
     go (some y) q k = (y, q, cc)
 
-pub aside-live : {s t : State} → Aside s t → (d : ℕ) → T (isSome (slotOf (s .domains) d)) → T (isSome (slotOf (t .domains) d))
-aside-live {s} {t} h d l =
+pub same-domains-live : {s t : State} → SameDomains s t → (d : ℕ) → T (isSome (slotOf (s .domains) d)) → T (isSome (slotOf (t .domains) d))
+same-domains-live {s} {t} h d l =
     let x = live-is (slotOf (s .domains) d) l in
-    let y = aside-in h d (x .0) (x .1) in
+    let y = same-domains-in h d (x .0) (x .1) in
     is-live (slotOf (t .domains) d) (y .0) (y .1)

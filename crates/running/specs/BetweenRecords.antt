@@ -11,14 +11,14 @@ use Rattle.model.specs.Memory.{zeroed}
 use Rattle.book.specs.Lent.{Chain}
 use Rattle.script_records.specs.Script.{scriptCalls}
 use Rattle.frame.specs.declared.replies.Reply.{Reply}
-use Rattle.running.specs.Dealt.{scriptReply}
+use Rattle.running.specs.RunScript.{scriptReply}
 
 -- The calls cs, then those of r.
 abbrev pub followed : List Call → List Call × Bool → List Call × Bool
 followed cs r = (cs ++ r .0, r .1)
 
 -- n calls, those of the first `at` bytes of b, led from t₀ and w₀ to t and w.
-pub record Halfway (b t₀ w₀ : List ℕ) (n at : ℕ) (t w : List ℕ) : Type 0 where
+pub record BetweenRecords (b t₀ w₀ : List ℕ) (n at : ℕ) (t w : List ℕ) : Type 0 where
   pub calls : List Call
   pub answers : List Answer
   pub chain : Chain t₀ calls answers t
