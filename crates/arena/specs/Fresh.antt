@@ -5,7 +5,7 @@ use Prim.Native.Nat.{ℕ, zero, suc, _+_, _≤_, _<_}
 use native.Mathlib.Omega.{arith}
 use lib.ListN.{length, getD, set, replicate, length-set, length-replicate, getD-replicate}
 use lib.Seq.{getD-set-same, getD-set-other, ext-getD}
-use Rattle.words.specs.Cases.{cmp, lt, ge}
+use Rattle.base.specs.Cases.{cmp, lt, ge}
 use Rattle.tables.specs.Tables.{Arena}
 use Rattle.arena.specs.Arena.{withTop, withLink, withGen, freshLink, linksFrom, newArena}
 

@@ -5,7 +5,8 @@ use Prim.Native.Nat.{ℕ, _+_, _-_, _^_, _≤_, _<_}
 use borrow.Author.Tests.{lt-ltb, le-ltb, ltb-true}
 use lib.Dec.{ltb}
 use lib.ListN.{length, getD}
-use Rattle.words.specs.Cases.{both, both-true, cmp, lt, ge}
+use Rattle.base.specs.Cases.{cmp, lt, ge}
+use Rattle.base.specs.Tests.{both, both-true}
 use Rattle.tables.specs.Tables.{Arena}
 use Rattle.arena.specs.declared.Given.the-variants.{At, Full}
 use Rattle.arena.specs.declared.Freed.the-variants.{Done, Spent, NotHeld}

@@ -7,7 +7,7 @@ use native.Mathlib.Omega.{arith}
 use borrow.Author.Tests.{ltb-false}
 use lib.Dec.{ltb, eqb}
 use lib.ListN.{length, set, length-set}
-use Rattle.words.specs.Cases.{pick}
+use Rattle.base.specs.Cases.{pick}
 use Rattle.tables.specs.Tables.{Tables, recordAt}
 use Rattle.sizes.specs.Sizes.{sizesOf}
 use Rattle.tables.specs.View.{view, ofParts, Sized}
@@ -16,7 +16,7 @@ use Rattle.tracker_records.specs.Links.{firstLink}
 use Rattle.readings.specs.declared.Permission.{Permission}
 use Rattle.readings.specs.declared.Plan.{Plan}
 use Rattle.readings.specs.Readings.{recordsFrom, recordsOf, permissionOf, permissionList, foundAt, planOf, fillRun}
-use Rattle.readings.specs.Listing.{plan-turns as at-most}
+use Rattle.readings.specs.Listing.{plan-turns as at-most, listFrom}
 use Rattle.readings.proofs.Runs.{fillFrom, fill-none, fill-put}
 use Rattle.bench.specs.Trackers.{wordsOf}
 
@@ -70,9 +70,6 @@ listing-more s n k i run n₀ k₀ run₀ h f =
     }
 
 -- ---- as many turns as there are records
-
-abbrev listFrom : Tables → ℕ → ℕ → List Permission
-listFrom s n k = map permissionOf (recordsFrom n s k)
 
 one-chain : (s : Tables) (n k : ℕ) → (let k′ = foundAt s k .next in chain s (length (listFrom s n k′)) k′ ≡ listFrom s n k′ → (b : Bool)
     → (let l = map permissionOf (pick b [] (recordAt s (slotTo k) ∷ recordsFrom n s k′)) in chain s (length l) k ≡ l))

@@ -6,7 +6,8 @@ use mathlib.Core.List.{List}
 use borrow.Author.Tests.{eq-eqb, ne-eqb}
 use lib.Dec.{eqb}
 use lib.ListN.{length}
-use Rattle.words.specs.Cases.{pick, both}
+use Rattle.base.specs.Cases.{pick}
+use Rattle.base.specs.Tests.{both}
 use Rattle.tables.specs.declared.Slot.{Slot}
 use Rattle.sizes.specs.declared.Sizes.{Sizes}
 use Rattle.sizes.specs.Limits.{limitsB}

@@ -1,5 +1,5 @@
-// Steps of the engine on lent tables, exported so that they can be timed (bench/README.md).
-// Each tests the length first; where it is wrong the answer is `NOTHING` and no word changes.
+// Steps of the engine on lent tables, exported so that they can be timed (bench/README.md). They test no soundness and put nothing back: what
+// document 01 demands of calls is not promised of them. Each tests the length first; where it is wrong the answer is `NOTHING` and no word changes.
 ghost use mathlib.Core.Path.{_≡_};
 ghost use lib.ListN.{length, replicate};
 ghost use Rattle.words.specs.Copies.{copied};

@@ -1,13 +1,13 @@
 -- **Book** of demand 3 (document 01): what lives, and whose it is, "from calls and answers alone". Nothing here looks at the tables.
 use Prim.Native.Nat.{ℕ, zero, suc}
 use mathlib.Core.Bool.{Bool, true, false, not, _||_}
-use mathlib.Core.Option.{Option, none, some}
+use mathlib.Core.Option.{Option, none, some, Option·getD}
 use mathlib.Core.List.{List, [], _∷_, _++_}
 use lib.Dec.{eqb}
 use lib.ListN.{length, getD, set, replicate}
-use Rattle.model.specs.Lists.{if_then_else_, countUp, isEmpty, slotOf, orElse}
+use Rattle.model.specs.Lists.{if_then_else_, countUp, isEmpty, atSlot}
 use Rattle.model.specs.State.{Sizes, Handle, Access, Kind, Root, Alias, Carve, parentOf}
-use Rattle.model.specs.Perform.{Step, Call, Reply, Answer}
+use Rattle.model.specs.Perform.{Step, Call, Value, Answer}
 
 -- ---- what the book keeps
 
@@ -55,10 +55,10 @@ abbrev pub noted : List Noted → ℕ → Noted
 noted rs k = getD rs k noNoted
 
 abbrev pub slotsOf : Book → ℕ → Slots
-slotsOf b d = orElse (slotOf (b .lists) d) (record { held = []; free = [] })
+slotsOf b d = Option·getD (atSlot (b .lists) d) (record { held = []; free = [] })
 
 abbrev pub heldAt : Book → ℕ → ℕ → Option Held
-heldAt b d l = slotOf (slotsOf b d .held) l
+heldAt b d l = atSlot (slotsOf b d .held) l
 
 -- the book with one domain's slots, or its regions, changed
 abbrev pub withSlots : ℕ → Slots → Book → Book
@@ -213,30 +213,30 @@ domainIn (some (managementOf h)) = h .slot
 domainIn (some (channelOf h)) = h .slot
 
 -- The slot, and the domain, that an answer names.
-abbrev pub localOf : Reply → ℕ
-localOf Reply.done = 0
-localOf (Reply.domain h) = 0
-localOf (Reply.local n) = n
-localOf (Reply.popped u) = 0
-localOf (Reply.permissionList l) = 0
-localOf (Reply.number n) = 0
-localOf (Reply.domainList l) = 0
+abbrev pub localOf : Value → ℕ
+localOf Value.done = 0
+localOf (Value.domain h) = 0
+localOf (Value.local n) = n
+localOf (Value.popped u) = 0
+localOf (Value.permissionList l) = 0
+localOf (Value.number n) = 0
+localOf (Value.domainList l) = 0
 
 -- what an answer that names no domain reads as; no accepted opening gives it
 abbrev pub noHandle : Handle
-noHandle = record { slot = 0; gen = 0 }
+noHandle = record { slot = 0; generation = 0 }
 
-abbrev pub domainOf : Reply → Handle
-domainOf Reply.done = noHandle
-domainOf (Reply.domain h) = h
-domainOf (Reply.local n) = noHandle
-domainOf (Reply.popped u) = noHandle
-domainOf (Reply.permissionList l) = noHandle
-domainOf (Reply.number n) = noHandle
-domainOf (Reply.domainList l) = noHandle
+abbrev pub domainOf : Value → Handle
+domainOf Value.done = noHandle
+domainOf (Value.domain h) = h
+domainOf (Value.local n) = noHandle
+domainOf (Value.popped u) = noHandle
+domainOf (Value.permissionList l) = noHandle
+domainOf (Value.number n) = noHandle
+domainOf (Value.domainList l) = noHandle
 
 -- An accepted call.
-unfoldable pub accept : Book → Call → Reply → Book
+unfoldable pub accept : Book → Call → Value → Book
 -- "Making empties it."
 accept b (Call.Make z) y = blank z
 -- "in a manager's list, opening" takes a slot that names the new domain
@@ -244,7 +244,7 @@ accept b (Call.Do (Step.Open none cores)) y = opened (domainOf y .slot) b
 accept b (Call.Do (Step.Open (some m) cores)) y = giveNext (m .slot) (managementOf (domainOf y)) (opened (domainOf y .slot) b)
 -- "Channel, RegionRevoke .. take a slot that names their domain or region."
 accept b (Call.Do (Step.Channel h to)) y = give (h .slot) (localOf y) (channelOf to) b
-accept b (Call.Do (Step.MakeRevoke h l)) y = give (h .slot) (localOf y) (revokeOf (placeIn (heldAt b (h .slot) l))) b
+accept b (Call.Do (Step.CreateRevokeCapa h l)) y = give (h .slot) (localOf y) (revokeOf (placeIn (heldAt b (h .slot) l))) b
 -- "its parent is the region in the slot named, a root's none"
 accept b (Call.Do (Step.Root h a)) y = created Root (h .slot) (localOf y) a b
 accept b (Call.Do (Step.Alias h l a)) y = created (Alias (placeIn (heldAt b (h .slot) l))) (h .slot) (localOf y) a b
@@ -253,7 +253,7 @@ accept b (Call.Do (Step.Carve h l a)) y = created (Carve (placeIn (heldAt b (h .
 accept b (Call.Do (Step.Send h l target)) y = sent (h .slot) l (domainIn (heldAt b (h .slot) target)) (localOf y) b
 accept b (Call.Do (Step.Revoke h l)) y = emptySlot (h .slot) l (revoked (heldAt b (h .slot) l) b)
 -- "pop, core maps and readings change nothing"
-accept b (Call.Do (Step.SetCores h cores)) y = b
+accept b (Call.Do (Step.SetCoreMap h cores)) y = b
 accept b Call.Pop y = b
 accept b (Call.Read r) y = b
 

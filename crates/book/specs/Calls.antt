@@ -4,14 +4,14 @@ use mathlib.Core.Option.{none, some}
 use Rattle.model.specs.Outcome.{Outcome, ok, refuse}
 use Rattle.model.specs.State.{State}
 use Rattle.model.specs.Sound.{Sound}
-use Rattle.model.specs.Perform.{Step, Call, Reply, performStep, perform, after}
+use Rattle.model.specs.Perform.{Step, Call, Value, performStep, perform, after}
 use Rattle.laws.specs.Accepted.{All, accepted, refused, bind, bind-any}
 use Rattle.book.specs.Book.{Book, accept, note}
 use Rattle.book.specs.Matches.{Matches}
 use Rattle.book.specs.Channel.{channel-match}
-use Rattle.book.specs.SetCores.{cores-match}
+use Rattle.book.specs.SetCoreMap.{cores-match}
 use Rattle.book.specs.Open.{open-match}
-use Rattle.book.specs.MakeRevoke.{make-revoke-match}
+use Rattle.book.specs.CreateRevokeCapa.{make-revoke-match}
 use Rattle.book.specs.Root.{root-match}
 use Rattle.book.specs.Alias.{alias-match}
 use Rattle.book.specs.Carve.{carve-match}
@@ -27,18 +27,18 @@ perform-match b s (Call.Make z) o g = bind (make-anew-match b s z) (λ t q. acce
 perform-match b s (Call.Do (Step.Open none c)) o g = bind (open-match b s none c o g) (λ x q. accepted q)
 perform-match b s (Call.Do (Step.Open (some m) c)) o g = bind (open-match b s (some m) c o g) (λ x q. accepted q)
 perform-match b s (Call.Do (Step.Channel h to)) o g = bind (channel-match b s h to g) (λ x q. accepted q)
-perform-match b s (Call.Do (Step.SetCores h c)) o g = bind (cores-match b s h c g) (λ x q. accepted q)
+perform-match b s (Call.Do (Step.SetCoreMap h c)) o g = bind (cores-match b s h c g) (λ x q. accepted q)
 perform-match b s (Call.Do (Step.Root h a)) o g = bind (root-match b s h a o g) (λ x q. accepted q)
 perform-match b s (Call.Do (Step.Alias h l a)) o g = bind (alias-match b s h l a o g) (λ x q. accepted q)
 perform-match b s (Call.Do (Step.Carve h l a)) o g = bind (carve-match b s h l a o g) (λ x q. accepted q)
 perform-match b s (Call.Do (Step.Send h l t)) o g = bind (send-match b s h l t o g) (λ x q. accepted q)
 perform-match b s (Call.Do (Step.Revoke h l)) o g = bind (revoke-match b s h l o g) (λ x q. accepted q)
-perform-match b s (Call.Do (Step.MakeRevoke h l)) o g = bind (make-revoke-match b s h l g) (λ x q. accepted q)
+perform-match b s (Call.Do (Step.CreateRevokeCapa h l)) o g = bind (make-revoke-match b s h l g) (λ x q. accepted q)
 perform-match b s Call.Pop o g = bind {P = λ x. Matches b (x .1)} (accepted (pop-match b s _ refl g)) (λ x q. accepted q)
 perform-match b s (Call.Read r) o g = bind-any _ (λ x. accepted g)
 
 -- a refused call leaves book and tables
-pub after-match : (b : Book) (s : State) (c : Call) (m : Outcome (Reply × State)) → All (λ y. Matches (accept b c (y .0)) (y .1) × Sound (y .1)) m → Sound s → Matches b s → Matches (note b c (after s m .0)) (after s m .1) × Sound (after s m .1)
+pub after-match : (b : Book) (s : State) (c : Call) (m : Outcome (Value × State)) → All (λ y. Matches (accept b c (y .0)) (y .1) × Sound (y .1)) m → Sound s → Matches b s → Matches (note b c (after s m .0)) (after s m .1) × Sound (after s m .1)
 unfolding note
 after-match b s c (ok x) (accepted h) o g = h
 after-match b s c (refuse r) refused o g = (g, o)

@@ -4,7 +4,7 @@ use Prim.Native.Nat.{ℕ}
 use mathlib.Core.Bool.{true}
 use lib.Dec.{eqb}
 use lib.ListN.{length}
-use Rattle.model.specs.Lists.{isSome, slotOf}
+use Rattle.model.specs.Lists.{isSome, atSlot}
 use Rattle.model.specs.State.{State, Handle, Kind, Carve, Access}
 use Rattle.model.specs.Calls.{carveRegion, exchangeRights}
 use Rattle.model.specs.Sound.{Sound}
@@ -17,7 +17,7 @@ use Rattle.book.specs.Held.{region-found}
 use Rattle.book.specs.NewRegion.{room-match, once-after}
 use Rattle.book.specs.Child.{child-match, parent-lives, parent-below}
 
-exchange-match : (b : Book) (at : ℕ → Handle) (place : ℕ → ℕ) (s : State) (d old : ℕ) (a : Access) → MatchesAt b s at place → isSome (slotOf (s .domains) d) ≡ true → All (λ t. MatchesAt b t at place) (exchangeRights d old a s)
+exchange-match : (b : Book) (at : ℕ → Handle) (place : ℕ → ℕ) (s : State) (d old : ℕ) (a : Access) → MatchesAt b s at place → isSome (atSlot (s .domains) d) ≡ true → All (λ t. MatchesAt b t at place) (exchangeRights d old a s)
 unfolding exchangeRights
 exchange-match b at place s d old a m i =
     branch (eqb old (a .rights)) (accepted m)
@@ -29,6 +29,6 @@ carve-match b s h l a sound g =
     on-domain s h _ (λ v.
     bind (region-found b s _ _ (g .fits) (h .slot) l) (λ p f.
     bind (room-match b s _ _ (h .slot) a (g .fits)) (λ s₁ q.
-    and-then _ (bind (child-match (makeRoom (h .slot) b) s₁ _ _ (h .slot) p (Carve (placeIn (heldAt b (h .slot) l))) (Carve p) a (s .sizes .regions) (once-after s s₁ (q .1) sound) (ap length (q .1 .regions) ∙ sound .outside .regionsLength) (q .0) (ap (λ (x : Handle). Kind.Carve (x .slot)) (f .here)) (λ k e. parent-below _ _ k (f .below) e) (λ k e. parent-lives b _ k (f .lives) e) (ap (λ gs. isSome (slotOf gs p)) (q .1 .regions) ∙ f .there)) (λ y r.
+    and-then _ (bind (child-match (makeRoom (h .slot) b) s₁ _ _ (h .slot) p (Carve (placeIn (heldAt b (h .slot) l))) (Carve p) a (s .sizes .regions) (once-after s s₁ (q .1) sound) (ap length (q .1 .regions) ∙ sound .outside .regionsLength) (q .0) (ap (λ (x : Handle). Kind.Carve (x .slot)) (f .here)) (λ k e. parent-below _ _ k (f .below) e) (λ k e. parent-lives b _ k (f .lives) e) (ap (λ gs. isSome (atSlot gs p)) (q .1 .regions) ∙ f .there)) (λ y r.
     bind (exchange-match _ _ _ (y .1) (h .slot) _ a (r .fits) (r .opens (h .slot) (q .1 .opens (h .slot) (live-opens s h v)))) (λ s₄ c.
     accepted (matches _ _ _ _ c)))))))

@@ -4,16 +4,18 @@ use Prim.Native.Nat.{ℕ, _+_, _<_}
 use mathlib.Core.Bool.{Bool, true, false}
 use mathlib.Core.List.{List, [], _∷_}
 use native.Mathlib.Omega.{arith}
-use lib.Dec.{eqb, ltb, eqb-refl}
+use lib.Dec.{eqb, ltb}
 use lib.ListN.{getD}
-use Rattle.model.specs.Lists.{isSome, slotOf, count, oneIf}
-use Rattle.model.specs.Outcome.{Outcome, ok, _>>=_, _>>_, require, Refusal}
+use borrow.Author.Tests.{le-ltb, lt-ltb, eq-eqb}
+use Rattle.base.specs.Cases.{lt, ge, cmp}
+use Rattle.model.specs.Lists.{isSome, atSlot, countIf, oneIf}
+use Rattle.model.specs.Outcome.{Outcome, ok, _>>=_, _>>_, require}
+use Rattle.refusals.specs.declared.Refusal.{Refusal}
 use Rattle.model.specs.State.{State, Pool, Handle}
 use Rattle.model.specs.Pool.{isLive, allocate}
 use Rattle.model.specs.Calls.{liveDomain, liveRegion}
 use Rattle.model.specs.Sound.{OnceEach}
 use Rattle.laws.specs.Accepted.{All, refused}
-use Rattle.laws.specs.Cases.{is-true, lt, ge, cmp, ltb-f, ltb-t}
 use Rattle.book.specs.Tests.{and-left}
 
 pub on-check : {B : Type 0} {Q : B → Type 0} (b : Bool) (r : Refusal) (i : ℕ) (f : ℕ → Outcome B) → (b ≡ true → All Q (f i)) → All Q ((require b r >> ok i) >>= f)
@@ -31,22 +33,19 @@ on-allocate r gs [] f k = refused
 on-allocate r gs (i ∷ is) f k = k i is refl
 
 -- a free slot lies in the table, and is not used
-pub same-number : (i : ℕ) → eqb i i ≡ true
-same-number i = is-true (eqb-refl i)
-
 pub free-below : (n : ℕ) (u : ℕ → ℕ) (i : ℕ) (is : List ℕ) → OnceEach n u (i ∷ is) → (i < n) × u i ≡ 0
 free-below n u i is o =
-    let e : u i + (1 + count (eqb i) is) ≡ oneIf (ltb i n) = rw (same-number i) at (o i) in
+    let e : u i + (1 + countIf (eqb i) is) ≡ oneIf (ltb i n) = rw (eq-eqb i i refl) at (o i) in
     elim (cmp i n) [
-      | lt h ↦ let e′ : u i + (1 + count (eqb i) is) ≡ 1 = e ∙ ap oneIf (ltb-t i n h) in (h, omega arith)
-      | ge h ↦ let e′ : u i + (1 + count (eqb i) is) ≡ 0 = e ∙ ap oneIf (ltb-f i n h) in absurd (omega arith)
+      | lt h ↦ let e′ : u i + (1 + countIf (eqb i) is) ≡ 1 = e ∙ ap oneIf (lt-ltb i n h) in (h, omega arith)
+      | ge h ↦ let e′ : u i + (1 + countIf (eqb i) is) ≡ 0 = e ∙ ap oneIf (le-ltb i n h) in absurd (omega arith)
     ]
 
 pub once-free : (n : ℕ) (u : ℕ → ℕ) (fs : List ℕ) (i : ℕ) (is : List ℕ) → fs ≡ i ∷ is → OnceEach n u fs → (i < n) × u i ≡ 0
 once-free n u fs i is e o = free-below n u i is (rw e at o)
 
-pub live-opens : (s : State) (h : Handle) → isLive (s .domainPool) (s .domains) h ≡ true → isSome (slotOf (s .domains) (h .slot)) ≡ true
-live-opens s h = and-left _ (eqb (getD (s .domainPool .gens) (h .slot) 0) (h .gen))
+pub live-opens : (s : State) (h : Handle) → isLive (s .domainPool) (s .domains) h ≡ true → isSome (atSlot (s .domains) (h .slot)) ≡ true
+live-opens s h = and-left _ (eqb (getD (s .domainPool .gens) (h .slot) 0) (h .generation))
 
 pub on-region : {B : Type 0} {Q : B → Type 0} (s : State) (h : Handle) (f : ℕ → Outcome B) → (isLive (s .regionPool) (s .regions) h ≡ true → All Q (f (h .slot))) → All Q (liveRegion s h >>= f)
 unfolding liveRegion

@@ -1,44 +1,38 @@
 -- What a region of the book, and one of the tables, counts for; both agree where the regions do.
 use mathlib.Core.Path.{_≡_, refl, sym, ap, _∙_}
 use Prim.Native.Nat.{ℕ, zero, suc, _+_, _<_}
-use mathlib.Core.Bool.{Bool, true, false, not, _&&_, _||_}
+use mathlib.Core.Bool.{Bool, true, false, not, _&&_, _||_, and-false, and-comm}
 use mathlib.Core.Option.{Option, none, some}
 use mathlib.Core.List.{List, [], _∷_}
 use native.Mathlib.Omega.{arith}
 use lib.Dec.{eqb}
 use lib.ListN.{length, getD}
-use Rattle.model.specs.Lists.{if_then_else_, oneIf, isSome, any, count}
+use Rattle.base.specs.Tests.{true-is}
+use Rattle.model.specs.Lists.{if_then_else_, oneIf, isSome, exists, countIf}
 use Rattle.model.specs.State.{Region, Kind, Root, Alias, Carve, parentOf}
 use Rattle.model.specs.Counts.{holds, carves, countsFor, tally as regionTally}
-use Rattle.laws.specs.Cases.{true-is}
 use Rattle.laws.specs.Tree.Sum.{sum, sum-same, sum-front}
 use Rattle.book.specs.Book.{Noted, noted}
 use Rattle.book.specs.Demand3.{covers, carvesAt, counts, noteTally, kindBy, SameRegion}
-use Rattle.book.specs.Tests.{and-no, or-right}
-
-and-swap : (c e : Bool) → (c && e) ≡ (e && c)
-and-swap true true = refl
-and-swap true false = refl
-and-swap false true = refl
-and-swap false false = refl
+use Rattle.book.specs.Tests.{or-right}
 
 pub record FoundAt {A : Type 0} (p : A → Bool) (d : A) (l : List A) : Type 0 where
   pub at : ℕ
   pub low : at < length l
   pub yes : p (getD l at d) ≡ true
 
-pub any-get : {A : Type 0} (p : A → Bool) (d : A) (l : List A) → any p l ≡ true → FoundAt p d l
+pub any-get : {A : Type 0} (p : A → Bool) (d : A) (l : List A) → exists p l ≡ true → FoundAt p d l
 any-get p d [] h = absurd (true-is h)
 any-get p d (x ∷ l) h = go (p x) refl (λ k. any-get p d l k)
   where
-    go : (c : Bool) → p x ≡ c → (any p l ≡ true → FoundAt p d l) → FoundAt p d (x ∷ l)
+    go : (c : Bool) → p x ≡ c → (exists p l ≡ true → FoundAt p d l) → FoundAt p d (x ∷ l)
     go true e ih = record { at = 0; low = omega arith; yes = e }
-    go false e ih = let r = ih (sym (ap (λ c. c || any p l) e) ∙ h) in record { at = suc (r .at); low = (let u = r .low in omega arith); yes = r .yes }
+    go false e ih = let r = ih (sym (ap (λ c. c || exists p l) e) ∙ h) in record { at = suc (r .at); low = (let u = r .low in omega arith); yes = r .yes }
 
-pub any-put : {A : Type 0} (p : A → Bool) (d : A) (l : List A) (j : ℕ) → j < length l → p (getD l j d) ≡ true → any p l ≡ true
+pub any-put : {A : Type 0} (p : A → Bool) (d : A) (l : List A) (j : ℕ) → j < length l → p (getD l j d) ≡ true → exists p l ≡ true
 any-put p d [] j u h = absurd (omega arith)
-any-put p d (x ∷ l) zero u h = ap (λ c. c || any p l) h
-any-put p d (x ∷ l) (suc j) u h = or-right (p x) (any p l) (any-put p d l j (omega arith) h)
+any-put p d (x ∷ l) zero u h = ap (λ c. c || exists p l) h
+any-put p d (x ∷ l) (suc j) u h = or-right (p x) (exists p l) (any-put p d l j (omega arith) h)
   where
     or-right : (c e : Bool) → e ≡ true → (c || e) ≡ true
     or-right true e h = refl
@@ -50,9 +44,9 @@ abbrev carveTest : Kind → Bool → ℕ → Bool
 carveTest kd h i = elim kd [ Root ↦ false | Alias p ↦ false | Carve p ↦ eqb p i && h ]
 
 kind-carve : (kd : Kind) (h : Bool) (f : ℕ → ℕ) (k i : ℕ) → ((p : ℕ) → parentOf kd ≡ some p → eqb p k ≡ eqb (f p) i) → (h && elim kd [ Root ↦ false | Alias p ↦ false | Carve p ↦ eqb p k ]) ≡ carveTest (kindBy f kd) h i
-kind-carve Root h f k i e = and-no h
-kind-carve (Alias p) h f k i e = and-no h
-kind-carve (Carve p) h f k i e = ap (λ c. h && c) (e p refl) ∙ and-swap h (eqb (f p) i)
+kind-carve Root h f k i e = and-false h
+kind-carve (Alias p) h f k i e = and-false h
+kind-carve (Carve p) h f k i e = ap (λ c. h && c) (e p refl) ∙ and-comm h (eqb (f p) i)
 
 pub carve-agree : (r : Noted) (g : Region) (f : ℕ → ℕ) (k i a : ℕ) → SameRegion f r g → r .alive ≡ true → ((p : ℕ) → parentOf (r .kind) ≡ some p → eqb p k ≡ eqb (f p) i) → carvesAt k a r ≡ carves i a (some g)
 carve-agree r g f k i a s l e =
@@ -110,22 +104,22 @@ counts-alive rs d a t k r h = go (r .alive) refl
   where
     go : (c : Bool) → r .alive ≡ c → r .alive ≡ true
     go true e = e
-    go false e = let z : noteCounts rs d a t k r ≡ 0 = ap (λ c. if c && eqb (r .owner) d && covers a r && not (any (carvesAt k a) rs) && t (r .rights) then 1 else 0) e in absurd (omega arith)
+    go false e = let z : noteCounts rs d a t k r ≡ 0 = ap (λ c. if c && eqb (r .owner) d && covers a r && not (exists (carvesAt k a) rs) && t (r .rights) then 1 else 0) e in absurd (omega arith)
 
 pub counts-some : (gs : List (Option Region)) (d a : ℕ) (t : ℕ → Bool) (i : ℕ) (o : Option Region) → 0 < slotCounts gs d a t i o → isSome o ≡ true
 counts-some gs d a t i none h = absurd (omega arith)
 counts-some gs d a t i (some x) h = refl
 
-pub counts-same : (rs : List Noted) (gs : List (Option Region)) (d a : ℕ) (t : ℕ → Bool) (k i : ℕ) (f : ℕ → ℕ) (r : Noted) (x : Region) → r .alive ≡ true → SameRegion f r x → any (carvesAt k a) rs ≡ any (carves i a) gs → noteCounts rs d a t k r ≡ slotCounts gs d a t i (some x)
+pub counts-same : (rs : List Noted) (gs : List (Option Region)) (d a : ℕ) (t : ℕ → Bool) (k i : ℕ) (f : ℕ → ℕ) (r : Noted) (x : Region) → r .alive ≡ true → SameRegion f r x → exists (carvesAt k a) rs ≡ exists (carves i a) gs → noteCounts rs d a t k r ≡ slotCounts gs d a t i (some x)
 counts-same rs gs d a t k i f r x l s c =
-    ap (λ v. if v && eqb (r .owner) d && covers a r && not (any (carvesAt k a) rs) && t (r .rights) then 1 else 0) l
+    ap (λ v. if v && eqb (r .owner) d && covers a r && not (exists (carvesAt k a) rs) && t (r .rights) then 1 else 0) l
     ∙ ap (λ v. if eqb (r .owner) d && covers a r && not v && t (r .rights) then 1 else 0) c
-    ∙ ap (λ v. if eqb v d && covers a r && not (any (carves i a) gs) && t (r .rights) then 1 else 0) (sym (s .owner))
-    ∙ ap (λ v. if eqb (x .owner) d && holds v (r .end) a && not (any (carves i a) gs) && t (r .rights) then 1 else 0) (sym (s .start))
-    ∙ ap (λ v. if eqb (x .owner) d && holds (x .start) v a && not (any (carves i a) gs) && t (r .rights) then 1 else 0) (sym (s .end))
-    ∙ ap (λ v. if eqb (x .owner) d && holds (x .start) (x .end) a && not (any (carves i a) gs) && t v then 1 else 0) (sym (s .rights))
+    ∙ ap (λ v. if eqb v d && covers a r && not (exists (carves i a) gs) && t (r .rights) then 1 else 0) (sym (s .owner))
+    ∙ ap (λ v. if eqb (x .owner) d && holds v (r .end) a && not (exists (carves i a) gs) && t (r .rights) then 1 else 0) (sym (s .start))
+    ∙ ap (λ v. if eqb (x .owner) d && holds (x .start) v a && not (exists (carves i a) gs) && t (r .rights) then 1 else 0) (sym (s .end))
+    ∙ ap (λ v. if eqb (x .owner) d && holds (x .start) (x .end) a && not (exists (carves i a) gs) && t v then 1 else 0) (sym (s .rights))
 
 -- how many of the book's regions pass a test
-pub count-notes : (p : Noted → Bool) (l : List Noted) → count p l ≡ sum (λ k. oneIf (p (noted l k))) (length l)
+pub count-notes : (p : Noted → Bool) (l : List Noted) → countIf p l ≡ sum (λ k. oneIf (p (noted l k))) (length l)
 count-notes p [] = refl
 count-notes p (x ∷ l) = omega (arith, count-notes p l, sum-front (λ k. oneIf (p (noted (x ∷ l) k))) (length l))

@@ -5,7 +5,7 @@ use mathlib.Core.Bool.{Bool, false, not, _&&_}
 use mathlib.Core.Option.{some}
 use mathlib.Core.List.{List, [], _∷_}
 use lib.Dec.{T, eqb}
-use Rattle.model.specs.Lists.{oneIf, any, count, Each, In}
+use Rattle.model.specs.Lists.{oneIf, exists, countIf, Each, In}
 use Rattle.model.specs.Outcome.{ok}
 use Rattle.model.specs.State.{State, Sizes, Region, Kind, Root, Alias, Carve, parentOf}
 use Rattle.model.specs.Fields.{Field, get, passes}
@@ -34,14 +34,16 @@ covers a r = holds (r .start) (r .end) a
 abbrev pub carvesAt : ℕ → ℕ → Noted → Bool
 carvesAt k a r = r .alive && covers a r && elim (r .kind) [ Root ↦ false | Alias p ↦ false | Carve p ↦ eqb p k ]
 
--- one of the domain's "live regions covering the address and not carved there"
-abbrev pub counts : List Noted → ℕ → ℕ → ℕ → Noted → Bool
-counts rs d a k r = r .alive && eqb (r .owner) d && covers a r && not (any (carvesAt k a) rs)
+-- Among the regions rs, for domain d at address a:
+module _ (rs : List Noted) (d a : ℕ) where
+  -- one of the domain's "live regions covering the address and not carved there"
+  abbrev pub counts : ℕ → Noted → Bool
+  counts k r = r .alive && eqb (r .owner) d && covers a r && not (exists (carvesAt k a) rs)
 
--- how many of them pass a test of their rights; i is the first one's place
-abbrev pub noteTally : List Noted → ℕ → ℕ → (ℕ → Bool) → ℕ → List Noted → ℕ
-noteTally rs d a t i [] = 0
-noteTally rs d a t i (r ∷ l) = oneIf (counts rs d a i r && t (r .rights)) + noteTally rs d a t (suc i) l
+  -- how many of them pass a test of their rights; l is rs from place i on
+  abbrev pub noteTally : (ℕ → Bool) → ℕ → List Noted → ℕ
+  noteTally t i [] = 0
+  noteTally t i (r ∷ l) = oneIf (counts i r && t (r .rights)) + noteTally t (suc i) l
 
 -- the number of them, and for a right of those "that hold the right"
 abbrev pub bookCount : Book → Field → ℕ → ℕ → ℕ
@@ -57,11 +59,11 @@ isAliasOver a r = elim (r .kind) [ Root ↦ false | Alias p ↦ r .alive && cove
 
 -- both together
 abbrev pub accepted : Book → ℕ → ℕ
-accepted b a = count (isRootOver a) (b .regions) + count (isAliasOver a) (b .regions)
+accepted b a = countIf (isRootOver a) (b .regions) + countIf (isAliasOver a) (b .regions)
 
 -- an "accepted root covering the address had that right"
 abbrev pub rootHad : Book → Field → ℕ → Bool
-rootHad b f a = any (λ r. isRootOver a r && passes f (r .rights)) (b .regions)
+rootHad b f a = exists (λ r. isRootOver a r && passes f (r .rights)) (b .regions)
 
 -- "reach summed over all domains": the first n
 abbrev pub sumTo : ℕ → (ℕ → ℕ) → ℕ

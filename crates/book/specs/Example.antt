@@ -14,7 +14,7 @@ use Rattle.book.specs.Book.{Book, Noted, Held, emptied, regionOf, manage
 use Rattle.book.specs.Demand3.{noteAll, bookCount, accepted}
 
 -- To compute with the book, name `noting` on an `unfolding` line.
-unfoldable noting : Unit {0}
+unfoldable pub noting : Unit {0}
 unfolding computing swept makeRoom put give giveNext opened added created ownedBy ownedIfRegion freed putAny sent killed revoked emptySlot accept note noteAll
 noting = tt
 
@@ -22,14 +22,14 @@ noting = tt
 abbrev bookAfter : Sizes → List Call → Book
 bookAfter z cs = noteAll (blank z) cs (run (emptyTables z) cs .0)
 
-abbrev sizes : ℕ → ℕ → Sizes
+abbrev pub sizes : ℕ → ℕ → Sizes
 sizes d s = record { domains = d; slots = s; regions = 4; records = 8; updates = 4 }
 
 -- kind, owner, start, end, rights, alive; slots with the free ones, the one given next first
-abbrev reg : Kind → ℕ → ℕ → ℕ → ℕ → Bool → Noted
+abbrev pub reg : Kind → ℕ → ℕ → ℕ → ℕ → Bool → Noted
 reg k o s e r l = record { kind = k; owner = o; start = s; end = e; rights = r; alive = l }
 
-abbrev slots : List (Option Held) → List ℕ → Option Slots
+abbrev pub slots : List (Option Held) → List ℕ → Option Slots
 slots h f = some (record { held = h; free = f })
 
 -- A holds B's Management in slot 0, the root in 1 and the alias in 3; the carve is B's, in slot 0; the last call was refused.

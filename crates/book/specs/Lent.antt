@@ -5,11 +5,12 @@ use mathlib.Core.Bool.{Bool, true, false}
 use mathlib.Core.List.{List, [], _∷_}
 use lib.Dec.{T}
 use Rattle.model.specs.Lists.{Each}
-use Rattle.model.specs.Outcome.{Outcome, ok, _>>_, require, Refusal}
+use Rattle.model.specs.Outcome.{Outcome, ok, _>>_, require}
+use Rattle.refusals.specs.declared.Refusal.{Refusal}
 use Rattle.model.specs.State.{State, Sizes}
 use Rattle.model.specs.Making.{goodSizes, emptyTables, makeTables}
 use Rattle.model.specs.Layout.{words}
-use Rattle.model.specs.Perform.{Call, Reply, Answer, step}
+use Rattle.model.specs.Perform.{Call, Value, Answer, step}
 use Rattle.model.specs.CallWords.{CallWords}
 use Rattle.model.specs.Sound.{Sound}
 use Rattle.model.specs.Memory.{Lent, After, badSizes, badLengths, made, notSound, performed, held}
@@ -34,7 +35,7 @@ pub record ClaimsOf (b : Book) (t : List ℕ) : Type 0 where
 
 -- Demand 3, from an accepted making in lent memory.
 abbrev pub Demand3Lent : Type 0
-Demand3Lent = (t w t₁ w₁ t₂ : List ℕ) (z : Sizes) (cs : List Call) (ys : List Answer) → After t w (Call.Make z) (Answer.yes Reply.done) t₁ w₁ → Each CallWords cs → Chain t₁ cs ys t₂ → ClaimsOf (noteAll (blank z) cs ys) t₂
+Demand3Lent = (t w t₁ w₁ t₂ : List ℕ) (z : Sizes) (cs : List Call) (ys : List Answer) → After t w (Call.Make z) (Answer.yes Value.done) t₁ w₁ → Each CallWords cs → Chain t₁ cs ys t₂ → ClaimsOf (noteAll (blank z) cs ys) t₂
 
 -- ---- book and lent tables match
 
@@ -66,12 +67,12 @@ refusal : Answer → Type 0
 refusal (Answer.yes y) = ⊥
 refusal (Answer.no r) = Unit {0}
 
-not-yes : (r : Refusal) → Answer.no r ≡ Answer.yes Reply.done → ⊥
+not-yes : (r : Refusal) → Answer.no r ≡ Answer.yes Value.done → ⊥
 unfolding refusal
 not-yes r e = subst refusal e tt
 
 -- THEOREM: an accepted making begins it
-pub book-of-made : (t w t₁ w₁ : List ℕ) (z : Sizes) (y : Answer) → y ≡ Answer.yes Reply.done → After t w (Call.Make z) y t₁ w₁ → BookOf (blank z) t₁
+pub book-of-made : (t w t₁ w₁ : List ℕ) (z : Sizes) (y : Answer) → y ≡ Answer.yes Value.done → After t w (Call.Make z) y t₁ w₁ → BookOf (blank z) t₁
 book-of-made t w t₁ w₁ z y e (badSizes v p) = absurd (not-yes _ e)
 book-of-made t w t₁ w₁ z y e (badLengths v p f) = absurd (not-yes _ e)
 book-of-made t w t₁ w₁ z y e (made v p f) = book-of-empty v p

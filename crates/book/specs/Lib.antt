@@ -12,13 +12,13 @@ pub mod Child
 pub mod Make
 pub mod Open
 pub mod Channel
-pub mod SetCores
+pub mod SetCoreMap
 pub mod Root
 pub mod Alias
 pub mod Carve
 pub mod Send
 pub mod Revoke
-pub mod MakeRevoke
+pub mod CreateRevokeCapa
 pub mod Pop
 pub mod Calls
 -- from the relation to the claims
@@ -28,3 +28,4 @@ pub mod Claims
 pub mod Theorem
 pub mod Lent
 pub mod Example
+pub mod ShutOut

@@ -5,16 +5,16 @@ use mathlib.Core.Bool.{true}
 use mathlib.Core.Option.{none}
 use native.Mathlib.Omega.{arith}
 use lib.ListN.{replicate}
-use Rattle.model.specs.Lists.{isSome, slotOf}
+use Rattle.base.specs.Tests.{true-is}
+use Rattle.model.specs.Lists.{isSome, atSlot}
 use Rattle.model.specs.State.{State, Sizes, Region}
 use Rattle.model.specs.Making.{makeTables}
 use Rattle.model.specs.Perform.{makeAnew}
 use Rattle.laws.specs.Accepted.{All, accepted, bind, and-then}
-use Rattle.laws.specs.Cases.{true-is}
 use Rattle.book.specs.Book.{Book, blank}
 use Rattle.book.specs.Matches.{both-fresh, notOpened, Matches}
 
-no-slot : (A : Type 0) (n i : ℕ) → isSome (slotOf {A = A} (replicate n none) i) ≡ true → ⊥
+no-slot : (A : Type 0) (n i : ℕ) → isSome (atSlot {A = A} (replicate n none) i) ≡ true → ⊥
 no-slot A zero i h = true-is h
 no-slot A (suc n) zero h = true-is h
 no-slot A (suc n) (suc i) h = no-slot A n i h
@@ -23,7 +23,7 @@ pub make-match : (z : Sizes) → All (λ s. Matches (blank z) s) (makeTables z)
 unfolding makeTables
 make-match z =
     and-then _ (accepted (record {
-      at = λ k. record { slot = 0; gen = 0 };
+      at = λ k. record { slot = 0; generation = 0 };
       place = λ i. 0;
       fits = record {
         sizes = refl;

@@ -2,10 +2,10 @@
 use mathlib.Core.Path.{_≡_}
 use Prim.Native.Nat.{ℕ, zero, suc, _<_}
 use mathlib.Core.Bool.{true, false}
-use mathlib.Core.Option.{Option, none, some}
+use mathlib.Core.Option.{Option, none, some, Option·getD}
 use mathlib.Core.List.{List, [], _∷_}
 use lib.ListN.{length, getD, set, replicate}
-use Rattle.model.specs.Lists.{isSome, slotOf, orElse}
+use Rattle.model.specs.Lists.{isSome, atSlot}
 use Rattle.model.specs.State.{State, Pool, Handle, Capa, noCapa, region, regionRevoke, management, channel, LocalList, Domain, Region, noneRegion, parentOf}
 use Rattle.model.specs.Pool.{isLive, handleOf}
 use Rattle.book.specs.Book.{Book, Noted, Held, emptied, regionOf, revokeOf, managementOf, channelOf, Slots, noted}
@@ -91,10 +91,10 @@ LiveDomain p ds h = isLive p ds h ≡ true
 pub record Regions (rs : List Noted) (p : Pool) (gs : List (Option Region)) (at : ℕ → Handle) (place : ℕ → ℕ) : Type 0 where
   -- alive in the book is live in the tables; a handle of a dead one is older than its slot's generation
   pub aliveIsLive : (k : ℕ) → k < length rs → noted rs k .alive ≡ isLive p gs (at k)
-  pub deadIsOlder : (k : ℕ) → k < length rs → noted rs k .alive ≡ false → at k .gen < getD (p .gens) (at k .slot) 0
+  pub deadIsOlder : (k : ℕ) → k < length rs → noted rs k .alive ≡ false → at k .generation < getD (p .gens) (at k .slot) 0
   -- a live region is stored as the book has it, and stored ones are the book's
-  pub stored : (k : ℕ) → k < length rs → noted rs k .alive ≡ true → SameRegion (λ j. at j .slot) (noted rs k) (orElse (slotOf gs (at k .slot)) noneRegion)
-  pub back : (i : ℕ) → isSome (slotOf gs i) ≡ true → (place i < length rs) × at (place i) ≡ handleOf p i
+  pub stored : (k : ℕ) → k < length rs → noted rs k .alive ≡ true → SameRegion (λ j. at j .slot) (noted rs k) (Option·getD (atSlot gs (at k .slot)) noneRegion)
+  pub back : (i : ℕ) → isSome (atSlot gs i) ≡ true → (place i < length rs) × at (place i) ≡ handleOf p i
   pub one : (k : ℕ) → k < length rs → noted rs k .alive ≡ true → place (at k .slot) ≡ k
   -- a parent comes first, and lives while its child does
   pub parentEarlier : (k q : ℕ) → k < length rs → parentOf (noted rs k .kind) ≡ some q → q < k

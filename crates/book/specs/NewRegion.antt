@@ -2,33 +2,35 @@
 use mathlib.Core.Path.{_≡_, refl, sym, ap, _∙_}
 use mathlib.Core.Logic.{_≢_}
 use Prim.Native.Nat.{ℕ, zero, suc, _<_}
-use mathlib.Core.Bool.{true, false, _&&_}
-use mathlib.Core.Option.{Option, none, some}
+use mathlib.Core.Bool.{true, false, _&&_, and-false}
+use mathlib.Core.Option.{Option, none, some, Option·getD}
 use mathlib.Core.List.{List, [], _∷_, _++_}
 use native.Mathlib.Omega.{arith}
 use lib.Dec.{eqb, eqb→eq}
 use lib.ListN.{length, getD}
 use lib.Seq.{getD-set-same, getD-set-other, getD-append-seam}
-use Rattle.model.specs.Lists.{if_then_else_, isSome, slotOf, orElse, oneIf}
+use borrow.Author.Tests.{eq-eqb, ne-eqb}
+use Rattle.base.specs.Cases.{lt, ge, cmp, holds, fails, test}
+use Rattle.base.specs.Tests.{true-is, true-false}
+use Rattle.model.specs.Lists.{if_then_else_, isSome, atSlot}
 use Rattle.model.specs.State.{Pool, Handle, Region, Kind, Root, Alias, Carve, noneRegion, parentOf, State, region, Access}
 use Rattle.model.specs.Pool.{isLive, handleOf}
 use Rattle.model.specs.Locals.{insertCapa}
 use Rattle.model.specs.Regions.{newRegion}
 use Rattle.model.specs.Calls.{roomForRegion}
-use Rattle.model.specs.Sound.{Sound, OnceEach, inUse}
-use Rattle.laws.specs.Cases.{true-is, eqb-t, eqb-f, lt, ge, cmp, holds, fails, test}
+use Rattle.model.specs.Sound.{Sound, OnceEach, slotUses}
 use Rattle.laws.specs.Accepted.{All, accepted, bind, and-then, weaken}
+use Rattle.laws.specs.Lists.{not-used}
 use Rattle.book.specs.Book.{Noted, noted, Book, regionOf, makeRoom, put, added}
 use Rattle.book.specs.Demand3.{SameRegion, kindBy}
-use Rattle.book.specs.Tests.{and-no, yes-no}
 use Rattle.book.specs.Matches.{Regions, both-map, sameRegion, MatchesAt, list-map}
 use Rattle.book.specs.Slots.{OnlyDomains, capacity-match, insert-match}
 use Rattle.book.specs.Checks.{on-allocate, once-free}
 
 -- ---- small laws
 
-pub old-is-dead : (p : Pool) (gs : List (Option Region)) (h : Handle) → h .gen < getD (p .gens) (h .slot) 0 → isLive p gs h ≡ false
-old-is-dead p gs h k = rw (eqb-f (getD (p .gens) (h .slot) 0) (h .gen) (λ e. omega arith)) (and-no (isSome (slotOf gs (h .slot))))
+pub old-is-dead : (p : Pool) (gs : List (Option Region)) (h : Handle) → h .generation < getD (p .gens) (h .slot) 0 → isLive p gs h ≡ false
+old-is-dead p gs h k = rw (ne-eqb (getD (p .gens) (h .slot) 0) (h .generation) (λ e. omega arith)) (and-false (isSome (atSlot gs (h .slot))))
 
 pub kind-move : (k : Kind) (f f′ : ℕ → ℕ) → ((q : ℕ) → parentOf k ≡ some q → f′ q ≡ f q) → kindBy f′ k ≡ kindBy f k
 kind-move Root f f′ h = refl
@@ -56,30 +58,30 @@ extend f n v j = if eqb j n then v else f j
 
 pub extend-here : {A : Type 0} (f : ℕ → A) (n : ℕ) (v : A) → extend f n v n ≡ v
 unfolding extend
-extend-here f n v = rw (eqb-t n n refl)
+extend-here f n v = rw (eq-eqb n n refl)
 
 pub extend-off : {A : Type 0} (f : ℕ → A) (n : ℕ) (v : A) (j : ℕ) → j ≢ n → extend f n v j ≡ f j
 unfolding extend
-extend-off f n v j h = rw (eqb-f j n h)
+extend-off f n v j h = rw (ne-eqb j n h)
 
-module _ (rs rs′ : List Noted) (p : Pool) (is : List ℕ) (gs gs′ : List (Option Region)) (at at′ : ℕ → Handle) (place place′ : ℕ → ℕ) (i : ℕ) (r : Noted) (g : Region) (m : Regions rs p gs at place) (len : length rs′ ≡ suc (length rs)) (old : (k : ℕ) → k < length rs → noted rs′ k ≡ noted rs k) (new : noted rs′ (length rs) ≡ r) (was : slotOf gs i ≡ none) (now : slotOf gs′ i ≡ some g) (others : (j : ℕ) → j ≢ i → slotOf gs′ j ≡ slotOf gs j) (at-old : (k : ℕ) → k < length rs → at′ k ≡ at k) (at-new : at′ (length rs) ≡ handleOf p i) (pl-old : (j : ℕ) → j ≢ i → place′ j ≡ place j) (pl-new : place′ i ≡ length rs) (alive : r .alive ≡ true) (same : SameRegion (λ j. at j .slot) r g) (parent : (q : ℕ) → parentOf (r .kind) ≡ some q → q < length rs) (parentLives : (q : ℕ) → parentOf (r .kind) ≡ some q → noted rs q .alive ≡ true) where
+module _ (rs rs′ : List Noted) (p : Pool) (is : List ℕ) (gs gs′ : List (Option Region)) (at at′ : ℕ → Handle) (place place′ : ℕ → ℕ) (i : ℕ) (r : Noted) (g : Region) (m : Regions rs p gs at place) (len : length rs′ ≡ suc (length rs)) (old : (k : ℕ) → k < length rs → noted rs′ k ≡ noted rs k) (new : noted rs′ (length rs) ≡ r) (was : atSlot gs i ≡ none) (now : atSlot gs′ i ≡ some g) (others : (j : ℕ) → j ≢ i → atSlot gs′ j ≡ atSlot gs j) (at-old : (k : ℕ) → k < length rs → at′ k ≡ at k) (at-new : at′ (length rs) ≡ handleOf p i) (pl-old : (j : ℕ) → j ≢ i → place′ j ≡ place j) (pl-new : place′ i ≡ length rs) (alive : r .alive ≡ true) (same : SameRegion (λ j. at j .slot) r g) (parent : (q : ℕ) → parentOf (r .kind) ≡ some q → q < length rs) (parentLives : (q : ℕ) → parentOf (r .kind) ≡ some q → noted rs q .alive ≡ true) where
   dead-there : (h : Handle) → h .slot ≡ i → isLive p gs h ≡ false
-  dead-there h e = ap (λ o. isSome o && eqb (getD (p .gens) (h .slot) 0) (h .gen)) (ap (slotOf gs) e ∙ was)
+  dead-there h e = ap (λ o. isSome o && eqb (getD (p .gens) (h .slot) 0) (h .generation)) (ap (atSlot gs) e ∙ was)
 
   live-off : (h : Handle) → h .slot ≢ i → isLive p gs′ h ≡ isLive p gs h
-  live-off h n = ap (λ o. isSome o && eqb (getD (p .gens) (h .slot) 0) (h .gen)) (others (h .slot) n)
+  live-off h n = ap (λ o. isSome o && eqb (getD (p .gens) (h .slot) 0) (h .generation)) (others (h .slot) n)
 
   off : (k : ℕ) → k < length rs → noted rs k .alive ≡ true → at k .slot ≢ i
-  off k u e s = yes-no _ e (m .aliveIsLive k u ∙ dead-there (at k) s)
+  off k u e s = true-false e (m .aliveIsLive k u ∙ dead-there (at k) s)
 
   live-same : (k : ℕ) → k < length rs → isLive p gs′ (at k) ≡ isLive p gs (at k)
   live-same k u = elim (test (eqb (at k .slot) i)) [
     | holds t ↦ let s = eqb→eq _ _ (true-is t) in old-is-dead p gs′ (at k) (m .deadIsOlder k u (m .aliveIsLive k u ∙ dead-there (at k) s)) ∙ sym (dead-there (at k) s)
-    | fails t ↦ live-off (at k) (λ s. yes-no _ (eqb-t _ _ s) t)
+    | fails t ↦ live-off (at k) (λ s. true-false (eq-eqb _ _ s) t)
   ]
 
   live-new : isLive p gs′ (handleOf p i) ≡ true
-  live-new = rw (now, eqb-t (getD (p .gens) i 0) (getD (p .gens) i 0) refl)
+  live-new = rw (now, eq-eqb (getD (p .gens) i 0) (getD (p .gens) i 0) refl)
 
   at-last : (k : ℕ) → k ≡ length rs → at′ k ≡ handleOf p i
   at-last k e = ap at′ e ∙ at-new
@@ -93,29 +95,29 @@ module _ (rs rs′ : List Noted) (p : Pool) (is : List ℕ) (gs gs′ : List (Op
     | ge u ↦ let e : k ≡ length rs = omega arith in ap (λ (x : Noted). x .alive) (noted-last k e) ∙ alive ∙ sym live-new ∙ ap (isLive p gs′) (sym (at-last k e))
   ]
 
-  deadIsOlder′ : (k : ℕ) → k < length rs′ → noted rs′ k .alive ≡ false → at′ k .gen < getD (p .gens) (at′ k .slot) 0
+  deadIsOlder′ : (k : ℕ) → k < length rs′ → noted rs′ k .alive ≡ false → at′ k .generation < getD (p .gens) (at′ k .slot) 0
   deadIsOlder′ k h d = elim (cmp k (length rs)) [
     | lt u ↦ gen-as _ _ (at-old k u) (m .deadIsOlder k u (ap (λ (x : Noted). x .alive) (sym (old k u)) ∙ d))
-    | ge u ↦ let e : k ≡ length rs = omega arith in absurd (yes-no _ (ap (λ (x : Noted). x .alive) (noted-last k e) ∙ alive) d)
+    | ge u ↦ let e : k ≡ length rs = omega arith in absurd (true-false (ap (λ (x : Noted). x .alive) (noted-last k e) ∙ alive) d)
   ]
     where
-      gen-as : (x y : Handle) → x ≡ y → y .gen < getD (p .gens) (y .slot) 0 → x .gen < getD (p .gens) (x .slot) 0
+      gen-as : (x y : Handle) → x ≡ y → y .generation < getD (p .gens) (y .slot) 0 → x .generation < getD (p .gens) (x .slot) 0
       gen-as x y e k = rw e k
 
-  stored′ : (k : ℕ) → k < length rs′ → noted rs′ k .alive ≡ true → SameRegion (λ j. at′ j .slot) (noted rs′ k) (orElse (slotOf gs′ (at′ k .slot)) noneRegion)
+  stored′ : (k : ℕ) → k < length rs′ → noted rs′ k .alive ≡ true → SameRegion (λ j. at′ j .slot) (noted rs′ k) (Option·getD (atSlot gs′ (at′ k .slot)) noneRegion)
   stored′ k h d = elim (cmp k (length rs)) [
     | lt u ↦ let d′ = ap (λ (x : Noted). x .alive) (sym (old k u)) ∙ d in
-        same-move (λ j. at j .slot) (λ j. at′ j .slot) (noted rs k) (noted rs′ k) _ _ (old k u) (ap (λ (x : Handle). orElse (slotOf gs′ (x .slot)) noneRegion) (at-old k u) ∙ ap (λ o. orElse o noneRegion) (others _ (off k u d′)))
+        same-move (λ j. at j .slot) (λ j. at′ j .slot) (noted rs k) (noted rs′ k) _ _ (old k u) (ap (λ (x : Handle). Option·getD (atSlot gs′ (x .slot)) noneRegion) (at-old k u) ∙ ap (λ o. Option·getD o noneRegion) (others _ (off k u d′)))
         (λ q e. ap (λ (x : Handle). x .slot) (at-old q (let v = m .parentEarlier k q u e in omega arith))) (m .stored k u d′)
     | ge u ↦ let e : k ≡ length rs = omega arith in
-        same-move (λ j. at j .slot) (λ j. at′ j .slot) r (noted rs′ k) g _ (noted-last k e) (ap (λ (x : Handle). orElse (slotOf gs′ (x .slot)) noneRegion) (at-last k e) ∙ ap (λ o. orElse o noneRegion) now)
+        same-move (λ j. at j .slot) (λ j. at′ j .slot) r (noted rs′ k) g _ (noted-last k e) (ap (λ (x : Handle). Option·getD (atSlot gs′ (x .slot)) noneRegion) (at-last k e) ∙ ap (λ o. Option·getD o noneRegion) now)
         (λ q f. ap (λ (x : Handle). x .slot) (at-old q (parent q f))) same
   ]
 
-  back′ : (j : ℕ) → isSome (slotOf gs′ j) ≡ true → (place′ j < length rs′) × at′ (place′ j) ≡ handleOf p j
+  back′ : (j : ℕ) → isSome (atSlot gs′ j) ≡ true → (place′ j < length rs′) × at′ (place′ j) ≡ handleOf p j
   back′ j h = elim (test (eqb j i)) [
     | holds t ↦ let s = eqb→eq j i (true-is t) in let e = ap place′ s ∙ pl-new in (omega arith, ap at′ e ∙ at-new ∙ ap (handleOf p) (sym s))
-    | fails t ↦ let s : j ≢ i = λ s. yes-no _ (eqb-t _ _ s) t in let u = m .back j (ap isSome (sym (others j s)) ∙ h) in let e = pl-old j s in let v = u .0 in (omega arith, ap at′ e ∙ at-old _ v ∙ u .1)
+    | fails t ↦ let s : j ≢ i = λ s. true-false (eq-eqb _ _ s) t in let u = m .back j (ap isSome (sym (others j s)) ∙ h) in let e = pl-old j s in let v = u .0 in (omega arith, ap at′ e ∙ at-old _ v ∙ u .1)
   ]
 
   one′ : (k : ℕ) → k < length rs′ → noted rs′ k .alive ≡ true → place′ (at′ k .slot) ≡ k
@@ -147,11 +149,6 @@ module _ (rs rs′ : List Noted) (p : Pool) (is : List ℕ) (gs gs′ : List (Op
 
 -- ---- the step that makes it
 
--- the slot given is free in the tables
-free-none : {A : Type 0} (x : Option A) → oneIf (isSome x) ≡ 0 → x ≡ none
-free-none none e = refl
-free-none (some a) e = absurd (omega arith)
-
 -- the place n of the book now stands in slot i
 pub record RegionAdded (b : Book) (s : State) (d : ℕ) (k : Kind) (a : Access) (at : ℕ → Handle) (x : ℕ × State) : Type 0 where
   pub at′ : ℕ → Handle
@@ -162,18 +159,18 @@ pub record RegionAdded (b : Book) (s : State) (d : ℕ) (k : Kind) (a : Access) 
   pub domains : x .1 .domains ≡ s .domains
   pub pools : x .1 .domainPool ≡ s .domainPool
   -- the new one is a leaf, and other regions are as they were
-  pub slots : (j : ℕ) → isSome (slotOf (s .regions) j) ≡ true → slotOf (x .1 .regions) j ≡ slotOf (s .regions) j
+  pub slots : (j : ℕ) → isSome (atSlot (s .regions) j) ≡ true → atSlot (x .1 .regions) j ≡ atSlot (s .regions) j
 
 none-not : {A : Type 0} (x : Option A) → x ≡ none → isSome x ≡ true → ⊥
 none-not x e h = true-is (sym (ap isSome e) ∙ h)
 
-pub new-region-match : (b : Book) (s : State) (at : ℕ → Handle) (place : ℕ → ℕ) (d : ℕ) (k k′ : Kind) (a : Access) (n : ℕ) → OnceEach n (inUse (s .regions)) (s .regionPool .free) → length (s .regions) ≡ n → MatchesAt b s at place → k′ ≡ kindBy (λ j. at j .slot) k → ((q : ℕ) → parentOf k ≡ some q → q < length (b .regions)) → ((q : ℕ) → parentOf k ≡ some q → noted (b .regions) q .alive ≡ true) → All (RegionAdded b s d k a at) (newRegion d k′ a s)
+pub new-region-match : (b : Book) (s : State) (at : ℕ → Handle) (place : ℕ → ℕ) (d : ℕ) (k k′ : Kind) (a : Access) (n : ℕ) → OnceEach n (slotUses (s .regions)) (s .regionPool .free) → length (s .regions) ≡ n → MatchesAt b s at place → k′ ≡ kindBy (λ j. at j .slot) k → ((q : ℕ) → parentOf k ≡ some q → q < length (b .regions)) → ((q : ℕ) → parentOf k ≡ some q → noted (b .regions) q .alive ≡ true) → All (RegionAdded b s d k a at) (newRegion d k′ a s)
 unfolding newRegion added
 new-region-match b s at place d k k′ a n once len m same parent parentLives =
     on-allocate _ (s .regionPool .gens) (s .regionPool .free) _ (λ i is e.
-    let f = once-free n (inUse (s .regions)) (s .regionPool .free) i is e once in
+    let f = once-free n (slotUses (s .regions)) (s .regionPool .free) i is e once in
     let in-range : i < length (s .regions) = (let u = f .0 in omega arith) in
-    let was = free-none (slotOf (s .regions) i) (f .1) in
+    let was = not-used (atSlot (s .regions) i) (f .1) in
     let N = length (b .regions) in
     let at′ = extend at N (handleOf (s .regionPool) i) in
     let at-old : (j : ℕ) → j < N → at′ j ≡ at j = λ j u. extend-off at N _ j (λ (v : j ≡ N). omega arith) in
@@ -189,7 +186,7 @@ new-region-match b s at place d k k′ a n once len m same parent parentLives =
       olds = at-old;
       domains = refl;
       pools = refl;
-      slots = λ j v. getD-set-other (s .regions) i j _ none (λ w. none-not _ was (ap (λ (c : ℕ). isSome (slotOf (s .regions) c)) (sym w) ∙ v));
+      slots = λ j v. getD-set-other (s .regions) i j _ none (λ w. none-not _ was (ap (λ (c : ℕ). isSome (atSlot (s .regions) c)) (sym w) ∙ v));
     }))
 
 -- ---- its slot
@@ -203,16 +200,16 @@ pub record RegionPut (b : Book) (s : State) (d : ℕ) (k : Kind) (a : Access) (x
   pub at : ℕ → Handle
   pub place : ℕ → ℕ
   pub fits : MatchesAt (put d (x .0) (regionOf (length (b .regions))) (added k d a b)) (x .1) at place
-  pub opens : (e : ℕ) → isSome (slotOf (s .domains) e) ≡ true → isSome (slotOf (x .1 .domains) e) ≡ true
+  pub opens : (e : ℕ) → isSome (atSlot (s .domains) e) ≡ true → isSome (atSlot (x .1 .domains) e) ≡ true
 
 pub slot-match : (b : Book) (s s′ t : State) (d : ℕ) (k : Kind) (a : Access) (at : ℕ → Handle) (place : ℕ → ℕ) (h : Handle) → MatchesAt (added k d a b) t at place → h ≡ at (length (b .regions)) → t .domains ≡ s .domains → All (RegionPut b s d k a) (insertCapa d (region h) t)
 unfolding added
 slot-match b s s′ t d k a at place h m e o =
     weaken (insert-match (added k d a b) t at place m d (regionOf (length (b .regions))) (region h) (sameRegion (let v = noted-length (b .regions) (record { kind = k; owner = d; start = a .start; end = a .end; rights = a .rights; alive = true }) in omega arith, e))) (λ x r.
-    record { at = at; place = place; fits = r .0; opens = λ f i. r .1 .opens f (ap (λ ds. isSome (slotOf ds f)) o ∙ i) })
+    record { at = at; place = place; fits = r .0; opens = λ f i. r .1 .opens f (ap (λ ds. isSome (atSlot ds f)) o ∙ i) })
 
-once-as : (n : ℕ) (rs rs′ : List (Option Region)) (p p′ : Pool) → rs′ ≡ rs → p′ ≡ p → OnceEach n (inUse rs) (p .free) → OnceEach n (inUse rs′) (p′ .free)
+once-as : (n : ℕ) (rs rs′ : List (Option Region)) (p p′ : Pool) → rs′ ≡ rs → p′ ≡ p → OnceEach n (slotUses rs) (p .free) → OnceEach n (slotUses rs′) (p′ .free)
 once-as n rs rs′ p p′ e d o = rw (e, d) o
 
-pub once-after : (s t : State) → OnlyDomains s t → Sound s → OnceEach (s .sizes .regions) (inUse (t .regions)) (t .regionPool .free)
+pub once-after : (s t : State) → OnlyDomains s t → Sound s → OnceEach (s .sizes .regions) (slotUses (t .regions)) (t .regionPool .free)
 once-after s t q sound = once-as (s .sizes .regions) (s .regions) (t .regions) (s .regionPool) (t .regionPool) (q .regions) (q .pool) (sound .outside .regionPool .once)

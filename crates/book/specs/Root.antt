@@ -4,12 +4,12 @@ use Prim.Native.Nat.{ℕ}
 use mathlib.Core.Bool.{false}
 use mathlib.Core.Option.{some}
 use lib.ListN.{length}
+use Rattle.base.specs.Tests.{true-is}
 use Rattle.model.specs.Lists.{isSome}
 use Rattle.model.specs.State.{State, Handle, Root, Access, parentOf}
 use Rattle.model.specs.Calls.{createRootRegion}
 use Rattle.model.specs.Sound.{Sound}
 use Rattle.laws.specs.Accepted.{All, accepted, bind}
-use Rattle.laws.specs.Cases.{true-is}
 use Rattle.book.specs.Book.{Book, makeRoom, put, give, added, created}
 use Rattle.book.specs.Matches.{Matches, matches}
 use Rattle.book.specs.Checks.{on-domain, live-opens}

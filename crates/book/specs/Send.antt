@@ -3,14 +3,18 @@ use mathlib.Core.Path.{_≡_, refl, sym, ap, _∙_}
 use mathlib.Core.Logic.{_≢_}
 use Prim.Native.Nat.{ℕ, _<_}
 use mathlib.Core.Bool.{true, _&&_}
-use mathlib.Core.Option.{Option, none, some}
+use mathlib.Core.Option.{Option, none, some, Option·getD}
 use mathlib.Core.List.{List, [], _∷_}
 use native.Mathlib.Omega.{arith}
 use lib.Dec.{eqb, eqb→eq}
 use lib.ListN.{length, getD, set, length-set}
 use lib.Seq.{getD-set-same, getD-set-other}
-use Rattle.model.specs.Lists.{isSome, slotOf, orElse}
-use Rattle.model.specs.Outcome.{Outcome, _>>=_, okOr, noSlot}
+use borrow.Author.Tests.{eq-eqb}
+use Rattle.base.specs.Cases.{holds, fails, test}
+use Rattle.base.specs.Tests.{is-true, true-is, false-is}
+use Rattle.model.specs.Lists.{isSome, atSlot}
+use Rattle.model.specs.Outcome.{Outcome, _>>=_, okOr}
+use Rattle.refusals.specs.Refusals.{noSlot}
 use Rattle.model.specs.State.{State, Pool, Handle, Capa, noCapa, region, regionRevoke, channel, Region, noneRegion, regionAt, putRegion, withOwner, parentOf}
 use Rattle.model.specs.Pool.{isLive}
 use Rattle.model.specs.Locals.{capaAt, insertCapa, removeCapa}
@@ -19,7 +23,6 @@ use Rattle.model.specs.Regions.{sendRanges, sendRegion}
 use Rattle.model.specs.Calls.{liveDomain, liveRegion, asTarget, sendCapa, send}
 use Rattle.model.specs.Sound.{Sound}
 use Rattle.laws.specs.Accepted.{All, accepted, refused, bind, weaken}
-use Rattle.laws.specs.Cases.{is-true, true-is, false-is, eqb-t, holds, fails, test}
 use Rattle.book.specs.Book.{Book, Noted, Held, emptied, regionOf, revokeOf, channelOf, noted, heldAt, domainIn, makeRoom, put, putAny, freed, ownedIfRegion, ownedBy, sent}
 use Rattle.book.specs.Demand3.{SameRegion}
 use Rattle.book.specs.Tests.{and-left, some-is, some-below}
@@ -31,23 +34,23 @@ use Rattle.book.specs.Held.{held-same}
 
 -- ---- a live region changed at its place and in its slot, but not in kind or life
 
-module _ (rs rs′ : List Noted) (p : Pool) (gs gs′ : List (Option Region)) (at : ℕ → Handle) (place : ℕ → ℕ) (k i : ℕ) (r : Noted) (g : Region) (m : Regions rs p gs at place) (len : length rs′ ≡ length rs) (on : noted rs′ k ≡ r) (off : (j : ℕ) → j ≢ k → noted rs′ j ≡ noted rs j) (alive : r .alive ≡ noted rs k .alive) (kind : r .kind ≡ noted rs k .kind) (below : k < length rs) (lives : noted rs k .alive ≡ true) (here : at k .slot ≡ i) (was : isSome (slotOf gs i) ≡ true) (now : slotOf gs′ i ≡ some g) (others : (j : ℕ) → j ≢ i → slotOf gs′ j ≡ slotOf gs j) (same : SameRegion (λ j. at j .slot) r g) where
+module _ (rs rs′ : List Noted) (p : Pool) (gs gs′ : List (Option Region)) (at : ℕ → Handle) (place : ℕ → ℕ) (k i : ℕ) (r : Noted) (g : Region) (m : Regions rs p gs at place) (len : length rs′ ≡ length rs) (on : noted rs′ k ≡ r) (off : (j : ℕ) → j ≢ k → noted rs′ j ≡ noted rs j) (alive : r .alive ≡ noted rs k .alive) (kind : r .kind ≡ noted rs k .kind) (below : k < length rs) (lives : noted rs k .alive ≡ true) (here : at k .slot ≡ i) (was : isSome (atSlot gs i) ≡ true) (now : atSlot gs′ i ≡ some g) (others : (j : ℕ) → j ≢ i → atSlot gs′ j ≡ atSlot gs j) (same : SameRegion (λ j. at j .slot) r g) where
   same-alive : (j : ℕ) → noted rs′ j .alive ≡ noted rs j .alive
   same-alive j = elim (test (eqb j k)) [
     | holds t ↦ let e = eqb→eq j k (true-is t) in ap (λ c. noted rs′ c .alive) e ∙ ap (λ (x : Noted). x .alive) on ∙ alive ∙ ap (λ c. noted rs c .alive) (sym e)
-    | fails t ↦ ap (λ (x : Noted). x .alive) (off j (λ e. false-is t (true-is (eqb-t j k e))))
+    | fails t ↦ ap (λ (x : Noted). x .alive) (off j (λ e. false-is t (true-is (eq-eqb j k e))))
   ]
 
   same-kind : (j : ℕ) → noted rs′ j .kind ≡ noted rs j .kind
   same-kind j = elim (test (eqb j k)) [
     | holds t ↦ let e = eqb→eq j k (true-is t) in ap (λ c. noted rs′ c .kind) e ∙ ap (λ (x : Noted). x .kind) on ∙ kind ∙ ap (λ c. noted rs c .kind) (sym e)
-    | fails t ↦ ap (λ (x : Noted). x .kind) (off j (λ e. false-is t (true-is (eqb-t j k e))))
+    | fails t ↦ ap (λ (x : Noted). x .kind) (off j (λ e. false-is t (true-is (eq-eqb j k e))))
   ]
 
-  same-some : (j : ℕ) → isSome (slotOf gs′ j) ≡ isSome (slotOf gs j)
+  same-some : (j : ℕ) → isSome (atSlot gs′ j) ≡ isSome (atSlot gs j)
   same-some j = elim (test (eqb j i)) [
-    | holds t ↦ let e = eqb→eq j i (true-is t) in ap (λ c. isSome (slotOf gs′ c)) e ∙ ap isSome now ∙ sym was ∙ ap (λ c. isSome (slotOf gs c)) (sym e)
-    | fails t ↦ ap isSome (others j (λ e. false-is t (true-is (eqb-t j i e))))
+    | holds t ↦ let e = eqb→eq j i (true-is t) in ap (λ c. isSome (atSlot gs′ c)) e ∙ ap isSome now ∙ sym was ∙ ap (λ c. isSome (atSlot gs c)) (sym e)
+    | fails t ↦ ap isSome (others j (λ e. false-is t (true-is (eq-eqb j i e))))
   ]
 
   same-as : (r′ : Noted) (g′ : Region) → r′ ≡ r → g′ ≡ g → SameRegion (λ j. at j .slot) r′ g′
@@ -56,18 +59,18 @@ module _ (rs rs′ : List Noted) (p : Pool) (gs gs′ : List (Option Region)) (a
   same-too : (x x′ : Noted) (y y′ : Region) → x′ ≡ x → y′ ≡ y → SameRegion (λ j. at j .slot) x y → SameRegion (λ j. at j .slot) x′ y′
   same-too x x′ y y′ e d h = rw (e, d) h
 
-  stored′ : (j : ℕ) → j < length rs′ → noted rs′ j .alive ≡ true → SameRegion (λ q. at q .slot) (noted rs′ j) (orElse (slotOf gs′ (at j .slot)) noneRegion)
+  stored′ : (j : ℕ) → j < length rs′ → noted rs′ j .alive ≡ true → SameRegion (λ q. at q .slot) (noted rs′ j) (Option·getD (atSlot gs′ (at j .slot)) noneRegion)
   stored′ j u a = elim (test (eqb j k)) [
-    | holds t ↦ let e = eqb→eq j k (true-is t) in same-as _ _ (ap (noted rs′) e ∙ on) (ap (λ c. orElse (slotOf gs′ (at c .slot)) noneRegion) e ∙ ap (λ c. orElse (slotOf gs′ c) noneRegion) here ∙ ap (λ o. orElse o noneRegion) now)
-    | fails t ↦ let n : j ≢ k = (λ e. false-is t (true-is (eqb-t j k e))) in
+    | holds t ↦ let e = eqb→eq j k (true-is t) in same-as _ _ (ap (noted rs′) e ∙ on) (ap (λ c. Option·getD (atSlot gs′ (at c .slot)) noneRegion) e ∙ ap (λ c. Option·getD (atSlot gs′ c) noneRegion) here ∙ ap (λ o. Option·getD o noneRegion) now)
+    | fails t ↦ let n : j ≢ k = (λ e. false-is t (true-is (eq-eqb j k e))) in
         let v : j < length rs = omega arith in
         let a′ = sym (same-alive j) ∙ a in
-        same-too (noted rs j) (noted rs′ j) _ _ (off j n) (ap (λ o. orElse o noneRegion) (others (at j .slot) (λ e. n (sym (m .one j v a′) ∙ ap place (e ∙ sym here) ∙ m .one k below lives)))) (m .stored j v a′)
+        same-too (noted rs j) (noted rs′ j) _ _ (off j n) (ap (λ o. Option·getD o noneRegion) (others (at j .slot) (λ e. n (sym (m .one j v a′) ∙ ap place (e ∙ sym here) ∙ m .one k below lives)))) (m .stored j v a′)
   ]
 
   pub change-regions : Regions rs′ p gs′ at place
   change-regions = record {
-    aliveIsLive = λ j u. same-alive j ∙ m .aliveIsLive j (omega arith) ∙ sym (ap (λ c. c && eqb (getD (p .gens) (at j .slot) 0) (at j .gen)) (same-some (at j .slot)));
+    aliveIsLive = λ j u. same-alive j ∙ m .aliveIsLive j (omega arith) ∙ sym (ap (λ c. c && eqb (getD (p .gens) (at j .slot) 0) (at j .generation)) (same-some (at j .slot)));
     deadIsOlder = λ j u d. m .deadIsOlder j (omega arith) (sym (same-alive j) ∙ d);
     stored = stored′;
     back = λ j h. let v = m .back j (sym (same-some j) ∙ h) in let w = v .0 in (omega arith, v .1);
@@ -86,7 +89,7 @@ pub own-match : (b : Book) (s : State) (at : ℕ → Handle) (place : ℕ → �
 unfolding ownedBy
 own-match b s at place to k m u l =
     let i = at k .slot in
-    let was = and-left (isSome (slotOf (s .regions) i)) _ l in
+    let was = and-left (isSome (atSlot (s .regions) i)) _ l in
     let lives = m .regions .aliveIsLive k u ∙ l in
     let h = m .regions .stored k u lives in
     record {
@@ -97,7 +100,7 @@ own-match b s at place to k m u l =
 
 -- ---- the ranges
 
-pub ranges-match : (b : Book) (at : ℕ → Handle) (place : ℕ → ℕ) (old new r : ℕ) (xs : List Range) (s : State) → MatchesAt b s at place → isSome (slotOf (s .domains) old) ≡ true → isSome (slotOf (s .domains) new) ≡ true → All (λ t. MatchesAt b t at place × OnlyDomains s t) (sendRanges old new r xs s)
+pub ranges-match : (b : Book) (at : ℕ → Handle) (place : ℕ → ℕ) (old new r : ℕ) (xs : List Range) (s : State) → MatchesAt b s at place → isSome (atSlot (s .domains) old) ≡ true → isSome (atSlot (s .domains) new) ≡ true → All (λ t. MatchesAt b t at place × OnlyDomains s t) (sendRanges old new r xs s)
 unfolding sendRanges
 ranges-match b at place old new r [] s m i j = accepted (m, record { pool = refl; regions = refl; domainPool = refl; opens = λ d e. e; live = λ h e. e })
 ranges-match b at place old new r (x ∷ xs) s m i j =
@@ -110,21 +113,21 @@ ranges-match b at place old new r (x ∷ xs) s m i j =
 
 -- every live region's domain is open
 abbrev pub Owned : State → Type 0
-Owned s = (i : ℕ) → isSome (slotOf (s .regions) i) ≡ true → isSome (slotOf (s .domains) (regionAt s i .owner)) ≡ true
+Owned s = (i : ℕ) → isSome (atSlot (s .regions) i) ≡ true → isSome (atSlot (s .domains) (regionAt s i .owner)) ≡ true
 
 pub owned : (s : State) → Sound s → Owned s
-owned s sound i h = is-true (sound .outside .owners i (regionAt s i) (some-is (slotOf (s .regions) i) noneRegion h) .ownerLive)
+owned s sound i h = is-true (sound .outside .owners i (regionAt s i) (some-is (atSlot (s .regions) i) noneRegion h) .ownerLive)
 
 pub owned-after : (s t : State) → OnlyDomains s t → Owned s → Owned t
-owned-after s t q o i h = q .opens _ (o-as (slotOf (t .regions) i) (slotOf (s .regions) i) (ap (λ gs. slotOf gs i) (q .regions)) (o i (ap (λ gs. isSome (slotOf gs i)) (sym (q .regions)) ∙ h)))
+owned-after s t q o i h = q .opens _ (o-as (atSlot (t .regions) i) (atSlot (s .regions) i) (ap (λ gs. atSlot gs i) (q .regions)) (o i (ap (λ gs. isSome (atSlot gs i)) (sym (q .regions)) ∙ h)))
   where
-    o-as : (x y : Option Region) → x ≡ y → isSome (slotOf (s .domains) (orElse y noneRegion .owner)) ≡ true → isSome (slotOf (s .domains) (orElse x noneRegion .owner)) ≡ true
+    o-as : (x y : Option Region) → x ≡ y → isSome (atSlot (s .domains) (Option·getD y noneRegion .owner)) ≡ true → isSome (atSlot (s .domains) (Option·getD x noneRegion .owner)) ≡ true
     o-as x y e k = rw e k
 
-module _ (b : Book) (s : State) (at : ℕ → Handle) (place : ℕ → ℕ) (m : MatchesAt b s at place) (to : ℕ) (open-to : isSome (slotOf (s .domains) to) ≡ true) (own : Owned s) where
+module _ (b : Book) (s : State) (at : ℕ → Handle) (place : ℕ → ℕ) (m : MatchesAt b s at place) (to : ℕ) (open-to : isSome (atSlot (s .domains) to) ≡ true) (own : Owned s) where
   region-at : (k : ℕ) → k < length (b .regions) → All (λ t. MatchesAt (ownedBy to k b) t at place × ((h : Handle) → isLive (s .domainPool) (s .domains) h ≡ true → isLive (t .domainPool) (t .domains) h ≡ true)) (liveRegion s (at k) >>= λ i. sendRegion i to s)
   unfolding sendRegion
-  region-at k u = on-region s (at k) _ (λ l. weaken (ranges-match (ownedBy to k b) at place _ to _ _ _ (own-match b s at place to k m u l) (own (at k .slot) (and-left (isSome (slotOf (s .regions) (at k .slot))) _ l)) open-to) (λ t q. (q .0, q .1 .live)))
+  region-at k u = on-region s (at k) _ (λ l. weaken (ranges-match (ownedBy to k b) at place _ to _ _ _ (own-match b s at place to k m u l) (own (at k .slot) (and-left (isSome (atSlot (s .regions) (at k .slot))) _ l)) open-to) (λ t q. (q .0, q .1 .live)))
 
   region-any : (k : ℕ) (h : Handle) → h ≡ at k → k < length (b .regions) → All (λ t. MatchesAt (ownedBy to k b) t at place × ((h : Handle) → isLive (s .domainPool) (s .domains) h ≡ true → isLive (t .domainPool) (t .domains) h ≡ true)) (liveRegion s h >>= λ i. sendRegion i to s)
   region-any k h e u = rw e (region-at k u)
@@ -139,7 +142,7 @@ put-sent b s at place d l to c c′ m q =
     let m₁ = put-match b s at place m d _ _ (free-same l _ _ (slots-of b s at place m d)) in
     weaken (insert-match _ _ at place m₁ to c c′ (same-map (λ k h t. t) (put-only-domains b s at place m d _ .live) _ _ q)) (λ z r. matches _ _ _ _ (r .0))
 
-module _ (b : Book) (s : State) (at : ℕ → Handle) (place : ℕ → ℕ) (m : MatchesAt b s at place) (d l to : ℕ) (open-to : isSome (slotOf (s .domains) to) ≡ true) (own : Owned s) where
+module _ (b : Book) (s : State) (at : ℕ → Handle) (place : ℕ → ℕ) (m : MatchesAt b s at place) (d l to : ℕ) (open-to : isSome (atSlot (s .domains) to) ≡ true) (own : Owned s) where
   send-held : (x : Option Held) (y : Option Capa) → SameHeld (AtPlace (b .regions) at) (LiveDomain (s .domainPool) (s .domains)) x y → All (λ z. Matches (putAny to (z .0) x (freed d l (ownedIfRegion to x b))) (z .1)) (okOr y noSlot >>= λ c. sendCapa c to s >>= λ s₂. insertCapa to c (removeCapa d l s₂))
   unfolding okOr _>>=_ sendCapa putAny ownedIfRegion
   send-held x y sameFree = refused

@@ -2,12 +2,12 @@
 use mathlib.Core.Path.{_≡_, refl, sym}
 use Prim.Native.Nat.{ℕ, zero, suc, _<_}
 use mathlib.Core.Bool.{Bool, true, false, _&&_, _||_}
-use mathlib.Core.Option.{Option, none, some}
+use mathlib.Core.Option.{Option, none, some, Option·getD}
 use mathlib.Core.List.{List, [], _∷_}
 use native.Mathlib.Omega.{arith}
 use lib.ListN.{length}
-use Rattle.model.specs.Lists.{isSome, orElse, slotOf}
-use Rattle.laws.specs.Cases.{true-is, false-is}
+use Rattle.base.specs.Tests.{true-is}
+use Rattle.model.specs.Lists.{isSome, atSlot}
 use Rattle.book.specs.Book.{Noted, noted}
 
 pub and-left : (c e : Bool) → (c && e) ≡ true → c ≡ true
@@ -17,10 +17,6 @@ and-left false e h = h
 pub and-right : (c e : Bool) → (c && e) ≡ true → e ≡ true
 and-right true e h = h
 and-right false e h = absurd (true-is h)
-
-pub and-no : (c : Bool) → (c && false) ≡ false
-and-no true = refl
-and-no false = refl
 
 pub or-left : (c e : Bool) → c ≡ true → (c || e) ≡ true
 or-left c e h = rw h
@@ -33,19 +29,16 @@ pub or-else : (c e : Bool) → (c || e) ≡ true → c ≡ false → e ≡ true
 or-else true e h f = absurd (true-is {b = false} (sym f))
 or-else false e h f = h
 
-pub yes-no : (c : Bool) → c ≡ true → c ≡ false → ⊥
-yes-no c e f = false-is f (true-is e)
-
 pub iff : (x y : Bool) → (x ≡ true → y ≡ true) → (y ≡ true → x ≡ true) → x ≡ y
 iff true y f g = sym (f refl)
 iff false true f g = g refl
 iff false false f g = refl
 
-pub some-is : {A : Type 0} (x : Option A) (d : A) → isSome x ≡ true → x ≡ some (orElse x d)
+pub some-is : {A : Type 0} (x : Option A) (d : A) → isSome x ≡ true → x ≡ some (Option·getD x d)
 some-is none d h = absurd (true-is h)
 some-is (some a) d h = refl
 
-pub some-below : {A : Type 0} (gs : List (Option A)) (q : ℕ) → isSome (slotOf gs q) ≡ true → q < length gs
+pub some-below : {A : Type 0} (gs : List (Option A)) (q : ℕ) → isSome (atSlot gs q) ≡ true → q < length gs
 some-below [] q h = absurd (true-is h)
 some-below (x ∷ gs) zero h = omega arith
 some-below (x ∷ gs) (suc q) h = let u = some-below gs q h in omega arith

@@ -5,8 +5,9 @@ use Prim.Native.Nat.{ℕ, _+_, _<_}
 use mathlib.Core.Bool.{_&&_}
 use mathlib.Core.List.{List, [], _∷_}
 use lib.Dec.{T}
-use Rattle.model.specs.Lists.{any, Each}
-use Rattle.model.specs.Outcome.{Outcome, ok, refuse, Refusal}
+use Rattle.model.specs.Lists.{exists, Each}
+use Rattle.model.specs.Outcome.{Outcome, ok, refuse}
+use Rattle.refusals.specs.declared.Refusal.{Refusal}
 use Rattle.model.specs.State.{State, Sizes}
 use Rattle.model.specs.Fields.{Field, get, passes}
 use Rattle.model.specs.Making.{makeTables}
@@ -69,7 +70,7 @@ module _ (b : Book) (s : State) (sound : Sound s) (m : Matches b s) where
   counted : (f : Field) (d a : ℕ) → get f (storedCounts s d a) ≡ noteTally (b .regions) d a (passes f) 0 (b .regions)
   counted f d a = stored s sound a f d ∙ sym (tally-same-as b s m d a (passes f))
 
-  from-root : (f : Field) (d a : ℕ) → 0 < get f (storedCounts s d a) → T (any (λ r. isRootOver a r && passes f (r .rights)) (b .regions))
+  from-root : (f : Field) (d a : ℕ) → 0 < get f (storedCounts s d a) → T (exists (λ r. isRootOver a r && passes f (r .rights)) (b .regions))
   from-root f d a h = root-had b s m f a (stored-root s sound a f d h)
 
   -- THEOREM: where book and tables match and the tables are sound, all claims hold

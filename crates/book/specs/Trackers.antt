@@ -2,7 +2,7 @@
 use mathlib.Core.Path.{_≡_, refl}
 use Prim.Native.Nat.{ℕ}
 use mathlib.Core.Bool.{true}
-use Rattle.model.specs.Lists.{isSome, slotOf, any}
+use Rattle.model.specs.Lists.{isSome, atSlot, exists}
 use Rattle.model.specs.State.{State, Handle, Access, Update, withRecordPool, withTracker, domainAt, putDomain}
 use Rattle.model.specs.Pool.{handleOf}
 use Rattle.model.specs.Updates.{push, pushPermission, isPermissionOf}
@@ -24,9 +24,9 @@ module _ (b : Book) (at : ℕ → Handle) (place : ℕ → ℕ) where
 
   permission-match : (s₀ s : State) (d : ℕ) → MatchesAfter s₀ s → All (MatchesAfter s₀) (pushPermission d s)
   unfolding pushPermission
-  permission-match s₀ s d c = branch (any (isPermissionOf (handleOf (s .domainPool) d)) (s .queue .items)) (accepted c) (push-match s₀ s _ c)
+  permission-match s₀ s d c = branch (exists (isPermissionOf (handleOf (s .domainPool) d)) (s .queue .items)) (accepted c) (push-match s₀ s _ c)
 
-  walk-match : (s : State) (d : ℕ) (w : Walk) → MatchesAt b s at place → isSome (slotOf (s .domains) d) ≡ true → All (MatchesAfter s) (putWalk d w s)
+  walk-match : (s : State) (d : ℕ) (w : Walk) → MatchesAt b s at place → isSome (atSlot (s .domains) d) ≡ true → All (MatchesAfter s) (putWalk d w s)
   unfolding putWalk
   walk-match s d w m i =
       let x = withTracker (w .records) (domainAt s d) in
@@ -35,10 +35,10 @@ module _ (b : Book) (at : ℕ → Handle) (place : ℕ → ℕ) where
       let c : MatchesAfter s (withRecordPool (w .pool) (putDomain d x s)) = (record { sizes = n .sizes; regions = n .regions; lists = n .lists }, record { pool = k .pool; regions = k .regions; domainPool = k .domainPool; opens = k .opens; live = k .live }) in
       branch (w .changed) (permission-match s _ d c) (accepted c)
 
-  pub activate-match : (s : State) (d : ℕ) (a : Access) → MatchesAt b s at place → isSome (slotOf (s .domains) d) ≡ true → All (MatchesAfter s) (activate d a s)
+  pub activate-match : (s : State) (d : ℕ) (a : Access) → MatchesAt b s at place → isSome (atSlot (s .domains) d) ≡ true → All (MatchesAfter s) (activate d a s)
   unfolding activate
   activate-match s d a m i = bind-any _ (λ w. walk-match s d w m i)
 
-  pub deactivate-match : (s : State) (d : ℕ) (a : Access) → MatchesAt b s at place → isSome (slotOf (s .domains) d) ≡ true → All (MatchesAfter s) (deactivate d a s)
+  pub deactivate-match : (s : State) (d : ℕ) (a : Access) → MatchesAt b s at place → isSome (atSlot (s .domains) d) ≡ true → All (MatchesAfter s) (deactivate d a s)
   unfolding deactivate
   deactivate-match s d a m i = bind-any _ (λ w. walk-match s d w m i)

@@ -2,8 +2,8 @@
 use Prim.Native.Nat.{ℕ, _-_, _≤_, _<_, _^_}
 use native.Mathlib.Omega.{arith}
 use native.Mathlib.Nat.{pow-le-pow-right}
+use Rattle.base.specs.Cases.{lt, ge, cmp}
 use Rattle.io.specs.Digits.{Fewest}
-use Rattle.words.specs.Cases.{lt, ge, cmp}
 
 -- 2^64 is below 10^20
 pub digits-few : (n k : ℕ) → n < 2 ^ 64 → Fewest 10 1 n k → k ≤ 20

@@ -6,7 +6,7 @@ use mathlib.Core.List.{List, _++_}
 use native.Mathlib.Omega.{arith}
 use lib.ListN.{length, length-take, getD, set, take, List·getD-append}
 use lib.Seq.{getD-take, getD-set-same, getD-set-other}
-use Rattle.words.specs.Cases.{lt, ge, cmp}
+use Rattle.base.specs.Cases.{lt, ge, cmp}
 use Rattle.byte_io.specs.declared.input.Buffered.{Buffered}
 
 pub record Within (h : Buffered) (n : ℕ) : Type 0 where

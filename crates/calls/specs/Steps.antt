@@ -1,20 +1,20 @@
 -- The step that a call names.
 use Rattle.tables.specs.Tables.{Tables}
-use Rattle.answers.specs.Answers.{Step}
-use Rattle.domain_calls.specs.Calls.{openDomain, openUnder, openChannel, setCores}
+use Rattle.answers.specs.Answers.{Effect}
+use Rattle.domain_calls.specs.Calls.{openDomain, openUnder, openChannel, setCoreMap}
 use Rattle.region_calls.specs.Calls.{createRootRegion, aliasRegion, carveRegion}
 use Rattle.capa_calls.specs.Calls.{send, revokeLocal, createRevokeCapa}
 use Rattle.calls.specs.declared.Call.{Call}
-use Rattle.calls.specs.declared.Call.the-variants.{Open, OpenUnder, Channel, SetCores, Root, Alias, Carve, Send, Revoke, MakeRevoke}
+use Rattle.calls.specs.declared.Call.the-variants.{Open, OpenUnder, Channel, SetCoreMap, Root, Alias, Carve, Send, Revoke, CreateRevokeCapa}
 
-abbrev pub stepOf : Call → Tables → Step
+abbrev pub stepOf : Call → Tables → Effect
 stepOf (Open cores) s = openDomain cores s
 stepOf (OpenUnder h cores) s = openUnder h cores s
 stepOf (Channel h to) s = openChannel h to s
-stepOf (SetCores h cores) s = setCores h cores s
+stepOf (SetCoreMap h cores) s = setCoreMap h cores s
 stepOf (Root h a) s = createRootRegion h a s
 stepOf (Alias x) s = aliasRegion (x .domain) (x .local) (x .access) s
 stepOf (Carve x) s = carveRegion (x .domain) (x .local) (x .access) s
 stepOf (Send h l target) s = send h l target s
 stepOf (Revoke h l) s = revokeLocal h l s
-stepOf (MakeRevoke h l) s = createRevokeCapa h l s
+stepOf (CreateRevokeCapa h l) s = createRevokeCapa h l s

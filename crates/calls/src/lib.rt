@@ -18,13 +18,13 @@ pub enum Call {
     Open(u64),
     OpenUnder(Handle, u64),
     Channel(Handle, Handle),
-    SetCores(Handle, u64),
+    SetCoreMap(Handle, u64),
     Root(Handle, AccessRights),
     Alias(Child),
     Carve(Child),
     Send(Handle, usize, usize),
     Revoke(Handle, usize),
-    MakeRevoke(Handle, usize),
+    CreateRevokeCapa(Handle, usize),
 }
 
 // What the call does; the answer is a domain's slot, a local slot, or 0.
@@ -37,12 +37,12 @@ pub fn step(t: &mut [u64], call: Call) -> Answer
         Call::Open(cores) => domain_calls::open_domain(t, cores),
         Call::OpenUnder(h, cores) => domain_calls::open_under(t, h, cores),
         Call::Channel(h, to) => domain_calls::open_channel(t, h, to),
-        Call::SetCores(h, cores) => domain_calls::set_cores(t, h, cores),
+        Call::SetCoreMap(h, cores) => domain_calls::set_core_map(t, h, cores),
         Call::Root(h, a) => region_calls::create_root_region(t, h, a),
         Call::Alias(x) => region_calls::alias_region(t, x.domain, x.local, x.access),
         Call::Carve(x) => region_calls::carve_region(t, x.domain, x.local, x.access),
         Call::Send(h, local, target) => capa_calls::send(t, h, local, target),
         Call::Revoke(h, local) => capa_calls::revoke(t, h, local),
-        Call::MakeRevoke(h, local) => capa_calls::create_revoke_capa(t, h, local),
+        Call::CreateRevokeCapa(h, local) => capa_calls::create_revoke_capa(t, h, local),
     }
 }

@@ -1,14 +1,14 @@
 -- Capabilities sent and revoked on the tables, each call as the model has it, check by check.
 use Prim.Native.Nat.{ℕ}
 use lib.Dec.{eqb}
-use Rattle.words.specs.Cases.{pick}
+use Rattle.base.specs.Cases.{pick}
 use Rattle.tables.specs.declared.Handle.{Handle}
 use Rattle.tables.specs.declared.Slot.{Slot}
 use Rattle.tables.specs.Kinds.{FREE, REGION, «REGION_REVOKE», MANAGEMENT, ROOT}
 use Rattle.tables.specs.Tables.{Tables, regionAt}
 use Rattle.arena.specs.Arena.{liveB}
-use Rattle.answers.specs.declared.Refusal.the-variants.{NoSlot, Root, NotCarried}
-use Rattle.answers.specs.Answers.{Step, done, refused, andThen}
+use Rattle.refusals.specs.Refusals.{noSlot, isRoot, notCarried}
+use Rattle.answers.specs.Answers.{Effect, done, refused, andThen}
 use Rattle.slots.specs.Capas.{capaAt, withoutCapa, withEmpty}
 use Rattle.domain.specs.Activate.{reserve, insert}
 use Rattle.segment.specs.Regions.{sendRegion}
@@ -16,12 +16,12 @@ use Rattle.revocation.specs.Revoke.{revoke}
 use Rattle.checks.specs.Checks.{liveDomain, liveRegion, regionHeld, targetHeld, capaOf}
 
 -- 4, 10, 6, and for a region its effective ranges; by the kinds 0 to 5
-unfoldable pub sendCapa : Slot → ℕ → Tables → Step
+unfoldable pub sendCapa : Slot → ℕ → Tables → Effect
 sendCapa x to s =
-    pick (eqb (x .kind) FREE) (refused NoSlot s)
-    (pick (eqb (x .kind) MANAGEMENT) (refused NotCarried s) (pick (eqb (x .kind) REGION) (andThen (liveRegion (x .handle) s) (λ i. sendRegion i to)) (done 0 s)))
+    pick (eqb (x .kind) FREE) (refused noSlot s)
+    (pick (eqb (x .kind) MANAGEMENT) (refused notCarried s) (pick (eqb (x .kind) REGION) (andThen (liveRegion (x .handle) s) (λ i. sendRegion i to)) (done 0 s)))
 
-unfoldable pub send : Handle → ℕ → ℕ → Tables → Step
+unfoldable pub send : Handle → ℕ → ℕ → Tables → Effect
 send h l target s =
     andThen (liveDomain h s) (λ d s₁.
     andThen (targetHeld d target s₁) (λ to s₂.
@@ -29,22 +29,22 @@ send h l target s =
     andThen (sendCapa (capaAt s₃ d l) to s₃) (λ v s₄. insert to (capaAt s₃ d l) (withoutCapa s₄ d l)))))
 
 -- 9
-unfoldable pub revokeUnlessRoot : ℕ → Tables → Step
-revokeUnlessRoot i s = pick (eqb (regionAt s i .kind) ROOT) (refused Root s) (revoke i s)
+unfoldable pub revokeUnlessRoot : ℕ → Tables → Effect
+revokeUnlessRoot i s = pick (eqb (regionAt s i .kind) ROOT) (refused isRoot s) (revoke i s)
 
 -- 4, 10, 6, 9; a RegionRevoke of a dead region succeeds
-unfoldable pub revokeCapa : Slot → Tables → Step
+unfoldable pub revokeCapa : Slot → Tables → Effect
 revokeCapa x s =
-    pick (eqb (x .kind) FREE) (refused NoSlot s)
-    (pick (eqb (x .kind) MANAGEMENT) (refused NotCarried s)
+    pick (eqb (x .kind) FREE) (refused noSlot s)
+    (pick (eqb (x .kind) MANAGEMENT) (refused notCarried s)
     (pick (eqb (x .kind) REGION) (andThen (liveRegion (x .handle) s) revokeUnlessRoot)
     (pick (eqb (x .kind) «REGION_REVOKE») (pick (liveB (s .regionPool) (x .handle)) (revokeUnlessRoot (x .handle .slot) s) (done 0 s)) (done 0 s))))
 
-unfoldable pub revokeLocal : Handle → ℕ → Tables → Step
+unfoldable pub revokeLocal : Handle → ℕ → Tables → Effect
 revokeLocal h l s = andThen (liveDomain h s) (λ d s₁. andThen (revokeCapa (capaAt s₁ d l) s₁) (λ v s₂. done 0 (withEmpty s₂ d l)))
 
-unfoldable pub createRevokeCapa : Handle → ℕ → Tables → Step
+unfoldable pub createRevokeCapa : Handle → ℕ → Tables → Effect
 createRevokeCapa h l s =
     andThen (liveDomain h s) (λ d s₁.
     andThen (regionHeld d l s₁) (λ i s₂.
-    pick (eqb (regionAt s₂ i .kind) ROOT) (refused Root s₂) (andThen (reserve d s₂) (λ v s₃. insert d (capaOf «REGION_REVOKE» (s₃ .regionPool) i) s₃))))
+    pick (eqb (regionAt s₂ i .kind) ROOT) (refused isRoot s₂) (andThen (reserve d s₂) (λ v s₃. insert d (capaOf «REGION_REVOKE» (s₃ .regionPool) i) s₃))))

@@ -2,25 +2,25 @@
 use mathlib.Core.Path.{_≡_, refl}
 use Prim.Native.Nat.{ℕ}
 use lib.Dec.{eqb}
-use Rattle.words.specs.Cases.{pick}
+use Rattle.base.specs.Cases.{pick}
 use Rattle.tables.specs.declared.Handle.{Handle}
 use Rattle.tables.specs.Kinds.{«REGION_REVOKE», ROOT}
 use Rattle.tables.specs.Tables.{Tables, regionAt}
-use Rattle.answers.specs.declared.Refusal.the-variants.{Root}
-use Rattle.answers.specs.Answers.{Step, refused, andThen}
+use Rattle.refusals.specs.Refusals.{isRoot}
+use Rattle.answers.specs.Answers.{Effect, refused, andThen}
 use Rattle.slots.specs.Capas.{capaAt, withoutCapa}
 use Rattle.domain.specs.Activate.{reserve, insert}
 use Rattle.checks.specs.Checks.{liveDomain, liveRegion, regionHeld, targetHeld, capaOf}
 use Rattle.capa_calls.specs.Calls.{sendCapa, send, revokeUnlessRoot, createRevokeCapa}
 
-unfoldable pub passed : ℕ → ℕ → ℕ → Tables → Step
+unfoldable pub passed : ℕ → ℕ → ℕ → Tables → Effect
 passed d l to s = andThen (sendCapa (capaAt s d l) to s) (λ v s₁. insert to (capaAt s d l) (withoutCapa s₁ d l))
 
-unfoldable pub revokedHeld : Handle → Tables → Step
+unfoldable pub revokedHeld : Handle → Tables → Effect
 revokedHeld h s = andThen (liveRegion h s) revokeUnlessRoot
 
-unfoldable pub revoker : ℕ → ℕ → Tables → Step
-revoker d i s = pick (eqb (regionAt s i .kind) ROOT) (refused Root s) (andThen (reserve d s) (λ v s₁. insert d (capaOf «REGION_REVOKE» (s₁ .regionPool) i) s₁))
+unfoldable pub revoker : ℕ → ℕ → Tables → Effect
+revoker d i s = pick (eqb (regionAt s i .kind) ROOT) (refused isRoot s) (andThen (reserve d s) (λ v s₁. insert d (capaOf «REGION_REVOKE» (s₁ .regionPool) i) s₁))
 
 pub send-is : (h : Handle) (l target : ℕ) (s : Tables)
     → send h l target s ≡ andThen (liveDomain h s) (λ d s₁. andThen (targetHeld d target s₁) (λ to s₂. andThen (reserve to s₂) (λ u. passed d l to)))

@@ -4,7 +4,7 @@ ghost use Rattle.tables.specs.View.{view, Sized, Left};
 ghost use Rattle.capa_calls.specs.Calls.{sendCapa, send, revokeUnlessRoot, revokeCapa, revokeLocal, createRevokeCapa};
 ghost use Rattle.capa_calls.specs.Parts.{passed, revokedHeld, revoker};
 use answers::Answer;
-use answers::Refusal;
+use refusals::Refusal;
 use tables::Handle;
 use tables::RegionCapa;
 use tables::Slot;
@@ -19,10 +19,10 @@ fn send_capa(t: &mut [u64], x: Slot, to: usize) -> Answer
 {
     let handle = x.handle;
     if x.kind == Slot::FREE {
-        return Answer::Refused(Refusal::NoSlot);
+        return Answer::Refused(Refusal::NO_SLOT);
     }
     if x.kind == Slot::MANAGEMENT {
-        return Answer::Refused(Refusal::NotCarried);
+        return Answer::Refused(Refusal::NOT_CARRIED);
     }
     if x.kind == Slot::REGION {
         return match checks::live_region(t, handle) {
@@ -76,7 +76,7 @@ fn revoke_unless_root(t: &mut [u64], i: usize) -> Answer
 {
     let g = tables::load_region(t, i);
     if g.kind == RegionCapa::ROOT {
-        return Answer::Refused(Refusal::Root);
+        return Answer::Refused(Refusal::ROOT);
     }
     revocation::revoke(t, i)
 }
@@ -101,10 +101,10 @@ fn revoke_capa(t: &mut [u64], x: Slot) -> Answer
 {
     let handle = x.handle;
     if x.kind == Slot::FREE {
-        return Answer::Refused(Refusal::NoSlot);
+        return Answer::Refused(Refusal::NO_SLOT);
     }
     if x.kind == Slot::MANAGEMENT {
-        return Answer::Refused(Refusal::NotCarried);
+        return Answer::Refused(Refusal::NOT_CARRIED);
     }
     if x.kind == Slot::REGION {
         return revoke_held(t, handle);
@@ -149,7 +149,7 @@ fn add_revoker(t: &mut [u64], d: usize, i: u64) -> Answer
 {
     let g = tables::load_region(t, i as usize);
     if g.kind == RegionCapa::ROOT {
-        return Answer::Refused(Refusal::Root);
+        return Answer::Refused(Refusal::ROOT);
     }
     match domain::reserve(t, d) {
         Answer::Done(v) => {

@@ -2,47 +2,47 @@
 use Prim.Native.Nat.{ℕ}
 use lib.Dec.{eqb, ltb}
 use lib.ListN.{getD}
-use Rattle.words.specs.Cases.{pick}
+use Rattle.base.specs.Cases.{pick}
 use Rattle.tables.specs.declared.Handle.{Handle}
 use Rattle.tables.specs.declared.Slot.{Slot}
 use Rattle.tables.specs.Kinds.{FREE, REGION, MANAGEMENT, CHANNEL}
 use Rattle.tables.specs.Tables.{Tables, Arena}
 use Rattle.arena.specs.Arena.{liveB, capacityOf}
-use Rattle.answers.specs.declared.Refusal.the-variants.{NoDomain, NoSlot, WrongKind, Stale, BadRange, NoRegion}
-use Rattle.answers.specs.Answers.{Step, done, refused, andThen}
+use Rattle.refusals.specs.Refusals.{noDomain, noSlot, wrongKind, stale, badRange, noRegion}
+use Rattle.answers.specs.Answers.{Effect, done, refused, andThen}
 use Rattle.region.specs.declared.AccessRights.{AccessRights}
 use Rattle.slots.specs.Capas.{capaAt}
 use Rattle.domain.specs.Activate.{reserve}
 
 -- 3; the answer is the domain's slot
-unfoldable pub liveDomain : Handle → Tables → Step
-liveDomain h s = pick (liveB (s .domainPool) h) (done (h .slot) s) (refused NoDomain s)
+unfoldable pub liveDomain : Handle → Tables → Effect
+liveDomain h s = pick (liveB (s .domainPool) h) (done (h .slot) s) (refused noDomain s)
 
 -- 6; the answer is the region's slot
-unfoldable pub liveRegion : Handle → Tables → Step
-liveRegion h s = pick (liveB (s .regionPool) h) (done (h .slot) s) (refused Stale s)
+unfoldable pub liveRegion : Handle → Tables → Effect
+liveRegion h s = pick (liveB (s .regionPool) h) (done (h .slot) s) (refused stale s)
 
 -- 5, 6: a capability that is in use, as a live region
-unfoldable pub asRegion : Slot → Tables → Step
-asRegion x s = pick (eqb (x .kind) REGION) (liveRegion (x .handle) s) (refused WrongKind s)
+unfoldable pub asRegion : Slot → Tables → Effect
+asRegion x s = pick (eqb (x .kind) REGION) (liveRegion (x .handle) s) (refused wrongKind s)
 
 -- 5, 3: as a live domain to send to, by a Management or a Channel capability
-unfoldable pub asTarget : Slot → Tables → Step
-asTarget x s = pick (eqb (x .kind) MANAGEMENT) (liveDomain (x .handle) s) (pick (eqb (x .kind) CHANNEL) (liveDomain (x .handle) s) (refused WrongKind s))
+unfoldable pub asTarget : Slot → Tables → Effect
+asTarget x s = pick (eqb (x .kind) MANAGEMENT) (liveDomain (x .handle) s) (pick (eqb (x .kind) CHANNEL) (liveDomain (x .handle) s) (refused wrongKind s))
 
 -- 4, 5, 6: the live region that local slot l of domain d holds (the model's regionHeld)
-unfoldable pub regionHeld : ℕ → ℕ → Tables → Step
-regionHeld d l s = pick (eqb (capaAt s d l .kind) FREE) (refused NoSlot s) (asRegion (capaAt s d l) s)
+unfoldable pub regionHeld : ℕ → ℕ → Tables → Effect
+regionHeld d l s = pick (eqb (capaAt s d l .kind) FREE) (refused noSlot s) (asRegion (capaAt s d l) s)
 
 -- 4, 5, 3: the live domain that it names
-unfoldable pub targetHeld : ℕ → ℕ → Tables → Step
-targetHeld d l s = pick (eqb (capaAt s d l .kind) FREE) (refused NoSlot s) (asTarget (capaAt s d l) s)
+unfoldable pub targetHeld : ℕ → ℕ → Tables → Effect
+targetHeld d l s = pick (eqb (capaAt s d l .kind) FREE) (refused noSlot s) (asTarget (capaAt s d l) s)
 
 -- 11, 12, 7 (the model's roomForRegion)
-unfoldable pub roomForRegion : ℕ → AccessRights → Tables → Step
+unfoldable pub roomForRegion : ℕ → AccessRights → Tables → Effect
 roomForRegion d a s =
-    pick (eqb (capacityOf (s .regionPool)) 0) (refused NoRegion s)
-    (andThen (reserve d s) (λ v s₁. pick (ltb (a .start) (a .end)) (done 0 s₁) (refused BadRange s₁)))
+    pick (eqb (capacityOf (s .regionPool)) 0) (refused noRegion s)
+    (andThen (reserve d s) (λ v s₁. pick (ltb (a .start) (a .end)) (done 0 s₁) (refused badRange s₁)))
 
 -- a capability of that kind for slot i of a pool, as it is now
 abbrev pub capaOf : ℕ → Arena → ℕ → Slot

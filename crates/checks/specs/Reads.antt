@@ -4,19 +4,19 @@ use mathlib.Core.Bool.{Bool, true, false}
 use mathlib.Core.List.{List}
 use Prim.Native.Nat.{ℕ}
 use lib.Dec.{eqb}
-use Rattle.words.specs.Cases.{pick}
+use Rattle.base.specs.Cases.{pick}
 use Rattle.tables.specs.declared.Handle.{Handle}
 use Rattle.tables.specs.declared.Slot.{Slot}
 use Rattle.tables.specs.Tables.{Tables}
 use Rattle.tables.specs.View.{view, Sized}
 use Rattle.arena.specs.Arena.{liveB}
 use Rattle.answers.specs.declared.Answer.{Answer}
-use Rattle.answers.specs.Answers.{Step}
+use Rattle.answers.specs.Answers.{Effect}
 use Rattle.slots.specs.Capas.{capaAt}
-use Rattle.answers.specs.Then.{Ran, read}
+use Rattle.answers.specs.Then.{Realizes, read}
 use Rattle.checks.specs.Checks.{liveDomain, liveRegion, asRegion, asTarget, regionHeld, targetHeld}
 
-either : (b : Bool) (x y : Step) (s : Tables) → x .tables ≡ s → y .tables ≡ s → pick b x y .tables ≡ s
+either : (b : Bool) (x y : Effect) (s : Tables) → x .tables ≡ s → y .tables ≡ s → pick b x y .tables ≡ s
 either true x y s e f = e
 either false x y s e f = f
 
@@ -38,16 +38,16 @@ as-target-kept x s =
     either (eqb (x .kind) 4) _ _ s (domain-kept (x .handle) s) (either (eqb (x .kind) 5) _ _ s (domain-kept (x .handle) s) refl)
 
 module _ (u : List ℕ) (a : Answer) (z : Sized u) where
-  pub ran-domain : (h : Handle) → a ≡ liveDomain h (view u) .answer → Ran u a (liveDomain h (view u))
+  pub ran-domain : (h : Handle) → a ≡ liveDomain h (view u) .answer → Realizes u a (liveDomain h (view u))
   ran-domain h e = read u a _ z e (domain-kept h (view u))
 
-  pub ran-region : (h : Handle) → a ≡ liveRegion h (view u) .answer → Ran u a (liveRegion h (view u))
+  pub ran-region : (h : Handle) → a ≡ liveRegion h (view u) .answer → Realizes u a (liveRegion h (view u))
   ran-region h e = read u a _ z e (region-kept h (view u))
 
-  pub ran-held : (d l : ℕ) → a ≡ regionHeld d l (view u) .answer → Ran u a (regionHeld d l (view u))
+  pub ran-held : (d l : ℕ) → a ≡ regionHeld d l (view u) .answer → Realizes u a (regionHeld d l (view u))
   unfolding regionHeld
   ran-held d l e = read u a _ z e (either (eqb (capaAt (view u) d l .kind) 1) _ _ (view u) refl (as-region-kept (capaAt (view u) d l) (view u)))
 
-  pub ran-target : (d l : ℕ) → a ≡ targetHeld d l (view u) .answer → Ran u a (targetHeld d l (view u))
+  pub ran-target : (d l : ℕ) → a ≡ targetHeld d l (view u) .answer → Realizes u a (targetHeld d l (view u))
   unfolding targetHeld
   ran-target d l e = read u a _ z e (either (eqb (capaAt (view u) d l .kind) 1) _ _ (view u) refl (as-target-kept (capaAt (view u) d l) (view u)))

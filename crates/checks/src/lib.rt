@@ -3,7 +3,7 @@ ghost use mathlib.Core.Path.{_≡_};
 ghost use Rattle.tables.specs.View.{view, Sized, Left};
 ghost use Rattle.checks.specs.Checks.{liveDomain, liveRegion, asRegion, asTarget, regionHeld, targetHeld, roomForRegion};
 use answers::Answer;
-use answers::Refusal;
+use refusals::Refusal;
 use region::AccessRights;
 use tables::Handle;
 use tables::Slot;
@@ -16,7 +16,7 @@ pub fn live_domain(t: &[u64], h: Handle) -> Answer
     if pools::domain_is_live(t, h) {
         Answer::Done(h.slot)
     } else {
-        Answer::Refused(Refusal::NoDomain)
+        Answer::Refused(Refusal::NO_DOMAIN)
     }
 }
 
@@ -28,7 +28,7 @@ pub fn live_region(t: &[u64], h: Handle) -> Answer
     if pools::region_is_live(t, h) {
         Answer::Done(h.slot)
     } else {
-        Answer::Refused(Refusal::Stale)
+        Answer::Refused(Refusal::STALE)
     }
 }
 
@@ -41,7 +41,7 @@ fn as_region(t: &[u64], x: Slot) -> Answer
     if x.kind == Slot::REGION {
         return live_region(t, handle);
     }
-    Answer::Refused(Refusal::WrongKind)
+    Answer::Refused(Refusal::WRONG_KIND)
 }
 
 // 5, 3: as a live domain to send to, by a Management or a Channel capability.
@@ -56,7 +56,7 @@ fn as_target(t: &[u64], x: Slot) -> Answer
     if x.kind == Slot::CHANNEL {
         return live_domain(t, handle);
     }
-    Answer::Refused(Refusal::WrongKind)
+    Answer::Refused(Refusal::WRONG_KIND)
 }
 
 // 4, 5, 6: the live region that local slot l of domain d holds.
@@ -66,7 +66,7 @@ pub fn region_held(t: &[u64], d: usize, l: usize) -> Answer
 {
     let x = slots::capa_at(t, d, l);
     if x.kind == Slot::FREE {
-        return Answer::Refused(Refusal::NoSlot);
+        return Answer::Refused(Refusal::NO_SLOT);
     }
     as_region(t, x)
 }
@@ -78,7 +78,7 @@ pub fn target_held(t: &[u64], d: usize, l: usize) -> Answer
 {
     let x = slots::capa_at(t, d, l);
     if x.kind == Slot::FREE {
-        return Answer::Refused(Refusal::NoSlot);
+        return Answer::Refused(Refusal::NO_SLOT);
     }
     as_target(t, x)
 }
@@ -90,14 +90,14 @@ pub fn room_for_region(t: &mut [u64], d: usize, a: AccessRights) -> Answer
     ensures { λ _. ⌜ Left (now (t .exit)) (roomForRegion d a (view (now (t .entry))) .tables) ⌝ }
 {
     if pools::region_capacity(t) == 0 {
-        return Answer::Refused(Refusal::NoRegion);
+        return Answer::Refused(Refusal::NO_REGION);
     }
     match domain::reserve(t, d) {
         Answer::Done(v) => {
             if a.start < a.end {
                 return Answer::Done(0);
             }
-            Answer::Refused(Refusal::BadRange)
+            Answer::Refused(Refusal::BAD_RANGE)
         }
         Answer::Refused(r) => Answer::Refused(r),
     }

@@ -11,4 +11,4 @@ pub mod Slots
 pub mod Tree
 pub mod Queue
 pub mod Decode
-pub mod Settled
+pub mod Canonical

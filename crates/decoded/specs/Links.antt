@@ -7,23 +7,24 @@ use mathlib.Core.List.{List, [], _∷_, _++_}
 use native.Mathlib.Omega.{arith}
 use native.Mathlib.Decide.{ℕ-discrete}
 use lib.Dec.{eqb}
-use Rattle.model.specs.Lists.{oneIf, count, countUp, firstOf, afterIn}
+use borrow.Author.Tests.{eq-eqb, ne-eqb}
+use Rattle.base.specs.Cases.{lt, ge, cmp, holds, fails, test}
+use Rattle.model.specs.Lists.{oneIf, countIf, countUp, firstOf, afterIn}
 use Rattle.model.specs.Layout.{slotOr0, freeLink}
-use Rattle.laws.specs.Cases.{lt, ge, cmp, eqb-t, eqb-f, holds, fails, test}
 use Rattle.laws.specs.Stack.{one}
 
 pub after-top : (i : ℕ) (l : List ℕ) → afterIn (i ∷ l) i ≡ firstOf l
-after-top i l = rw (eqb-t i i refl)
+after-top i l = rw (eq-eqb i i refl)
 
 pub after-under : (i j : ℕ) (l : List ℕ) → j ≢ i → afterIn (i ∷ l) j ≡ afterIn l j
-after-under i j l ne = rw (eqb-f i j (λ e. ne (sym e)))
+after-under i j l ne = rw (ne-eqb i j (λ e. ne (sym e)))
 
-pub after-out : (l : List ℕ) (i : ℕ) → count (eqb i) l ≡ 0 → afterIn l i ≡ none
+pub after-out : (l : List ℕ) (i : ℕ) → countIf (eqb i) l ≡ 0 → afterIn l i ≡ none
 after-out [] i h = refl
 after-out (x ∷ l) i h = after-under x i l (λ e. omega (arith, one i x e)) ∙ after-out l i (omega arith)
 
 -- behind other slots, and before a change that starts with the same slot
-pub after-behind : (j : ℕ) (b l : List ℕ) → count (eqb j) b ≡ 0 → afterIn (b ++ l) j ≡ afterIn l j
+pub after-behind : (j : ℕ) (b l : List ℕ) → countIf (eqb j) b ≡ 0 → afterIn (b ++ l) j ≡ afterIn l j
 after-behind j [] l h = refl
 after-behind j (y ∷ b) l h = after-under y j (b ++ l) (λ e. omega (arith, one j y e)) ∙ after-behind j b l (omega arith)
 
@@ -38,10 +39,10 @@ after-before j (y ∷ b) l m e h = elim (test (eqb y j)) [ holds t ↦ rw t (fir
 -- ---- free links
 
 pub link-top : (i : ℕ) (l : List ℕ) → freeLink (i ∷ l) i ≡ suc (slotOr0 (firstOf l))
-link-top i l = rw (eqb-t i i refl)
+link-top i l = rw (eq-eqb i i refl)
 
 pub link-under : (i j : ℕ) (l : List ℕ) → j ≢ i → freeLink (i ∷ l) j ≡ freeLink l j
-link-under i j l h = rw (eqb-f j i h, eqb-f i j (λ e. h (sym e)))
+link-under i j l h = rw (ne-eqb j i h, ne-eqb i j (λ e. h (sym e)))
 
 -- ---- the stack k, k + 1, .. of n slots
 

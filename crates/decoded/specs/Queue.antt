@@ -1,3 +1,2 @@
 -- The update ring in the tables.
-pub mod Round
 pub mod Ring

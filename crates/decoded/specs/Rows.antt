@@ -10,8 +10,8 @@ use native.Mathlib.Omega.{arith}
 use lib.Dec.{eqb}
 use lib.ListN.{length, getD, set, replicate, length-append, length-map, length-set}
 use lib.Seq.{take-at, drop-at, ext-getD, getD-set-same, getD-set-other}
-use Rattle.model.specs.Lists.{if_then_else_, Each, slotOf, countUp}
-use Rattle.laws.specs.Cases.{eqb-t, eqb-f}
+use borrow.Author.Tests.{eq-eqb, ne-eqb}
+use Rattle.model.specs.Lists.{if_then_else_, Each, atSlot, countUp}
 use Rattle.laws.specs.Parts.{up-length}
 use Rattle.words.specs.Rows.{rows, flat}
 use Rattle.words.specs.Cuts.{cuts, join}
@@ -64,19 +64,19 @@ set-up f g n i x h e o =
 
 -- a row that depends on its slot's number and on what the slot holds
 pub set-table : {A B : Type 0} (f : ℕ → Option A → B) (l : List (Option A)) (n i : ℕ) (o : Option A) → length l ≡ n → i < n
-    → map (λ j. f j (slotOf (set l i o) j)) (countUp 0 n) ≡ set (map (λ j. f j (slotOf l j)) (countUp 0 n)) i (f i o)
+    → map (λ j. f j (atSlot (set l i o) j)) (countUp 0 n) ≡ set (map (λ j. f j (atSlot l j)) (countUp 0 n)) i (f i o)
 set-table f l n i o e h =
-    sym (set-up (λ j. f j (slotOf l j)) (λ j. f j (slotOf (set l i o) j)) n i (f i o) h (ap (f i) (getD-set-same l i o none (omega arith))) (λ j ne k. ap (f j) (getD-set-other l i j o none ne)))
+    sym (set-up (λ j. f j (atSlot l j)) (λ j. f j (atSlot (set l i o) j)) n i (f i o) h (ap (f i) (getD-set-same l i o none (omega arith))) (λ j ne k. ap (f j) (getD-set-other l i j o none ne)))
 
 -- two elements are set
 pub set-two : {A : Type 0} (f g : ℕ → A) (n i j : ℕ) → i < n → j < n → ((k : ℕ) → k ≢ i → k ≢ j → g k ≡ f k)
     → set (set (map f (countUp 0 n)) j (g j)) i (g i) ≡ map g (countUp 0 n)
 set-two f g n i j hi hj o =
     let m : ℕ → _ = λ k. if eqb k j then g j else f k in
-    ap (λ l. set l i (g i)) (set-up f m n j (g j) hj (rw (eqb-t j j refl)) (λ k ne l. rw (eqb-f k j ne))) ∙ set-up m g n i (g i) hi refl rest
+    ap (λ l. set l i (g i)) (set-up f m n j (g j) hj (rw (eq-eqb j j refl)) (λ k ne l. rw (ne-eqb k j ne))) ∙ set-up m g n i (g i) hi refl rest
   where
     rest : (k : ℕ) → k ≢ i → k < n → g k ≡ if eqb k j then g j else f k
-    rest k ne l = elim (ℕ-discrete k j) [ yes e ↦ rw (eqb-t k j e) (ap g e) | no d ↦ rw (eqb-f k j d) (o k ne d) ]
+    rest k ne l = elim (ℕ-discrete k j) [ yes e ↦ rw (eq-eqb k j e) (ap g e) | no d ↦ rw (ne-eqb k j d) (o k ne d) ]
 
 pub each-map : {A B : Type 0} (P : B → Type 0) (f : A → B) (l : List A) → ((a : A) → P (f a)) → Each P (map f l)
 each-map P f [] h = tt

@@ -13,7 +13,7 @@ use Rattle.tables.specs.declared.Slot.{Slot}
 use Rattle.tables.specs.Tables.{Tables, Arena, Domain}
 use Rattle.sizes.specs.Limits.{Limits}
 use Rattle.sizes.specs.Sizes.{sizesOf, widths, stride, poolWidth, total, headWidth, slotWidth, regionWidth, recordWidth, updateWidth}
-use Rattle.tables.specs.View.{view, ofParts, Sized, Left, slotOf, slotWords, regionOf, regionWords, recordOf, recordWords, updateOf, updateWords, domainOf, domainWords, arenaOf, arenaWords, headerWords, partsOf, layout}
+use Rattle.tables.specs.View.{view, ofParts, Sized, slotOf, slotWords, regionOf, regionWords, recordOf, recordWords, updateOf, updateWords, domainOf, domainWords, arenaOf, arenaWords, headerWords, partsOf, layout}
 use Rattle.decoded.specs.Rows.{Read, each-any, flat-length, rows-flat, cuts-join}
 
 -- a pool over n slots
@@ -109,6 +109,3 @@ module _ (x : Tables) (h : Shaped x) where
   pub layout-sized : Sized (layout x)
   unfolding total layout
   layout-sized = record { limits = rw sizes-seen (h .limits); exact = rw sizes-seen (join-lengths (partsOf x) ∙ ap (λ (l : List ℕ). offset l (length l)) part-lengths) }
-
-  pub layout-left : Left (layout x) x
-  layout-left = record { seen = view-layout; sized = layout-sized }

@@ -3,10 +3,9 @@ use mathlib.Core.Path.{_≡_, refl, sym, _∙_}
 use Prim.Native.Nat.{ℕ}
 use mathlib.Core.Bool.{Bool, true, false, _&&_}
 use lib.Dec.{T, leb}
+use Rattle.base.specs.Tests.{is-true, true-is, both}
 use Rattle.model.specs.State as state
 use Rattle.model.specs.Making.{upTo, goodSizes}
-use Rattle.laws.specs.Cases.{is-true, true-is}
-use Rattle.words.specs.Cases.{both}
 use Rattle.sizes.specs.Limits.{Limits, withinB, limitsB, limits-true, true-limits}
 use Rattle.decoded.specs.Tables.{sizesFor}
 

@@ -4,7 +4,7 @@ use mathlib.Core.Option.{Option, none, some}
 use mathlib.Core.List.{List, [], _∷_, map}
 use lib.Dec.{eqb}
 use lib.ListN.{length, replicate, getElem?}
-use Rattle.model.specs.Lists.{if_then_else_, slotOf, countUp, firstOf, afterIn}
+use Rattle.model.specs.Lists.{if_then_else_, atSlot, countUp, firstOf, afterIn}
 use Rattle.model.specs.State as state
 use Rattle.model.specs.State.{State, Capa, noCapa, region, regionRevoke, management, channel, parentOf, permission, cleanup}
 use Rattle.model.specs.Layout.{link, slotOr0, freeLink, kindWord, siblings, writePlace}
@@ -22,7 +22,7 @@ abbrev pub sizesFor : state.Sizes → Sizes
 sizesFor z = record { domains = z .domains; slots = z .slots; regions = z .regions; records = z .records; updates = z .updates }
 
 abbrev pub handleFor : state.Handle → Handle
-handleFor h = record { slot = h .slot; generation = h .gen }
+handleFor h = record { slot = h .slot; generation = h .generation }
 
 -- ---- pools
 
@@ -61,7 +61,7 @@ headFor n x =
     }
 
 abbrev pub slotsFor : ℕ → state.LocalList → List Slot
-slotsFor n l = map (λ i. slotFor (l .free) i (slotOf (l .held) i)) (countUp 0 n)
+slotsFor n l = map (λ i. slotFor (l .free) i (atSlot (l .held) i)) (countUp 0 n)
 
 abbrev pub domainFor : ℕ → Option state.Domain → Domain
 domainFor n none = record { head = noHead; slots = replicate n noSlot }
@@ -114,20 +114,20 @@ recordIn (some x ∷ ds) i = inTrackerFor i (x .tracker) (recordIn ds i)
 
 abbrev pub updateFor : Option state.Update → Update
 updateFor none = noUpdate
-updateFor (some (permission h cores)) = record { kind = PERMISSION; a = h .slot; b = h .gen; c = cores }
+updateFor (some (permission h cores)) = record { kind = PERMISSION; a = h .slot; b = h .generation; c = cores }
 updateFor (some (cleanup a b)) = record { kind = CLEANUP; a = a; b = b; c = 0 }
 
 -- place k of a ring for n updates
 abbrev pub placeFor : ℕ → state.Queue → ℕ → Update
-placeFor n q k = updateFor (getElem? (q .items) ((k + (n + 1) - q .first) % (n + 1)))
+placeFor n q k = updateFor (getElem? (q .items) ((k + (n + 1) - q .readPlace) % (n + 1)))
 
 -- ---- the whole
 
 unfoldable pub domainsFor : ℕ → ℕ → List (Option state.Domain) → List Domain
-domainsFor n m ds = map (λ i. domainFor m (slotOf ds i)) (countUp 0 n)
+domainsFor n m ds = map (λ i. domainFor m (atSlot ds i)) (countUp 0 n)
 
 unfoldable pub regionsFor : ℕ → List (Option state.Region) → List RegionCapa
-regionsFor n rs = map (λ i. regionFor rs i (slotOf rs i)) (countUp 0 n)
+regionsFor n rs = map (λ i. regionFor rs i (atSlot rs i)) (countUp 0 n)
 
 unfoldable pub recordsFor : ℕ → List (Option state.Domain) → List Region
 recordsFor n ds = map (recordIn ds) (countUp 0 n)
@@ -139,7 +139,7 @@ unfoldable pub tablesOf : State → Tables
 tablesOf s =
     record {
       sizes = sizesFor (s .sizes);
-      read = s .queue .first;
+      read = s .queue .readPlace;
       write = writePlace s;
       domainPool = poolOf (s .sizes .domains) (s .domainPool);
       regionPool = poolOf (s .sizes .regions) (s .regionPool);

@@ -6,14 +6,14 @@ use mathlib.Core.List.{List, [], _∷_, _++_}
 use native.Mathlib.Omega.{arith}
 use lib.Dec.{T, eqb}
 use lib.ListN.{length, getElem?, replicate, length-replicate, replicate-append-replicate}
-use Rattle.model.specs.Lists.{slotOf, countUp}
+use Rattle.base.specs.Cases.{holds, fails, test}
+use Rattle.model.specs.Lists.{atSlot, countUp}
 use Rattle.model.specs.State as state
 use Rattle.model.specs.State.{State, Capa, noCapa, region, regionRevoke, management, channel, permission, cleanup}
 use Rattle.model.specs.Layout as model
 use Rattle.model.specs.Layout.{words}
 use Rattle.model.specs.Making.{goodSizes}
 use Rattle.model.specs.Sound.{Sound}
-use Rattle.laws.specs.Cases.{holds, fails, test}
 use Rattle.laws.specs.Parts as parts
 use Rattle.laws.specs.Words.Length as laws
 use Rattle.words.specs.Rows.{flat}
@@ -54,13 +54,13 @@ domain-words n none = ap (λ (l : List ℕ). 0 ∷ 0 ∷ 0 ∷ 0 ∷ 0 ∷ l) (n
 domain-words n (some x) =
     let l = x .locals in
     ap (λ (r : List ℕ). headWords (headFor n x) ++ r)
-    (flat-map slotWords (λ i. slotFor (l .free) i (slotOf (l .held) i)) (model.slotWords l) (countUp 0 n) (λ i. slot-words (l .free) i (slotOf (l .held) i)))
+    (flat-map slotWords (λ i. slotFor (l .free) i (atSlot (l .held) i)) (model.slotWords l) (countUp 0 n) (λ i. slot-words (l .free) i (atSlot (l .held) i)))
 
 region-words : (rs : List (Option state.Region)) (i : ℕ) (o : Option state.Region) → regionWords (regionFor rs i o) ≡ laws.regionRow rs i o
 region-words rs i none = refl
 region-words rs i (some g) = refl
 
-tracker-words : (i : ℕ) (l : List state.Record) (r : Region) (others : List ℕ) → recordWords r ≡ others → recordWords (inTrackerFor i l r) ≡ model.inTracker i l others
+tracker-words : (i : ℕ) (l : List state.Record) (r : Region) (others : List ℕ) → recordWords r ≡ others → recordWords (inTrackerFor i l r) ≡ model.trackerWords i l others
 tracker-words i [] r others e = e
 tracker-words i (q ∷ l) r others e = elim (test (eqb i (q .slot))) [ holds t ↦ rw t | fails t ↦ rw t (tracker-words i l r others e) ]
 
@@ -75,7 +75,7 @@ update-words (some (permission h c)) = refl
 update-words (some (cleanup a b)) = refl
 
 place-words : (n : ℕ) (q : state.Queue) (k : ℕ) → updateWords (placeFor n q k) ≡ model.placeWords n q k
-place-words n q k = update-words (getElem? (q .items) ((k + (n + 1) - q .first) % (n + 1)))
+place-words n q k = update-words (getElem? (q .items) ((k + (n + 1) - q .readPlace) % (n + 1)))
 
 -- ---- the whole
 
@@ -86,8 +86,8 @@ parts-words s =
     let p₁ = pool-words (z .domains) (s .domainPool) in
     let p₂ = pool-words (z .regions) (s .regionPool) in
     let p₃ = pool-words (z .records) (s .recordPool) in
-    let p₄ = flat-map domainWords (λ i. domainFor (z .slots) (slotOf (s .domains) i)) _ (countUp 0 (z .domains)) (λ i. domain-words (z .slots) (slotOf (s .domains) i)) in
-    let p₅ = flat-map regionWords (λ i. regionFor (s .regions) i (slotOf (s .regions) i)) _ (countUp 0 (z .regions)) (λ i. region-words (s .regions) i (slotOf (s .regions) i)) in
+    let p₄ = flat-map domainWords (λ i. domainFor (z .slots) (atSlot (s .domains) i)) _ (countUp 0 (z .domains)) (λ i. domain-words (z .slots) (atSlot (s .domains) i)) in
+    let p₅ = flat-map regionWords (λ i. regionFor (s .regions) i (atSlot (s .regions) i)) _ (countUp 0 (z .regions)) (λ i. region-words (s .regions) i (atSlot (s .regions) i)) in
     let p₆ = flat-map recordWords (recordIn (s .domains)) _ (countUp 0 (z .records)) (record-words (s .domains)) in
     let p₇ = flat-map updateWords (placeFor (z .updates) (s .queue)) (model.placeWords (z .updates) (s .queue)) (countUp 0 (z .updates + 1)) (place-words (z .updates) (s .queue)) in
     λ i. model.headerWords s ∷ p₁ i ∷ p₂ i ∷ p₃ i ∷ p₄ i ∷ p₅ i ∷ p₆ i ∷ p₇ i ∷ []
@@ -120,7 +120,7 @@ pool-shaped n p h = record { links = map-up-length (model.freeLink (p .free)) n;
 
 pub slots-many : (n : ℕ) (o : Option state.Domain) → length (domainFor n o .slots) ≡ n
 slots-many n none = length-replicate n noSlot
-slots-many n (some x) = map-up-length (λ i. slotFor (x .locals .free) i (slotOf (x .locals .held) i)) n
+slots-many n (some x) = map-up-length (λ i. slotFor (x .locals .free) i (atSlot (x .locals .held) i)) n
 
 pub tables-shaped : (s : State) → Fits s → Shaped (tablesOf s)
 unfolding tablesOf domainsFor regionsFor recordsFor ringFor
@@ -131,9 +131,9 @@ tables-shaped s h =
       domainPool = pool-shaped (z .domains) (s .domainPool) (h .domainGens);
       regionPool = pool-shaped (z .regions) (s .regionPool) (h .regionGens);
       recordPool = pool-shaped (z .records) (s .recordPool) (h .recordGens);
-      domains = map-up-length (λ i. domainFor (z .slots) (slotOf (s .domains) i)) (z .domains);
-      slots = each-map _ (λ i. domainFor (z .slots) (slotOf (s .domains) i)) (countUp 0 (z .domains)) (λ i. slots-many (z .slots) (slotOf (s .domains) i));
-      regions = map-up-length (λ i. regionFor (s .regions) i (slotOf (s .regions) i)) (z .regions);
+      domains = map-up-length (λ i. domainFor (z .slots) (atSlot (s .domains) i)) (z .domains);
+      slots = each-map _ (λ i. domainFor (z .slots) (atSlot (s .domains) i)) (countUp 0 (z .domains)) (λ i. slots-many (z .slots) (atSlot (s .domains) i));
+      regions = map-up-length (λ i. regionFor (s .regions) i (atSlot (s .regions) i)) (z .regions);
       records = map-up-length (recordIn (s .domains)) (z .records);
       ring = map-up-length (placeFor (z .updates) (s .queue)) (z .updates + 1);
     }

@@ -3,7 +3,7 @@ use mathlib.Core.Bool.{Bool, true, false}
 use Prim.Native.Nat.{ℕ}
 use lib.Dec.{eqb}
 use lib.ListN.{getD}
-use Rattle.words.specs.Cases.{pick}
+use Rattle.base.specs.Cases.{pick}
 use Rattle.tables.specs.declared.Slot.{Slot}
 use Rattle.tables.specs.Tables.{Tables, headAt}
 use Rattle.ring.specs.Ring.{markOf, pushOf, cleanupOf}
@@ -12,9 +12,9 @@ use Rattle.region.specs.declared.AccessRights.{AccessRights}
 use Rattle.region.specs.Turns.{addRegion, removeRegion}
 use Rattle.answers.specs.declared.Answer.{Answer}
 use Rattle.answers.specs.declared.Answer.the-variants.{Done, Refused}
-use Rattle.answers.specs.declared.Refusal.{Refusal}
-use Rattle.answers.specs.declared.Refusal.the-variants.{NoLocal, RingFull}
-use Rattle.answers.specs.Answers.{Step, done, andThen}
+use Rattle.refusals.specs.declared.Refusal.{Refusal}
+use Rattle.refusals.specs.Refusals.{noLocal, ringFull}
+use Rattle.answers.specs.Answers.{Effect, done, andThen}
 use Rattle.slot_list.specs.declared.Inserted.{Inserted}
 use Rattle.slot_list.specs.declared.Inserted.the-variants.{At, Full}
 use Rattle.slot_list.specs.Lists.{giveSlot}
@@ -27,36 +27,36 @@ orRefused r true = Done 0
 orRefused r false = Refused r
 
 -- a free slot in domain d's list, which is swept where it is full (the model's hasCapacity)
-unfoldable pub reserve : ℕ → Tables → Step
-reserve d s = record { answer = orRefused NoLocal (roomB (withCapacity s d) d); tables = withCapacity s d }
+unfoldable pub reserve : ℕ → Tables → Effect
+reserve d s = record { answer = orRefused noLocal (roomB (withCapacity s d) d); tables = withCapacity s d }
 
 abbrev pub insertedAnswer : Inserted → Answer
 insertedAnswer (At i) = Done i
-insertedAnswer Full = Refused NoLocal
+insertedAnswer Full = Refused noLocal
 
 -- a capability in the first free slot; the answer is the slot (the model's insertCapa)
-unfoldable pub insert : ℕ → Slot → Tables → Step
+unfoldable pub insert : ℕ → Slot → Tables → Effect
 insert d x s = record { answer = insertedAnswer (giveSlot (listAt s d) .at); tables = withCapa s d x }
 
 -- domain d is queued with its core map unless it is queued already (the model's pushPermission)
-unfoldable pub notify : ℕ → Tables → Step
+unfoldable pub notify : ℕ → Tables → Effect
 notify d s =
     let p = markOf (ringOf s) d (getD (s .domainPool .gens) d 0) (headAt s d .cores) in
-    record { answer = orRefused RingFull (p .ok); tables = withRingOf s (p .ring) }
+    record { answer = orRefused ringFull (p .ok); tables = withRingOf s (p .ring) }
 
 -- start and end are queued for cleanup (the model's push)
-unfoldable pub cleanup : ℕ → ℕ → Tables → Step
+unfoldable pub cleanup : ℕ → ℕ → Tables → Effect
 cleanup a b s =
     let p = pushOf (ringOf s) (cleanupOf a b) in
-    record { answer = orRefused RingFull (p .ok); tables = withRingOf s (p .ring) }
+    record { answer = orRefused ringFull (p .ok); tables = withRingOf s (p .ring) }
 
 -- a change, told by 1, queues domain d
-abbrev pub notifyIf : ℕ → ℕ → Tables → Step
+abbrev pub notifyIf : ℕ → ℕ → Tables → Effect
 notifyIf d changed s = pick (eqb changed 0) (done 0 s) (notify d s)
 
 -- domain d gains, or loses, the range (the model's activate and deactivate)
-unfoldable pub activate : ℕ → AccessRights → Tables → Step
+unfoldable pub activate : ℕ → AccessRights → Tables → Effect
 activate d a s = andThen (addRegion d a s) (notifyIf d)
 
-unfoldable pub deactivate : ℕ → AccessRights → Tables → Step
+unfoldable pub deactivate : ℕ → AccessRights → Tables → Effect
 deactivate d a s = andThen (removeRegion d a s) (notifyIf d)

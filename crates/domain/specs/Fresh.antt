@@ -5,13 +5,12 @@ use Prim.Native.Nat.{ℕ, zero, suc, _+_, _-_, _<_}
 use native.Mathlib.Numerals.{add-one}
 use native.Mathlib.Omega.{arith}
 use lib.Dec.{ltb}
-use lib.ListN.{length, getD, set, replicate}
+use lib.ListN.{length, set, replicate}
 use lib.Seq.{set-at}
-use Rattle.words.specs.Cases.{pick}
+use Rattle.sizes.specs.Limits.{mostSlots}
+use Rattle.base.specs.Cases.{pick}
 use Rattle.tables.specs.declared.Slot.{Slot}
 use Rattle.tables.specs.Tables.{noSlot}
-use Rattle.sizes.specs.Sizes.{sizesOf}
-use Rattle.tables.specs.View.{view, ofParts}
 use Rattle.slot_list.specs.Lists.{freeSlot}
 use Rattle.domain.specs.Opened.{freshFrom}
 
@@ -32,17 +31,17 @@ fresh-more n (suc m) i = let e : i + suc m ≡ suc i + m = omega arith in rw e (
 
 -- the first i places are made
 abbrev pub freshTo : ℕ → ℕ → List Slot
-freshTo n i = freshFrom n i 0 ++ replicate (128 - i) noSlot
+freshTo n i = freshFrom n i 0 ++ replicate (mostSlots - i) noSlot
 
-pub fresh-none : (n : ℕ) → freshTo n 0 ≡ replicate 128 noSlot
+pub fresh-none : (n : ℕ) → freshTo n 0 ≡ replicate mostSlots noSlot
 unfolding freshFrom
 fresh-none n = refl
 
-pub fresh-next : (n i : ℕ) → i < 128 → set (freshTo n i) i (freshSlot n i) ≡ freshTo n (i + 1)
+pub fresh-next : (n i : ℕ) → i < mostSlots → set (freshTo n i) i (freshSlot n i) ≡ freshTo n (i + 1)
 fresh-next n i h =
     let x = freshSlot n i in
-    let rest : List Slot = replicate (128 - suc i) noSlot in
-    let e : 128 - i ≡ suc (128 - suc i) = omega arith in
+    let rest : List Slot = replicate (mostSlots - suc i) noSlot in
+    let e : mostSlots - i ≡ suc (mostSlots - suc i) = omega arith in
     let z : 0 + i ≡ i = omega arith in
     let more : freshFrom n (suc i) 0 ≡ freshFrom n i 0 ++ (x ∷ []) = rw z at (fresh-more n i 0) in
     rw (e, add-one)
@@ -50,10 +49,5 @@ fresh-next n i h =
     ∙ sym (append-assoc (freshFrom n i 0) (x ∷ []) rest)
     ∙ ap (λ (r : List Slot). r ++ rest) (sym more))
 
-pub fresh-all : (n i : ℕ) → i ≡ 128 → freshTo n i ≡ freshFrom n 128 0
-fresh-all n i e = rw e (append-nil (freshFrom n 128 0))
-
--- how many slots a list has, as the code reads it
-pub slots-read : (t : List ℕ) → getD t 1 0 ≡ view t .sizes .slots
-unfolding view ofParts sizesOf
-slots-read t = refl
+pub fresh-all : (n i : ℕ) → i ≡ mostSlots → freshTo n i ≡ freshFrom n mostSlots 0
+fresh-all n i e = rw e (append-nil (freshFrom n mostSlots 0))

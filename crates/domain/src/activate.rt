@@ -4,7 +4,7 @@ ghost use mathlib.Core.Path.{_≡_};
 ghost use Rattle.tables.specs.View.{view, Sized, Left};
 ghost use Rattle.domain.specs.Activate.{orRefused, reserve, insert, notify, cleanup, notifyIf, activate, deactivate};
 use answers::Answer;
-use answers::Refusal;
+use refusals::Refusal;
 use region::AccessRights;
 use slot_list::Inserted;
 use tables::Slot;
@@ -26,7 +26,7 @@ pub fn reserve(t: &mut [u64], d: usize) -> Answer
     ensures { λ _. ⌜ Left (now (t .exit)) (reserve d (view (now (t .entry))) .tables) ⌝ }
 {
     let room = slots::has_capacity_for(t, d);
-    or_refused(room, Refusal::NoLocal)
+    or_refused(room, Refusal::NO_LOCAL)
 }
 
 // The answer is the slot.
@@ -37,7 +37,7 @@ pub fn insert(t: &mut [u64], d: usize, capa: Slot) -> Answer
 {
     match slots::insert_capa(t, d, capa) {
         Inserted::At(i) => Answer::Done(i as u64),
-        Inserted::Full => Answer::Refused(Refusal::NoLocal),
+        Inserted::Full => Answer::Refused(Refusal::NO_LOCAL),
     }
 }
 
@@ -52,7 +52,7 @@ pub fn notify(t: &mut [u64], d: usize) -> Answer
     let head = tables::load_head(t, d);
     let generation = pools::domain_generation(t, d);
     let queued = update::mark_domain(t, d as u64, generation, head.cores);
-    or_refused(queued, Refusal::RingFull)
+    or_refused(queued, Refusal::RING_FULL)
 }
 
 pub fn cleanup(t: &mut [u64], start: u64, end: u64) -> Answer
@@ -61,7 +61,7 @@ pub fn cleanup(t: &mut [u64], start: u64, end: u64) -> Answer
     ensures { λ _. ⌜ Left (now (t .exit)) (cleanup start end (view (now (t .entry))) .tables) ⌝ }
 {
     let queued = update::push_cleanup(t, start, end);
-    or_refused(queued, Refusal::RingFull)
+    or_refused(queued, Refusal::RING_FULL)
 }
 
 // `changed` is 1 where a count left or came to 0 (`PermissionChange`).

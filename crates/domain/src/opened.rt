@@ -4,8 +4,9 @@ ghost use Rattle.tables.specs.View.{view, Sized, Left};
 ghost use Rattle.domain.specs.Opened.{freshList, newDomain};
 ghost use Rattle.domain.specs.Fresh.{freshSlot};
 use answers::Answer;
-use answers::Refusal;
 use arena::Given;
+use refusals::Refusal;
+use sizes::MOST_SLOTS;
 use slot_list::SlotList;
 use tables::DomainHead;
 use tables::Slot;
@@ -28,9 +29,9 @@ fn fresh_slot(n: usize, i: usize) -> Slot
 pub fn fresh_list(n: usize) -> SlotList
     ensures { λ r. ⌜ r ≡ freshList n ⌝ }
 {
-    let mut slots = [tables::no_slot(); 128];
+    let mut slots = [tables::no_slot(); MOST_SLOTS];
     let mut i = 0;
-    while i < 128 {
+    while i < MOST_SLOTS {
         slots[i] = fresh_slot(n, i);
         i += 1;
     }
@@ -63,6 +64,6 @@ pub fn new_domain(t: &mut [u64], manager: u64, cores: u64) -> Answer
             stored_slots::store_list(t, i, fresh_list(n));
             Answer::Done(h.slot)
         }
-        Given::Full => Answer::Refused(Refusal::NoDomainRoom),
+        Given::Full => Answer::Refused(Refusal::NO_DOMAIN_ROOM),
     }
 }

@@ -1,7 +1,7 @@
 // Domains and channels.
 ghost use mathlib.Core.Path.{_≡_};
 ghost use Rattle.tables.specs.View.{view, Sized, Left};
-ghost use Rattle.domain_calls.specs.Calls.{openDomain, openUnder, openChannel, setCores};
+ghost use Rattle.domain_calls.specs.Calls.{openDomain, openUnder, openChannel, setCoreMap};
 ghost use Rattle.domain_calls.specs.Parts.{managed};
 use answers::Answer;
 use tables::Handle;
@@ -80,10 +80,10 @@ pub fn open_channel(t: &mut [u64], h: Handle, to: Handle) -> Answer
     }
 }
 
-pub fn set_cores(t: &mut [u64], h: Handle, cores: u64) -> Answer
+pub fn set_core_map(t: &mut [u64], h: Handle, cores: u64) -> Answer
     requires { ⌜ Sized (now t) ⌝ }
-    ensures { λ r. ⌜ r ≡ setCores h cores (view (now (t .entry))) .answer ⌝ }
-    ensures { λ _. ⌜ Left (now (t .exit)) (setCores h cores (view (now (t .entry))) .tables) ⌝ }
+    ensures { λ r. ⌜ r ≡ setCoreMap h cores (view (now (t .entry))) .answer ⌝ }
+    ensures { λ _. ⌜ Left (now (t .exit)) (setCoreMap h cores (view (now (t .entry))) .tables) ⌝ }
 {
     match checks::live_domain(t, h) {
         Answer::Done(d) => {

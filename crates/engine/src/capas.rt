@@ -2,7 +2,7 @@
 ghost use Rattle.model.specs.Perform.{Call, Step};
 ghost use Rattle.frame.specs.Replies.{handle, replyOf, Returns};
 use frame::Reply;
-use tables::Handle;
+use lent_steps::capas;
 
 // The value is the slot in the list of the domain that the target names.
 #[no_mangle]
@@ -16,15 +16,7 @@ pub extern "C" fn mityvurno_send(
 ) -> Reply
     ensures { λ r. ⌜ Returns replyOf (now (t .entry)) (now (w .entry)) (Call.Do (Step.Send (handle domain generation) local target)) r (now (t .exit)) (now (w .exit)) ⌝ }
 {
-    let domain = Handle {
-        slot: domain,
-        generation,
-    };
-    frame::run(
-        t,
-        w,
-        calls::Call::Send(domain, local as usize, target as usize),
-    )
+    capas::send(t, w, domain, generation, local, target)
 }
 
 #[no_mangle]
@@ -37,11 +29,7 @@ pub extern "C" fn mityvurno_revoke(
 ) -> Reply
     ensures { λ r. ⌜ Returns replyOf (now (t .entry)) (now (w .entry)) (Call.Do (Step.Revoke (handle domain generation) local)) r (now (t .exit)) (now (w .exit)) ⌝ }
 {
-    let domain = Handle {
-        slot: domain,
-        generation,
-    };
-    frame::run(t, w, calls::Call::Revoke(domain, local as usize))
+    capas::revoke(t, w, domain, generation, local)
 }
 
 // The value is the local slot of the RegionRevoke.
@@ -53,11 +41,7 @@ pub extern "C" fn mityvurno_create_revoke_capa(
     generation: u64,
     local: u64,
 ) -> Reply
-    ensures { λ r. ⌜ Returns replyOf (now (t .entry)) (now (w .entry)) (Call.Do (Step.MakeRevoke (handle domain generation) local)) r (now (t .exit)) (now (w .exit)) ⌝ }
+    ensures { λ r. ⌜ Returns replyOf (now (t .entry)) (now (w .entry)) (Call.Do (Step.CreateRevokeCapa (handle domain generation) local)) r (now (t .exit)) (now (w .exit)) ⌝ }
 {
-    let domain = Handle {
-        slot: domain,
-        generation,
-    };
-    frame::run(t, w, calls::Call::MakeRevoke(domain, local as usize))
+    capas::create_revoke_capa(t, w, domain, generation, local)
 }

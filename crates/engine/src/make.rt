@@ -1,10 +1,8 @@
-// Making empty tables: the sizes are tested first, then the lengths alone.
+// Making empty tables.
 ghost use Rattle.model.specs.Perform.{Call};
 ghost use Rattle.frame.specs.Replies.{sizes, replyOf, Returns};
-use answers::Refusal;
 use frame::Reply;
-use frame::replies;
-use sizes::Sizes;
+use lent_calls::make;
 
 #[no_mangle]
 pub extern "C" fn mityvurno_make_tables(
@@ -18,24 +16,5 @@ pub extern "C" fn mityvurno_make_tables(
 ) -> Reply
     ensures { λ r. ⌜ Returns replyOf (now (t .entry)) (now (w .entry)) (Call.Make (sizes domains slots regions records updates)) r (now (t .exit)) (now (w .exit)) ⌝ }
 {
-    words::clear(w);
-    let z = Sizes {
-        domains: domains as usize,
-        slots: slots as usize,
-        regions: regions as usize,
-        records: records as usize,
-        updates: updates as usize,
-    };
-    if !sizes::limits_hold(z) {
-        return replies::refused(Refusal::Sizes);
-    }
-    let n = sizes::total_of(z);
-    if words::both(t.len() == n, w.len() == n) {
-        making::make_empty(t, z);
-        return Reply {
-            refusal: 0,
-            value: 0,
-        };
-    }
-    replies::refused(Refusal::Memory)
+    make::make_tables(t, w, domains, slots, regions, records, updates)
 }

@@ -2,29 +2,12 @@
 ghost use Rattle.model.specs.Perform.{Call};
 ghost use Rattle.frame.specs.Replies.{updateReplyOf, Returns};
 use frame::UpdateReply;
-use tables::Update;
+use lent_calls::queue;
 
 // The oldest update leaves the queue; none where it is empty.
 #[no_mangle]
 pub extern "C" fn mityvurno_pop(t: &mut [u64], w: &mut [u64]) -> UpdateReply
     ensures { λ r. ⌜ Returns updateReplyOf (now (t .entry)) (now (w .entry)) Call.Pop r (now (t .exit)) (now (w .exit)) ⌝ }
 {
-    if frame::admits(t, w) {
-        let item = update::pop_update(t);
-        let u = item.update;
-        return UpdateReply {
-            refusal: 0,
-            kind: u.kind,
-            a: u.a,
-            b: u.b,
-            c: u.c,
-        };
-    }
-    UpdateReply {
-        refusal: 1,
-        kind: 0,
-        a: 0,
-        b: 0,
-        c: 0,
-    }
+    queue::pop(t, w)
 }

@@ -1,37 +1,8 @@
 // The readings (document 01, **Reading**). The tables are lent to be read only.
-ghost use mathlib.Core.Path.{_≡_};
-ghost use Rattle.model.specs.Memory.{zeroed};
 ghost use Rattle.model.specs.Perform.{Call, Reading};
 ghost use Rattle.frame.specs.Replies.{handle, replyOf, Returns, ListsPermissions, ListsHolders};
-ghost use Rattle.engine.specs.Lookup.{domainRead};
-ghost use Rattle.engine.specs.Permissions.{Plans};
-use answers::Answer;
-use answers::Refusal;
 use frame::Reply;
-use frame::replies;
 use readings::Permission;
-use tables::Handle;
-
-// How many records fill a run, the link of the first, and the reply.
-struct Listing {
-    turns: usize,
-    at: u64,
-    reply: Reply,
-}
-
-// 1, 3: the slot of a live domain in tables that may be read. The work area is then all zero.
-fn domain_read(t: &[u64], w: &mut [u64], domain: u64, generation: u64) -> Answer
-    ensures { λ r. ⌜ (r ≡ domainRead (now (t .entry)) (now (w .entry)) domain generation) × (now (w .exit) ≡ zeroed (now (w .entry))) ⌝ }
-{
-    if frame::admits(t, w) {
-        let h = Handle {
-            slot: domain,
-            generation,
-        };
-        return checks::live_domain(t, h);
-    }
-    Answer::Refused(Refusal::Memory)
-}
 
 #[no_mangle]
 pub extern "C" fn mityvurno_get_refcount(
@@ -44,13 +15,7 @@ pub extern "C" fn mityvurno_get_refcount(
 ) -> Reply
     ensures { λ r. ⌜ Returns replyOf (now (t .entry)) (now (w .entry)) (Call.Read (Reading.Refcount (handle domain generation) start end)) r (now (t .entry)) (now (w .exit)) ⌝ }
 {
-    match domain_read(t, w, domain, generation) {
-        Answer::Done(d) => Reply {
-            refusal: 0,
-            value: readings::get_refcount(t, d as usize, start, end),
-        },
-        Answer::Refused(r) => replies::refused(r),
-    }
+    lent_readings::get_refcount(t, w, domain, generation, start, end)
 }
 
 #[no_mangle]
@@ -62,44 +27,7 @@ pub extern "C" fn mityvurno_core_map(
 ) -> Reply
     ensures { λ r. ⌜ Returns replyOf (now (t .entry)) (now (w .entry)) (Call.Read (Reading.CoreMap (handle domain generation))) r (now (t .entry)) (now (w .exit)) ⌝ }
 {
-    match domain_read(t, w, domain, generation) {
-        Answer::Done(d) => {
-            let x = tables::load_head(t, d as usize);
-            Reply {
-                refusal: 0,
-                value: x.cores,
-            }
-        }
-        Answer::Refused(r) => replies::refused(r),
-    }
-}
-
-// What filling a run of `room` places with the domain's permission list goes by; a refused call has no turn.
-fn listing_of(t: &[u64], w: &mut [u64], domain: u64, generation: u64, room: usize) -> Listing
-    ensures { λ r. ⌜ Plans (now (t .entry)) (now (w .entry)) (handle domain generation) room r (now (w .exit)) ⌝ }
-{
-    match domain_read(t, w, domain, generation) {
-        Answer::Done(d) => {
-            let p = readings::plan_of(t, d as usize, room);
-            let reply = Reply {
-                refusal: 0,
-                value: p.answer,
-            };
-            Listing {
-                turns: p.turns,
-                at: p.at,
-                reply,
-            }
-        }
-        Answer::Refused(r) => {
-            let reply = replies::refused(r);
-            Listing {
-                turns: 0,
-                at: 0,
-                reply,
-            }
-        }
-    }
+    lent_readings::core_map(t, w, domain, generation)
 }
 
 // The domain's permission list; the value is the number of its records.
@@ -113,7 +41,7 @@ pub extern "C" fn mityvurno_permissions(
 ) -> Reply
     ensures { λ r. ⌜ ListsPermissions (now (t .entry)) (now (w .entry)) (handle domain generation) (now (run .entry)) r (now (w .exit)) (now (run .exit)) ⌝ }
 {
-    let p = listing_of(t, w, domain, generation, run.len());
+    let p = lent_readings::listing_of(t, w, domain, generation, run.len());
     let mut at = p.at;
     let mut k = 0;
     while k < p.turns {
@@ -135,11 +63,5 @@ pub extern "C" fn mityvurno_holders(
 ) -> Reply
     ensures { λ r. ⌜ ListsHolders (now (t .entry)) (now (w .entry)) address (now (run .entry)) r (now (w .exit)) (now (run .exit)) ⌝ }
 {
-    if frame::admits(t, w) {
-        return Reply {
-            refusal: 0,
-            value: readings::holders(t, address, run),
-        };
-    }
-    replies::refused(Refusal::Memory)
+    lent_readings::holders(t, w, address, run)
 }

@@ -2,9 +2,7 @@
 ghost use Rattle.model.specs.Perform.{Call, Step};
 ghost use Rattle.frame.specs.Replies.{handle, access, replyOf, Returns};
 use frame::Reply;
-use region::AccessRights;
-use rights::Rights;
-use tables::Handle;
+use lent_steps::regions;
 
 #[no_mangle]
 pub extern "C" fn mityvurno_create_root_region(
@@ -18,16 +16,7 @@ pub extern "C" fn mityvurno_create_root_region(
 ) -> Reply
     ensures { λ r. ⌜ Returns replyOf (now (t .entry)) (now (w .entry)) (Call.Do (Step.Root (handle domain generation) (access start end rights))) r (now (t .exit)) (now (w .exit)) ⌝ }
 {
-    let domain = Handle {
-        slot: domain,
-        generation,
-    };
-    let ops = Rights(rights);
-    frame::run(
-        t,
-        w,
-        calls::Call::Root(domain, AccessRights { start, end, ops }),
-    )
+    regions::create_root_region(t, w, domain, generation, start, end, rights)
 }
 
 #[no_mangle]
@@ -43,20 +32,7 @@ pub extern "C" fn mityvurno_alias_region(
 ) -> Reply
     ensures { λ r. ⌜ Returns replyOf (now (t .entry)) (now (w .entry)) (Call.Do (Step.Alias (handle domain generation) local (access start end rights))) r (now (t .exit)) (now (w .exit)) ⌝ }
 {
-    let domain = Handle {
-        slot: domain,
-        generation,
-    };
-    let ops = Rights(rights);
-    frame::run(
-        t,
-        w,
-        calls::Call::Alias(calls::Child {
-            domain,
-            local: local as usize,
-            access: AccessRights { start, end, ops },
-        }),
-    )
+    regions::alias_region(t, w, domain, generation, local, start, end, rights)
 }
 
 #[no_mangle]
@@ -72,18 +48,5 @@ pub extern "C" fn mityvurno_carve_region(
 ) -> Reply
     ensures { λ r. ⌜ Returns replyOf (now (t .entry)) (now (w .entry)) (Call.Do (Step.Carve (handle domain generation) local (access start end rights))) r (now (t .exit)) (now (w .exit)) ⌝ }
 {
-    let domain = Handle {
-        slot: domain,
-        generation,
-    };
-    let ops = Rights(rights);
-    frame::run(
-        t,
-        w,
-        calls::Call::Carve(calls::Child {
-            domain,
-            local: local as usize,
-            access: AccessRights { start, end, ops },
-        }),
-    )
+    regions::carve_region(t, w, domain, generation, local, start, end, rights)
 }

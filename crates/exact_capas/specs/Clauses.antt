@@ -1,15 +1,15 @@
--- The clauses of `Tidy` and `Sound` about capabilities, which this crate tests, and those of earlier tests that it leans on.
+-- The clauses of `WellFormed` and `Sound` about capabilities, which this crate tests, and those of earlier tests that it leans on.
 use mathlib.Core.Path.{_≡_}
 use Prim.Native.Nat.{ℕ, _<_}
 use mathlib.Core.Bool.{true}
 use Rattle.model.specs.Lists.{Each, In}
 use Rattle.model.specs.State as state
 use Rattle.model.specs.State.{Word}
-use Rattle.model.specs.Sound.{OutsideSound, OnceEach, inUse, OwnerSound, ManagerSound, RevokeFit, HandleFit}
+use Rattle.model.specs.Sound.{OutsideSound, OnceEach, slotUses, OwnerSound, ManagerSound, RevokeFit, HandleFit}
 use Rattle.tables.specs.Tables.{Tables}
 use Rattle.decoded.specs.Shape.{Shaped}
 use Rattle.decoded.specs.Decode.Read.{taken, stateOf}
-use Rattle.decoded.specs.Settled.Tidy.{OutsideTidy, PoolTidy, RegionTidy, domainRow, regionRow}
+use Rattle.decoded.specs.Canonical.WellFormed.{OutsideWellFormed, PoolWellFormed, RegionWellFormed, domainRow, regionRow}
 
 -- ---- what is known before
 
@@ -20,13 +20,13 @@ pub record Stored (v : Tables) : Type 0 where
 -- of the pools and the tree: each domain and region is in use or free once, and what the words of a region in use say
 pub record Before (v : Tables) : Type 0 where
   pub shaped : Shaped v
-  pub domainPool : PoolTidy (v .sizes .domains) (v .domainPool)
-  pub regionPool : PoolTidy (v .sizes .regions) (v .regionPool)
-  pub domainsOnce : OnceEach (v .sizes .domains) (inUse (stateOf v .domains)) (stateOf v .domainPool .free)
-  pub regionsOnce : OnceEach (v .sizes .regions) (inUse (stateOf v .regions)) (stateOf v .regionPool .free)
-  pub regionsUsed : (i : ℕ) → i < v .sizes .regions → taken (v .regionPool) i ≡ true → RegionTidy (regionRow v i)
+  pub domainPool : PoolWellFormed (v .sizes .domains) (v .domainPool)
+  pub regionPool : PoolWellFormed (v .sizes .regions) (v .regionPool)
+  pub domainsOnce : OnceEach (v .sizes .domains) (slotUses (stateOf v .domains)) (stateOf v .domainPool .free)
+  pub regionsOnce : OnceEach (v .sizes .regions) (slotUses (stateOf v .regions)) (stateOf v .regionPool .free)
+  pub regionsUsed : (i : ℕ) → i < v .sizes .regions → taken (v .regionPool) i ≡ true → RegionWellFormed (regionRow v i)
 
-pub all-before : (v : Tables) → Shaped v → OutsideTidy v → OutsideSound (stateOf v) → Before v
+pub all-before : (v : Tables) → Shaped v → OutsideWellFormed v → OutsideSound (stateOf v) → Before v
 unfolding stateOf
 all-before v s t h =
     record { shaped = s; domainPool = t .domainPool; regionPool = t .regionPool; domainsOnce = h .domainPool .once; regionsOnce = h .regionPool .once; regionsUsed = t .regionsUsed }

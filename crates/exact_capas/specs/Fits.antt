@@ -5,11 +5,11 @@ use Prim.Native.Nat.{ℕ, zero, suc, _+_, _≤_, _<_}
 use mathlib.Core.Bool.{Bool, true, false, not}
 use native.Mathlib.Omega.{arith}
 use native.Mathlib.Decide.{ℕ-discrete}
-use borrow.Author.Tests.{leb-true, le-leb, not-true}
+use borrow.Author.Tests.{leb-true, le-leb, not-true, eq-eqb, ne-eqb}
 use lib.Dec.{eqb, leb}
+use Rattle.base.specs.Cases.{pick, lt, ge, cmp}
+use Rattle.base.specs.Tests.{both-true, true-false}
 use Rattle.model.specs.Lists.{oneIf}
-use Rattle.words.specs.Cases.{pick, both-true}
-use Rattle.laws.specs.Cases.{lt, ge, cmp, eqb-t, eqb-f, test}
 use Rattle.laws.specs.Stack.{one, one-at-most}
 use Rattle.laws.specs.Tree.Sum.{sum, sum-add, sum-zero, sum-same, sum-at}
 use Rattle.sound_capas.specs.Claims.{either, claimed, claimFits, claimsFit, claimCount, claimsHold}
@@ -24,15 +24,12 @@ pub record FitFrom (f : ℕ → ℕ) (m k n : ℕ) : Type 0 where
 claimed-no : (f : ℕ → ℕ) (c k n : ℕ) → claimed f c k n ≡ false → (i : ℕ) → k ≤ i → i < k + n → f i ≡ c → ⊥
 claimed-no f c k zero h i a b e = omega arith
 claimed-no f c k (suc n) h i a b e = elim (ℕ-discrete k i) [
-  | yes z ↦ yes-no (rw (eqb-t (f k) c (ap f z ∙ e)) at h)
+  | yes z ↦ true-false refl (rw (eq-eqb (f k) c (ap f z ∙ e)) at h)
   | no ne ↦ claimed-no f c (suc k) n (or-false (eqb (f k) c) (claimed f c (suc k) n) h) i (more k i a ne) (omega arith) e
 ]
   where
-    yes-no : true ≡ false → ⊥
-    yes-no p = let z : _≡_ {A = ℕ} 1 0 = ap oneIf p in omega arith
-
     or-false : (a b : Bool) → either a b ≡ false → b ≡ false
-    or-false true b h = absurd (yes-no h)
+    or-false true b h = absurd (true-false refl h)
     or-false false b h = h
 
     more : (k i : ℕ) → k ≤ i → (k ≡ i → ⊥) → suc k ≤ i
@@ -40,7 +37,7 @@ claimed-no f c k (suc n) h i a b e = elim (ℕ-discrete k i) [
 
 no-claimed : (f : ℕ → ℕ) (c k n : ℕ) → ((i : ℕ) → k ≤ i → i < k + n → f i ≡ c → ⊥) → claimed f c k n ≡ false
 no-claimed f c k zero h = refl
-no-claimed f c k (suc n) h = rw (eqb-f (f k) c (h k (omega arith) (omega arith))) (no-claimed f c (suc k) n (λ i a b. h i (omega arith) (omega arith)))
+no-claimed f c k (suc n) h = rw (ne-eqb (f k) c (h k (omega arith) (omega arith))) (no-claimed f c (suc k) n (λ i a b. h i (omega arith) (omega arith)))
 
 -- ---- the test
 
@@ -52,7 +49,7 @@ fits-out f m k (suc n) h =
   where
     first : (f : ℕ → ℕ) (m k n : ℕ) → claimFits f m k n ≡ true → 0 < f k → (f k ≤ m) × (claimed f (f k) (suc k) n ≡ false)
     first f m k n h p =
-        let u = both-true (leb (f k) m) (not (claimed f (f k) (suc k) n)) (rw (eqb-f (f k) 0 (λ e. omega arith)) at h) in
+        let u = both-true (leb (f k) m) (not (claimed f (f k) (suc k) n)) (rw (ne-eqb (f k) 0 (λ e. omega arith)) at h) in
         (leb-true (f k) m (u .0), not-true (claimed f (f k) (suc k) n) (u .1))
 
     fits-suc : (f : ℕ → ℕ) (m k n : ℕ) → claimFits f m k n ≡ true → FitFrom f m (suc k) n → FitFrom f m k (suc n)
@@ -78,8 +75,8 @@ out-fits f m k (suc n) r = rw (first, out-fits f m (suc k) n (record { within = 
   where
     first : claimFits f m k n ≡ true
     first = elim (cmp 0 (f k)) [
-      | lt p ↦ rw (eqb-f (f k) 0 (λ e. omega arith), le-leb (f k) m (r .within k (omega arith) (omega arith)), no-claimed f (f k) (suc k) n (λ i a b e. r .once k i (omega arith) (omega arith) (omega arith) p (sym e)))
-      | ge p ↦ rw (eqb-t (f k) 0 (omega arith))
+      | lt p ↦ rw (ne-eqb (f k) 0 (λ e. omega arith), le-leb (f k) m (r .within k (omega arith) (omega arith)), no-claimed f (f k) (suc k) n (λ i a b e. r .once k i (omega arith) (omega arith) (omega arith) p (sym e)))
+      | ge p ↦ rw (eq-eqb (f k) 0 (omega arith))
     ]
 
 -- ---- how often a number is claimed
@@ -90,7 +87,7 @@ times f c k (suc n) = oneIf (eqb (f k) c) + times f c (suc k) n
 
 pub times-none : (f : ℕ → ℕ) (c k n : ℕ) → ((i : ℕ) → k ≤ i → i < k + n → f i ≡ c → ⊥) → times f c k n ≡ 0
 times-none f c k zero h = refl
-times-none f c k (suc n) h = omega (arith, ap oneIf (eqb-f (f k) c (h k (omega arith) (omega arith))), times-none f c (suc k) n (λ i a b. h i (omega arith) (omega arith)))
+times-none f c k (suc n) h = omega (arith, ap oneIf (ne-eqb (f k) c (h k (omega arith) (omega arith))), times-none f c (suc k) n (λ i a b. h i (omega arith) (omega arith)))
 
 -- an item that claims c
 pub record By (f : ℕ → ℕ) (c k n : ℕ) : Type 0 where
@@ -103,7 +100,7 @@ pub times-by : (f : ℕ → ℕ) (c k n : ℕ) → 0 < times f c k n → By f c 
 times-by f c k zero h = absurd (omega arith)
 times-by f c k (suc n) h = elim (ℕ-discrete (f k) c) [
   | yes e ↦ record { item = k; low = omega arith; high = omega arith; claims = e }
-  | no ne ↦ later (times-by f c (suc k) n (omega (arith, ap oneIf (eqb-f (f k) c ne))))
+  | no ne ↦ later (times-by f c (suc k) n (omega (arith, ap oneIf (ne-eqb (f k) c ne))))
 ]
   where
     later : By f c (suc k) n → By f c k (suc n)
@@ -120,7 +117,7 @@ pub times-once : (f : ℕ → ℕ) (m c k n : ℕ) → FitFrom f m k n → times
 times-once f m c k zero r = omega arith
 times-once f m c k (suc n) r = elim (ℕ-discrete (f k) (suc c)) [
   | yes e ↦ omega (arith, one-at-most (eqb (f k) (suc c)), times-none f (suc c) (suc k) n (λ i a b z. r .once k i (omega arith) (omega arith) (omega arith) (omega arith) (e ∙ sym z)))
-  | no ne ↦ omega (arith, ap oneIf (eqb-f (f k) (suc c) ne), times-once f m c (suc k) n (record { within = λ i a b. r .within i (omega arith) (omega arith); once = λ i j a b d. r .once i j (omega arith) b (omega arith) }))
+  | no ne ↦ omega (arith, ap oneIf (ne-eqb (f k) (suc c) ne), times-once f m c (suc k) n (record { within = λ i a b. r .within i (omega arith) (omega arith); once = λ i j a b d. r .once i j (omega arith) b (omega arith) }))
 ]
 
 -- ---- counted by their numbers
@@ -131,10 +128,10 @@ count-sum f m k (suc n) h =
     omega (arith, first (f k) (h k (omega arith) (omega arith)), count-sum f m (suc k) n (λ i a b. h i (omega arith) (omega arith)), sum-add (λ c. oneIf (eqb (f k) (suc c))) (λ c. times f (suc c) (suc k) n) (λ c. times f (suc c) k (suc n)) m (λ c b. refl))
   where
     first : (x : ℕ) → x ≤ m → pick (eqb x 0) 0 1 ≡ sum (λ c. oneIf (eqb x (suc c))) m
-    first zero b = sym (sum-same (λ c. oneIf (eqb 0 (suc c))) (λ c. 0) m (λ c d. ap oneIf (eqb-f 0 (suc c) (λ e. omega arith))) ∙ sum-zero m)
+    first zero b = sym (sum-same (λ c. oneIf (eqb 0 (suc c))) (λ c. 0) m (λ c d. ap oneIf (ne-eqb 0 (suc c) (λ e. omega arith))) ∙ sum-zero m)
     first (suc x) b =
-        let at = sum-at (λ c. oneIf (eqb (suc x) (suc c))) m x (omega arith) (λ c ne. ap oneIf (eqb-f (suc x) (suc c) (λ e. ne (omega arith)))) in
-        ap (λ b. pick b 0 1) (eqb-f (suc x) 0 (λ e. omega arith)) ∙ sym (at ∙ one (suc x) (suc x) refl)
+        let at = sum-at (λ c. oneIf (eqb (suc x) (suc c))) m x (omega arith) (λ c ne. ap oneIf (ne-eqb (suc x) (suc c) (λ e. ne (omega arith)))) in
+        ap (λ b. pick b 0 1) (ne-eqb (suc x) 0 (λ e. omega arith)) ∙ sym (at ∙ one (suc x) (suc x) refl)
 
 -- ---- sums that do not leave room
 

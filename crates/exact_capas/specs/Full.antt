@@ -1,32 +1,37 @@
--- Tables with the clauses about capabilities pass the test: nothing is claimed twice, and everything in use is claimed.
+-- The law: tables pass the test of the capabilities exactly if they have its clauses. With these nothing is claimed twice, and everything in use is
+-- claimed.
 use mathlib.Core.Path.{_≡_, refl, sym, ap, _∙_}
+use mathlib.Core.Logic.{_↔_}
 use Prim.Native.Nat.{ℕ, zero, suc, _+_, _-_, _*_, _≤_, _<_}
 use mathlib.Core.Bool.{true}
 use native.Mathlib.Omega.{arith}
 use lib.Dec.{eqb}
 use lib.ListN.{getD}
-use Rattle.model.specs.Lists.{oneIf, slotOf, In}
+use Rattle.base.specs.Cases.{lt, ge, cmp, holds, fails, test}
+use Rattle.model.specs.Lists.{oneIf, atSlot, In}
 use Rattle.model.specs.State as state
 use Rattle.model.specs.Pool.{handleOf}
 use Rattle.model.specs.Sound.{OutsideSound, names, isRegionOf, isManagementOf}
-use Rattle.laws.specs.Cases.{lt, ge, cmp, holds, fails, test}
 use Rattle.laws.specs.Stack.{one, one-at-most}
-use Rattle.laws.specs.Tree.Sum.{sum}
+use Rattle.laws.specs.Tree.Sum.{sum, sum-find}
 use Rattle.laws.specs.Tree.Slots.{live-is}
+use Rattle.laws.specs.Lists.{one-true}
+use Rattle.laws.specs.Words.SameTables.{unlink}
 use Rattle.tables.specs.Tables.{Tables, noDomain, headAt, slotAt, regionAt}
 use Rattle.decoded.specs.Shape.{Shaped}
-use Rattle.decoded.specs.Decode.Read.{poolFrom, taken, linked, unlink, heldIn, domainFrom, domainsFrom, stateOf}
-use Rattle.decoded.specs.Settled.Pools.{table-in}
-use Rattle.decoded.specs.Settled.Tidy.{OutsideTidy}
+use Rattle.decoded.specs.Decode.Read.{poolFrom, taken, linked, heldIn, domainFrom, domainsFrom, stateOf}
+use Rattle.decoded.specs.Canonical.Pools.{table-in}
 use Rattle.sound_capas.specs.Capas.{inUse, rowClaim, capaClaim, capasHold}
 use Rattle.exact_capas.specs.Fits.{FitFrom, times, By, by-times, count-sum, sum-below, out-holds}
-use Rattle.exact_capas.specs.Grid.{Rows, rows-fit, at-by, sum-twice, sum-some}
-use Rattle.exact_capas.specs.Clauses.{Before, CapasClauses, all-before}
+use Rattle.exact_capas.specs.Grid.{Rows, rows-fit, at-by, sum-twice}
+use Rattle.exact_capas.specs.Clauses.{Stored, Before, CapasClauses}
+use Rattle.decoded.specs.Canonical.Pools.{table-in}
 use Rattle.exact_capas.specs.Reads.{Lives}
 use Rattle.exact_capas.specs.Items.{Who, ofRegion, ofDomain, ofHead, who, region-claims, management-claims, head-claims}
 use Rattle.exact_capas.specs.Used.{used, used-region, used-domain, used-sum}
 use Rattle.exact_capas.specs.Held.{region-held, management-held}
-use Rattle.exact_capas.specs.Kept.{one-true, ofRegionAt, ofDomainAt, region-slots, domain-slots, owner-link, domain-in, region-in, region-here, domain-here, climbs, row-within}
+use Rattle.exact_capas.specs.Lists.{passed-clauses}
+use Rattle.exact_capas.specs.Kept.{ofRegionAt, ofDomainAt, region-slots, domain-slots, owner-link, domain-in, region-in, region-here, domain-here, climbs, row-within}
 
 -- one place of a row that counts at most once
 one-place : (w : ℕ → ℕ) (n i j : ℕ) → sum w n ≤ 1 → i < n → j < n → w i ≡ 1 → w j ≡ 1 → i ≡ j
@@ -112,13 +117,13 @@ module _ (v : Tables) (k : Before v) (q : CapasClauses v) where
   unfolding capaClaim poolFrom regionAt
   region-claimed i b t =
       let d = unlink (regionAt v i .owner) in
-      let u = domain-out d (live-is (slotOf (stateOf v .domains) d) (q .owners i _ (region-in v k q i b t) .ownerLive)) in
-      let a = sum-some (ofRegionAt v k q i d) S (omega (arith, region-slots v k q i d b t (u .0) (u .1), one d d refl)) in
+      let u = domain-out d (live-is (atSlot (stateOf v .domains) d) (q .owners i _ (region-in v k q i b t) .ownerLive)) in
+      let a = sum-find (ofRegionAt v k q i d) S (omega (arith, region-slots v k q i d b t (u .0) (u .1), one d d refl)) in
       let x = slotAt v d (a .at) in
       let m = region-held (poolFrom R (v .regionPool)) i x (one-true (isRegionOf (handleOf (poolFrom R (v .regionPool)) i) (heldIn x)) (a .counts)) in
       let l : Lives R (v .regionPool) (x .handle) = record { below = omega (arith, m .1); used = ap (taken (v .regionPool)) (m .1) ∙ t; same = ap (λ n. getD (v .regionPool .gens) n 0) (m .1) ∙ sym (m .2) } in
-      at-by D S (rowClaim v) (suc i) d (a .at) (u .0) (omega (arith, a .below))
-      (region-claims v s d (a .at) (u .1) (a .below) (m .0) l (ap (λ n. regionAt v n .owner) (m .1) ∙ owner-link v k q i d b t refl) ∙ ap suc (m .1))
+      at-by D S (rowClaim v) (suc i) d (a .at) (u .0) (omega (arith, a .low))
+      (region-claims v s d (a .at) (u .1) (a .low) (m .0) l (ap (λ n. regionAt v n .owner) (m .1) ∙ owner-link v k q i d b t refl) ∙ ap suc (m .1))
 
   domain-claimed : (i : ℕ) → i < D → taken (v .domainPool) i ≡ true → By (capaClaim v) (suc (R + i)) 0 items
   unfolding capaClaim poolFrom headAt stateOf
@@ -127,13 +132,13 @@ module _ (v : Tables) (k : Before v) (q : CapasClauses v) where
       go : (n : ℕ) → headAt v i .manager ≡ n → By (capaClaim v) (suc (R + i)) 0 items
       go zero e = at-by D S (rowClaim v) (suc (R + i)) i S b (omega arith) (head-claims v s i S t (omega arith) b (climbs v k q i b t) e)
       go (suc d) e =
-          let u = domain-out d (live-is (slotOf (stateOf v .domains) d) (q .managers i (domainRead i) (domain-in v k q i b t) .managerLive d (ap linked e))) in
-          let a = sum-some (ofDomainAt v k q i d) S (omega (arith, domain-slots v k q i d b t (u .0) (u .1), ap (λ n. oneIf (names (linked n) d)) e, one d d refl)) in
+          let u = domain-out d (live-is (atSlot (stateOf v .domains) d) (q .managers i (domainRead i) (domain-in v k q i b t) .managerLive d (ap linked e))) in
+          let a = sum-find (ofDomainAt v k q i d) S (omega (arith, domain-slots v k q i d b t (u .0) (u .1), ap (λ n. oneIf (names (linked n) d)) e, one d d refl)) in
           let x = slotAt v d (a .at) in
           let m = management-held (poolFrom D (v .domainPool)) i x (one-true (isManagementOf (handleOf (poolFrom D (v .domainPool)) i) (heldIn x)) (a .counts)) in
           let l : Lives D (v .domainPool) (x .handle) = record { below = omega (arith, m .1); used = ap (taken (v .domainPool)) (m .1) ∙ t; same = ap (λ n. getD (v .domainPool .gens) n 0) (m .1) ∙ sym (m .2) } in
-          at-by D S (rowClaim v) (suc (R + i)) d (a .at) (u .0) (omega (arith, a .below))
-          (management-claims v s d (a .at) (u .1) (a .below) (m .0) l (ap (λ n. headAt v n .manager) (m .1) ∙ e) ∙ ap (λ n. suc (R + n)) (m .1))
+          at-by D S (rowClaim v) (suc (R + i)) d (a .at) (u .0) (omega (arith, a .low))
+          (management-claims v s d (a .at) (u .1) (a .low) (m .0) l (ap (λ n. headAt v n .manager) (m .1) ∙ e) ∙ ap (λ n. suc (R + n)) (m .1))
 
   some-times : (c : ℕ) → By (capaClaim v) (suc c) 0 items → 0 < times (capaClaim v) (suc c) 0 items
   some-times c b = by-times (capaClaim v) (suc c) 0 items (b .item) (b .low) (b .high) (b .claims)
@@ -161,6 +166,9 @@ module _ (v : Tables) (k : Before v) (q : CapasClauses v) where
   unfolding capasHold
   clauses-pass = out-holds (capaClaim v) (R + D) items (inUse v) fit (omega (arith, used-sum v k, count-sum (capaClaim v) (R + D) 0 items (fit .within), sum-below (used v) (λ c. times (capaClaim v) (suc c) 0 items) (R + D) at-least))
 
+pub capas-exact : (v : Tables) → Before v → Stored v → (capasHold v ≡ true) ↔ CapasClauses v
+capas-exact v k w = (passed-clauses v k w, clauses-pass v k)
+
 -- sound tables have the clauses
 pub sound-capas : (v : Tables) → OutsideSound (stateOf v) → CapasClauses v
 sound-capas v h = record {
@@ -170,7 +178,3 @@ sound-capas v h = record {
   handlesFit = λ d x e. h .lists d x e .handlesFit;
   coresWords = h .coresWords;
 }
-
--- and pass the test
-pub hold-capas : (v : Tables) → Shaped v → OutsideTidy v → OutsideSound (stateOf v) → capasHold v ≡ true
-hold-capas v s t h = clauses-pass v (all-before v s t h) (sound-capas v h)

@@ -1,17 +1,12 @@
 -- Items in rows of S + 1: row d, place j is item d × (S + 1) + j. And sums over the places of a row.
-use mathlib.Core.Path.{_≡_, refl, sym, ap, _∙_}
+use mathlib.Core.Path.{_≡_, sym, ap, _∙_}
 use mathlib.Core.Logic.{_≢_}
 use Prim.Native.Nat.{ℕ, zero, suc, _+_, _*_, _/_, _%_, _≤_, _<_}
-use mathlib.Core.List.{List, [], _∷_}
 use native.Mathlib.Omega.{arith}
 use native.Mathlib.Nat.{mod-lt, mul-le-mul-right, div-add-mod'}
 use lib.Arith.{digits-div, digits-mod, digits-lt}
-use lib.Dec.{eqb}
-use lib.ListN.{length}
-use Rattle.model.specs.Lists.{oneIf, count}
-use Rattle.laws.specs.Cases.{Cmp, lt, ge, cmp, eqb-f}
-use Rattle.laws.specs.Stack.{one}
-use Rattle.laws.specs.Tree.Sum.{sum, sum-add, sum-at, sum-zero, sum-same, sum-get}
+use Rattle.base.specs.Cases.{lt, ge, cmp}
+use Rattle.laws.specs.Tree.Sum.{sum, sum-get, sum-none}
 use Rattle.exact_capas.specs.Fits.{FitFrom, By}
 
 module _ (D S : ℕ) (g : ℕ → ℕ → ℕ) where
@@ -74,9 +69,6 @@ module _ (D S : ℕ) (g : ℕ → ℕ → ℕ) where
 
 -- ---- sums over places
 
-pub sum-none : (w : ℕ → ℕ) (n : ℕ) → ((k : ℕ) → k < n → w k ≡ 0) → sum w n ≡ 0
-sum-none w n h = sum-same w (λ k. 0) n h ∙ sum-zero n
-
 pub sum-only : (w : ℕ → ℕ) (n i : ℕ) → i < n → ((k : ℕ) → k < n → k ≢ i → w k ≡ 0) → sum w n ≡ w i
 sum-only w zero i b h = absurd (omega arith)
 sum-only w (suc n) i b h = elim (cmp i n) [
@@ -91,27 +83,3 @@ sum-twice w (suc n) i j a b = elim (cmp j n) [
   | lt c ↦ omega (arith, sum-twice w n i j a c)
   | ge c ↦ let e : n ≡ j = omega arith in omega (arith, ap w e, sum-get w n i (omega arith))
 ]
-
-pub record Some (w : ℕ → ℕ) (n : ℕ) : Type 0 where
-  pub at : ℕ
-  pub below : at < n
-  pub counts : 0 < w at
-
-pub sum-some : (w : ℕ → ℕ) (n : ℕ) → 0 < sum w n → Some w n
-sum-some w zero h = absurd (omega arith)
-sum-some w (suc n) h = elim (cmp 0 (w n)) [
-  | lt c ↦ record { at = n; below = omega arith; counts = c }
-  | ge c ↦ let s = sum-some w n (omega arith) in record { at = s .at; below = omega (arith, s .below); counts = s .counts }
-]
-
--- ---- a list's members by their numbers
-
-pub counted : (n : ℕ) (l : List ℕ) → ((k : ℕ) → n ≤ k → count (eqb k) l ≡ 0) → sum (λ k. count (eqb k) l) n ≡ length l
-counted n [] h = sum-zero n
-counted n (x ∷ l) h =
-    let at = sum-at (λ k. oneIf (eqb k x)) n x (below (cmp x n)) (λ k ne. ap oneIf (eqb-f k x ne)) in
-    omega (arith, sum-add (λ k. oneIf (eqb k x)) (λ k. count (eqb k) l) (λ k. count (eqb k) (x ∷ l)) n (λ k i. refl), at, one x x refl, counted n l (λ k i. omega (arith, h k i)))
-  where
-    below : Cmp x n → x < n
-    below (lt k) = k
-    below (ge k) = absurd (omega (arith, h x k, one x x refl))

@@ -8,12 +8,13 @@ use native.Mathlib.Omega.{arith}
 use lib.Dec.{eqb, eqb→eq}
 use lib.Ieee.Fits.{and-l, and-r}
 use lib.ListN.{length, getD, length-map}
-use Rattle.model.specs.Lists.{oneIf, count, Each, slotOf}
+use borrow.Author.Tests.{eq-eqb}
+use Rattle.base.specs.Tests.{true-is, true-false}
+use Rattle.model.specs.Lists.{oneIf, countIf, Each, atSlot}
 use Rattle.model.specs.State as state
 use Rattle.model.specs.State.{Pool, Capa}
 use Rattle.model.specs.Pool.{handleOf}
 use Rattle.model.specs.Sound.{isRegionOf, isManagementOf, RevokeFit, HandleFit}
-use Rattle.laws.specs.Cases.{eqb-t, true-is}
 use Rattle.laws.specs.Tree.Sum.{sum, sum-same}
 use Rattle.laws.specs.Tree.Slots.{count-sum}
 use Rattle.tables.specs.declared.Handle.{Handle}
@@ -21,9 +22,10 @@ use Rattle.tables.specs.declared.Slot.{Slot}
 use Rattle.tables.specs.Tables.{Tables, noDomain, noSlot, slotAt}
 use Rattle.decoded.specs.Shape.{Shaped}
 use Rattle.decoded.specs.Decode.Read.{capaFrom, heldIn}
-use Rattle.decoded.specs.Settled.Domains.{held-at}
-use Rattle.decoded.specs.Settled.Law.{each-at}
-use Rattle.exact_capas.specs.Reads.{yes-no}
+use Rattle.decoded.specs.Canonical.Domains.{held-at}
+use Rattle.decoded.specs.Canonical.Law.{each-at}
+use Rattle.decoded.specs.Canonical.Domains.{held-at}
+use Rattle.decoded.specs.Canonical.Law.{each-at}
 
 -- ---- the one capability of a region, and of a domain
 
@@ -33,35 +35,35 @@ same-out i g h t =
     (sym (eqb→eq i (h .slot) (and-l (eqb i (h .slot)) (eqb g (h .generation)) u)), sym (eqb→eq g (h .generation) (and-r (eqb i (h .slot)) (eqb g (h .generation)) u)))
 
 region-go : (p : Pool) (i k : ℕ) (h : Handle) → isRegionOf (handleOf p i) (capaFrom k h) ≡ true → (k ≡ 2) × (h .slot ≡ i) × (h .generation ≡ getD (p .gens) i 0)
-region-go p i zero h t = absurd (yes-no (sym t))
-region-go p i (suc zero) h t = absurd (yes-no (sym t))
+region-go p i zero h t = absurd (true-false t refl)
+region-go p i (suc zero) h t = absurd (true-false t refl)
 region-go p i (suc (suc zero)) h t = let u = same-out i (getD (p .gens) i 0) h t in (refl, u .0, u .1)
-region-go p i (suc (suc (suc zero))) h t = absurd (yes-no (sym t))
-region-go p i (suc (suc (suc (suc zero)))) h t = absurd (yes-no (sym t))
-region-go p i (suc (suc (suc (suc (suc zero))))) h t = absurd (yes-no (sym t))
-region-go p i (suc (suc (suc (suc (suc (suc k)))))) h t = absurd (yes-no (sym t))
+region-go p i (suc (suc (suc zero))) h t = absurd (true-false t refl)
+region-go p i (suc (suc (suc (suc zero)))) h t = absurd (true-false t refl)
+region-go p i (suc (suc (suc (suc (suc zero))))) h t = absurd (true-false t refl)
+region-go p i (suc (suc (suc (suc (suc (suc k)))))) h t = absurd (true-false t refl)
 
 management-go : (p : Pool) (i k : ℕ) (h : Handle) → isManagementOf (handleOf p i) (capaFrom k h) ≡ true → (k ≡ 4) × (h .slot ≡ i) × (h .generation ≡ getD (p .gens) i 0)
-management-go p i zero h t = absurd (yes-no (sym t))
-management-go p i (suc zero) h t = absurd (yes-no (sym t))
-management-go p i (suc (suc zero)) h t = absurd (yes-no (sym t))
-management-go p i (suc (suc (suc zero))) h t = absurd (yes-no (sym t))
+management-go p i zero h t = absurd (true-false t refl)
+management-go p i (suc zero) h t = absurd (true-false t refl)
+management-go p i (suc (suc zero)) h t = absurd (true-false t refl)
+management-go p i (suc (suc (suc zero))) h t = absurd (true-false t refl)
 management-go p i (suc (suc (suc (suc zero)))) h t = let u = same-out i (getD (p .gens) i 0) h t in (refl, u .0, u .1)
-management-go p i (suc (suc (suc (suc (suc zero))))) h t = absurd (yes-no (sym t))
-management-go p i (suc (suc (suc (suc (suc (suc k)))))) h t = absurd (yes-no (sym t))
+management-go p i (suc (suc (suc (suc (suc zero))))) h t = absurd (true-false t refl)
+management-go p i (suc (suc (suc (suc (suc (suc k)))))) h t = absurd (true-false t refl)
 
 module _ (p : Pool) (i : ℕ) (x : Slot) where
   pub region-held : isRegionOf (handleOf p i) (heldIn x) ≡ true → (x .kind ≡ 2) × (x .handle .slot ≡ i) × (x .handle .generation ≡ getD (p .gens) i 0)
   region-held t = region-go p i (x .kind) (x .handle) t
 
   pub held-region : x .kind ≡ 2 → x .handle .slot ≡ i → x .handle .generation ≡ getD (p .gens) i 0 → isRegionOf (handleOf p i) (heldIn x) ≡ true
-  held-region k a b = ap (λ n. isRegionOf (handleOf p i) (capaFrom n (x .handle))) k ∙ rw (eqb-t i (x .handle .slot) (sym a), eqb-t (getD (p .gens) i 0) (x .handle .generation) (sym b))
+  held-region k a b = ap (λ n. isRegionOf (handleOf p i) (capaFrom n (x .handle))) k ∙ rw (eq-eqb i (x .handle .slot) (sym a), eq-eqb (getD (p .gens) i 0) (x .handle .generation) (sym b))
 
   pub management-held : isManagementOf (handleOf p i) (heldIn x) ≡ true → (x .kind ≡ 4) × (x .handle .slot ≡ i) × (x .handle .generation ≡ getD (p .gens) i 0)
   management-held t = management-go p i (x .kind) (x .handle) t
 
   pub held-management : x .kind ≡ 4 → x .handle .slot ≡ i → x .handle .generation ≡ getD (p .gens) i 0 → isManagementOf (handleOf p i) (heldIn x) ≡ true
-  held-management k a b = ap (λ n. isManagementOf (handleOf p i) (capaFrom n (x .handle))) k ∙ rw (eqb-t i (x .handle .slot) (sym a), eqb-t (getD (p .gens) i 0) (x .handle .generation) (sym b))
+  held-management k a b = ap (λ n. isManagementOf (handleOf p i) (capaFrom n (x .handle))) k ∙ rw (eq-eqb i (x .handle .slot) (sym a), eq-eqb (getD (p .gens) i 0) (x .handle .generation) (sym b))
 
 -- ---- all slots of a list
 
@@ -81,13 +83,13 @@ module _ (v : Tables) (s : Shaped v) (d : ℕ) (b : d < v .sizes .domains) where
   pub slots-many : length slots ≡ v .sizes .slots
   slots-many = each-at _ (v .domains) (s .slots) d noDomain (omega (arith, s .domains))
 
-  pub held-count : (p : Option Capa → Bool) → count p (map heldIn slots) ≡ sum (λ j. oneIf (p (heldIn (slotAt v d j)))) (v .sizes .slots)
+  pub held-count : (p : Option Capa → Bool) → countIf p (map heldIn slots) ≡ sum (λ j. oneIf (p (heldIn (slotAt v d j)))) (v .sizes .slots)
   unfolding slotAt
   held-count p =
       let long : length (map heldIn slots) ≡ v .sizes .slots = length-map slots heldIn ∙ slots-many in
       count-sum p (map heldIn slots)
-      ∙ ap (sum (λ j. oneIf (p (slotOf (map heldIn slots) j)))) long
-      ∙ sum-same (λ j. oneIf (p (slotOf (map heldIn slots) j))) (λ j. oneIf (p (heldIn (getD slots j noSlot)))) (v .sizes .slots) (λ j c. ap (λ o. oneIf (p o)) (held-at slots j (omega (arith, slots-many))))
+      ∙ ap (sum (λ j. oneIf (p (atSlot (map heldIn slots) j)))) long
+      ∙ sum-same (λ j. oneIf (p (atSlot (map heldIn slots) j))) (λ j. oneIf (p (heldIn (getD slots j noSlot)))) (v .sizes .slots) (λ j c. ap (λ o. oneIf (p o)) (held-at slots j (omega (arith, slots-many))))
 
 -- ---- a handle's clauses, by the kind of its slot
 

@@ -5,18 +5,19 @@ use Prim.Native.Nat.{ℕ, suc, _+_, _-_, _≤_, _<_}
 use mathlib.Core.Bool.{true, false}
 use native.Mathlib.Omega.{arith}
 use native.Mathlib.Decide.{ℕ-discrete}
-use borrow.Author.Tests.{ltb-true, eqb-true}
+use borrow.Author.Tests.{ltb-true, eqb-true, lt-ltb, le-ltb, eq-eqb, ne-eqb}
 use lib.Dec.{eqb, ltb}
-use Rattle.words.specs.Cases.{pick, both-true}
-use Rattle.laws.specs.Cases.{lt, ge, cmp, ltb-t, ltb-f, eqb-t, eqb-f, holds, fails, test}
+use Rattle.base.specs.Cases.{pick, lt, ge, cmp, holds, fails, test}
+use Rattle.base.specs.Tests.{both-true}
 use Rattle.tables.specs.declared.Handle.{Handle}
 use Rattle.tables.specs.declared.Slot.{Slot}
 use Rattle.tables.specs.Tables.{Tables, Arena, headAt, slotAt, regionAt}
 use Rattle.arena.specs.Arena.{liveB}
 use Rattle.decoded.specs.Shape.{Shaped}
 use Rattle.decoded.specs.Decode.Read.{taken}
+use Rattle.decoded.specs.Canonical.Pools.{taken-used, not-taken}
 use Rattle.sound_capas.specs.Capas.{number, wrong, namesB, olderB, claimBy, regionClaim, revokeClaim, managementClaim, channelClaim, slotClaim, climbed, headClaim, rowClaim}
-use Rattle.exact_capas.specs.Reads.{Lives, lives, live-at, not-free, free-is}
+use Rattle.exact_capas.specs.Reads.{Lives, lives, live-at}
 
 -- ---- a handle
 
@@ -43,7 +44,7 @@ module _ (bad : ℕ) (a : Arena) (h : Handle) (y : ℕ) where
   ]
 
 names-t : (l d : ℕ) → l ≡ suc d → namesB l d ≡ true
-names-t l d e = rw (ltb-t 0 l (omega arith), eqb-t (l - 1) d (omega arith))
+names-t l d e = rw (lt-ltb 0 l (omega arith), eq-eqb (l - 1) d (omega arith))
 
 names-out : (l d : ℕ) → namesB l d ≡ true → l ≡ suc d
 names-out l d t =
@@ -57,36 +58,36 @@ pick-out : (bad l d base n i c : ℕ) → pick (namesB l d) (number bad base n i
 pick-out bad l d base n i c e b = elim (test (namesB l d)) [
   | fails t ↦ absurd (let k = rw t at e in omega arith)
   | holds t ↦ elim (cmp i n) [
-    | lt h ↦ let k = rw (t, ltb-t i n h) at e in (names-out l d t, omega arith, h)
-    | ge h ↦ absurd (let k = rw (t, ltb-f i n h) at e in omega arith)
+    | lt h ↦ let k = rw (t, lt-ltb i n h) at e in (names-out l d t, omega arith, h)
+    | ge h ↦ absurd (let k = rw (t, le-ltb i n h) at e in omega arith)
   ]
 ]
 
 pick-in : (bad l d base n i : ℕ) → l ≡ suc d → i < n → pick (namesB l d) (number bad base n i) bad ≡ suc (base + i)
-pick-in bad l d base n i e b = rw (names-t l d e, ltb-t i n b) (omega arith)
+pick-in bad l d base n i e b = rw (names-t l d e, lt-ltb i n b) (omega arith)
 
 -- ---- a slot, by its kind
 
 module _ (v : Tables) (d : ℕ) (x : Slot) where
   two : x .kind ≡ 2 → slotClaim v d x ≡ regionClaim v d (x .handle)
   unfolding slotClaim
-  two e = rw (eqb-t (x .kind) 2 e)
+  two e = rw (eq-eqb (x .kind) 2 e)
 
   three : x .kind ≡ 3 → slotClaim v d x ≡ revokeClaim v (x .handle)
   unfolding slotClaim
-  three e = rw (eqb-f (x .kind) 2 (λ z. omega arith), eqb-t (x .kind) 3 e)
+  three e = rw (ne-eqb (x .kind) 2 (λ z. omega arith), eq-eqb (x .kind) 3 e)
 
   four : x .kind ≡ 4 → slotClaim v d x ≡ managementClaim v d (x .handle)
   unfolding slotClaim
-  four e = rw (eqb-f (x .kind) 2 (λ z. omega arith), eqb-f (x .kind) 3 (λ z. omega arith), eqb-t (x .kind) 4 e)
+  four e = rw (ne-eqb (x .kind) 2 (λ z. omega arith), ne-eqb (x .kind) 3 (λ z. omega arith), eq-eqb (x .kind) 4 e)
 
   five : x .kind ≡ 5 → slotClaim v d x ≡ channelClaim v (x .handle)
   unfolding slotClaim
-  five e = rw (eqb-f (x .kind) 2 (λ z. omega arith), eqb-f (x .kind) 3 (λ z. omega arith), eqb-f (x .kind) 4 (λ z. omega arith), eqb-t (x .kind) 5 e)
+  five e = rw (ne-eqb (x .kind) 2 (λ z. omega arith), ne-eqb (x .kind) 3 (λ z. omega arith), ne-eqb (x .kind) 4 (λ z. omega arith), eq-eqb (x .kind) 5 e)
 
   other : x .kind ≢ 2 → x .kind ≢ 3 → x .kind ≢ 4 → x .kind ≢ 5 → slotClaim v d x ≡ 0
   unfolding slotClaim
-  other a b c e = rw (eqb-f (x .kind) 2 a, eqb-f (x .kind) 3 b, eqb-f (x .kind) 4 c, eqb-f (x .kind) 5 e)
+  other a b c e = rw (ne-eqb (x .kind) 2 a, ne-eqb (x .kind) 3 b, ne-eqb (x .kind) 4 c, ne-eqb (x .kind) 5 e)
 
 pub data Kind (k : ℕ) : Type 0 where
   is2 : k ≡ 2 → Kind k
@@ -127,15 +128,15 @@ module _ (v : Tables) (s : Shaped v) where
 
   pub row-free : (d j : ℕ) → taken (v .domainPool) d ≡ false → rowClaim v d j ≡ 0
   unfolding rowClaim
-  row-free d j t = rw (free-is (v .domainPool) d t)
+  row-free d j t = rw (not-taken (v .domainPool) d t)
 
   row-slot : (d j : ℕ) → taken (v .domainPool) d ≡ true → j < S → rowClaim v d j ≡ slotClaim v d (slotAt v d j)
   unfolding rowClaim
-  row-slot d j t b = rw (not-free (v .domainPool) d t, ltb-t j S b)
+  row-slot d j t b = rw (taken-used (v .domainPool) d t, lt-ltb j S b)
 
   row-head : (d j : ℕ) → taken (v .domainPool) d ≡ true → S ≤ j → rowClaim v d j ≡ headClaim v d
   unfolding rowClaim
-  row-head d j t b = rw (not-free (v .domainPool) d t, ltb-f j S b)
+  row-head d j t b = rw (taken-used (v .domainPool) d t, le-ltb j S b)
 
   -- ---- what a slot of a kind claims
 
@@ -193,7 +194,7 @@ module _ (v : Tables) (s : Shaped v) where
     management-claims e l o = management-row e ∙ live-claim _ _ h _ (live-at D (v .domainPool) (s .domainPool) h l) ∙ pick-in (wrong (v .sizes)) manager d R D (h .slot) o (l .below)
 
     pub revoke-claims : x .kind ≡ 3 → liveB (v .regionPool) h ≡ true → regionAt v (h .slot) .kind ≢ 1 → rowClaim v d j ≡ 0
-    revoke-claims e l ne = revoke-row e ∙ live-claim _ _ h _ l ∙ ap (λ b. pick b (wrong (v .sizes)) 0) (eqb-f (regionAt v (h .slot) .kind) 1 ne)
+    revoke-claims e l ne = revoke-row e ∙ live-claim _ _ h _ l ∙ ap (λ b. pick b (wrong (v .sizes)) 0) (ne-eqb (regionAt v (h .slot) .kind) 1 ne)
 
     pub channel-claims : x .kind ≡ 5 → liveB (v .domainPool) h ≡ true → rowClaim v d j ≡ 0
     channel-claims e l = channel-row e ∙ live-claim _ _ h _ l
@@ -228,18 +229,18 @@ module _ (v : Tables) (s : Shaped v) where
       ]
 
       pub no-root : x .kind ≡ 3 → liveB (v .regionPool) h ≡ true → regionAt v (h .slot) .kind ≢ 1
-      no-root e l z = omega (arith, f, revoke-row e, live-claim bad (v .regionPool) h asRevoke l, ap (λ b. pick b bad 0) (eqb-t (regionAt v (h .slot) .kind) 1 z))
+      no-root e l z = omega (arith, f, revoke-row e, live-claim bad (v .regionPool) h asRevoke l, ap (λ b. pick b bad 0) (eq-eqb (regionAt v (h .slot) .kind) 1 z))
 
   -- ---- a head
 
   module _ (d j : ℕ) (t : taken (v .domainPool) d ≡ true) (b : S ≤ j) where
     pub head-claims : d < D → climbed v D (headAt v d .manager) ≡ 0 → headAt v d .manager ≡ 0 → rowClaim v d j ≡ suc (R + d)
     unfolding headClaim
-    head-claims k z e = row-head d j t b ∙ rw (eqb-t (climbed v D (headAt v d .manager)) 0 z, eqb-t (headAt v d .manager) 0 e, ltb-t d D k) (omega arith)
+    head-claims k z e = row-head d j t b ∙ rw (eq-eqb (climbed v D (headAt v d .manager)) 0 z, eq-eqb (headAt v d .manager) 0 e, lt-ltb d D k) (omega arith)
 
     pub head-passes : climbed v D (headAt v d .manager) ≡ 0 → headAt v d .manager ≢ 0 → rowClaim v d j ≡ 0
     unfolding headClaim
-    head-passes z e = row-head d j t b ∙ rw (eqb-t (climbed v D (headAt v d .manager)) 0 z, eqb-f (headAt v d .manager) 0 e)
+    head-passes z e = row-head d j t b ∙ rw (eq-eqb (climbed v D (headAt v d .manager)) 0 z, ne-eqb (headAt v d .manager) 0 e)
 
     pub head-climbs : rowClaim v d j ≤ R + D → climbed v D (headAt v d .manager) ≡ 0
     unfolding headClaim

@@ -2,39 +2,38 @@
 use mathlib.Core.Path.{_≡_, refl, sym, ap, subst, _∙_}
 use mathlib.Core.Logic.{_≢_, _⊎_, inl, inr, ⊎-elim}
 use Prim.Native.Nat.{ℕ, zero, suc, _+_, _-_, _≤_, _<_}
-use mathlib.Core.Bool.{Bool, true, false, not}
+use mathlib.Core.Bool.{true, false, not}
 use mathlib.Core.Option.{Option, none, some}
 use native.Mathlib.Omega.{arith}
 use native.Mathlib.Decide.{ℕ-discrete}
 use borrow.Author.Tests.{eqb-true}
 use lib.Dec.{T, eqb}
 use lib.ListN.{length, getD}
-use Rattle.model.specs.Lists.{oneIf, if_then_else_, slotOf, In}
+use Rattle.base.specs.Cases.{lt, ge, cmp, holds, fails, test}
+use Rattle.base.specs.Tests.{true-is}
+use Rattle.model.specs.Lists.{oneIf, atSlot, In, if_then_else_}
 use Rattle.model.specs.State as state
 use Rattle.model.specs.Pool.{handleOf}
 use Rattle.model.specs.Tree.{isRootKind}
 use Rattle.model.specs.Sound.{names, isRegionOf, isManagementOf, RevokeFit, HandleFit}
-use Rattle.laws.specs.Cases.{lt, ge, cmp, holds, fails, test, true-is}
-use Rattle.laws.specs.SoundTest.{ifSome, managerPasses, managed}
-use Rattle.laws.specs.Test.Paths.{ok-managed}
+use Rattle.laws.specs.Test.Paths.{ifSome, managerPasses, managed, ok-managed}
 use Rattle.laws.specs.Tree.Sum.{sum, sum-get}
+use Rattle.laws.specs.Lists.{one-true}
+use Rattle.laws.specs.Words.SameTables.{unlink}
 use Rattle.tables.specs.declared.Handle.{Handle}
 use Rattle.tables.specs.Tables.{Tables, noDomain, noRegion, headAt, slotAt, regionAt}
 use Rattle.arena.specs.Arena.{liveB}
 use Rattle.decoded.specs.Rows.{map-up-length}
 use Rattle.decoded.specs.Shape.{Shaped}
-use Rattle.decoded.specs.Decode.Read.{poolFrom, taken, linked, unlink, kindFrom, capaFrom, heldIn, domainFrom, regionFrom, domainsFrom, regionsFrom, stateOf}
-use Rattle.decoded.specs.Settled.Pools.{table-used, table-in}
+use Rattle.decoded.specs.Decode.Read.{poolFrom, taken, linked, kindFrom, capaFrom, heldIn, domainFrom, regionFrom, domainsFrom, regionsFrom, stateOf}
+use Rattle.decoded.specs.Canonical.Pools.{table-used, table-in}
+use Rattle.decoded.specs.Canonical.Pools.{table-used, table-in}
 use Rattle.sound_capas.specs.Capas.{olderB, above, climbed, rowClaim}
 use Rattle.exact_capas.specs.Clauses.{Before, CapasClauses}
 use Rattle.exact_capas.specs.Reads.{Lives, lives, live-read, fit-out}
 use Rattle.exact_capas.specs.Items.{kind, is2, is3, is4, is5, isNot, row-free, region-claims, management-claims, revoke-claims, channel-claims, other-row, old-region, old-domain, head-claims, head-passes}
 use Rattle.exact_capas.specs.Held.{held-region, held-management, held-each, slots-many, held-count}
 use Rattle.exact_capas.specs.Managers.{above-is}
-
-pub one-true : (b : Bool) → 0 < oneIf b → b ≡ true
-one-true true h = refl
-one-true false h = absurd (omega arith)
 
 names-link : (l d : ℕ) → names (linked l) d ≡ true → l ≡ suc d
 names-link zero d t = absurd (let z = ap oneIf t in omega arith)
@@ -171,13 +170,13 @@ module _ (v : Tables) (k : Before v) (q : CapasClauses v) where
   climb : (n d : ℕ) → T (managed n (domainsFrom v) d) → climbed v n (headAt v d .manager) ≡ 0
   unfolding domainsFrom headAt climbed
   climb zero d m = absurd m
-  climb (suc n) d m = go (slotOf (domainsFrom v) d) refl m (λ p x. climb n p x)
+  climb (suc n) d m = go (atSlot (domainsFrom v) d) refl m (λ p x. climb n p x)
     where
       up : (l : ℕ) → T (ifSome (λ p. managed n (domainsFrom v) p) (linked l)) → ((p : ℕ) → T (managed n (domainsFrom v) p) → climbed v n (headAt v p .manager) ≡ 0) → climbed v n (above v l) ≡ 0
       up zero x ih = climb-none v (suc n)
       up (suc p) x ih = ap (climbed v n) (above-is v (suc p) p refl) ∙ ih p x
 
-      go : (o : Option state.Domain) → slotOf (domainsFrom v) d ≡ o → T (managerPasses (λ p. managed n (domainsFrom v) p) o) → ((p : ℕ) → T (managed n (domainsFrom v) p) → climbed v n (headAt v p .manager) ≡ 0) → climbed v n (above v (headAt v d .manager)) ≡ 0
+      go : (o : Option state.Domain) → atSlot (domainsFrom v) d ≡ o → T (managerPasses (λ p. managed n (domainsFrom v) p) o) → ((p : ℕ) → T (managed n (domainsFrom v) p) → climbed v n (headAt v p .manager) ≡ 0) → climbed v n (above v (headAt v d .manager)) ≡ 0
       go none e x ih = absurd x
       go (some y) e x ih =
           let u = table-in D (v .domainPool) domainRead d y e in

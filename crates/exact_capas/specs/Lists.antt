@@ -7,18 +7,18 @@ use mathlib.Core.Bool.{true, not}
 use native.Mathlib.Omega.{arith}
 use lib.Dec.{T}
 use lib.ListN.{getD}
+use Rattle.base.specs.Tests.{is-true}
 use Rattle.model.specs.Lists.{Each, In}
 use Rattle.model.specs.State as state
 use Rattle.model.specs.State.{Word}
 use Rattle.model.specs.Pool.{isLive}
 use Rattle.model.specs.Tree.{isRootKind}
 use Rattle.model.specs.Sound.{RevokeFit, HandleFit}
-use Rattle.laws.specs.Cases.{is-true}
 use Rattle.tables.specs.declared.Handle.{Handle}
 use Rattle.tables.specs.Tables.{Tables, noDomain, noRegion, slotAt, regionAt}
 use Rattle.decoded.specs.Shape.{Shaped}
 use Rattle.decoded.specs.Decode.Read.{poolFrom, taken, kindFrom, handleFrom, heldIn, domainFrom, regionFrom, domainsFrom, regionsFrom, stateOf}
-use Rattle.decoded.specs.Settled.Pools.{table-in}
+use Rattle.decoded.specs.Canonical.Pools.{table-in}
 use Rattle.sound_capas.specs.Capas.{rowClaim, capasHold}
 use Rattle.exact_capas.specs.Clauses.{Stored, Before, CapasClauses}
 use Rattle.exact_capas.specs.Reads.{live-read, fit-in}
@@ -101,5 +101,5 @@ module _ (v : Tables) (k : Before v) (pass : capasHold v ≡ true) where
   clauses w = record { owners = owners v k pass; managers = managers v k pass; revokesFit = revokes; handlesFit = handles; coresWords = cores w }
 
 -- tables that pass the test of the capabilities
-pub capas-hold : (v : Tables) → Before v → Stored v → capasHold v ≡ true → CapasClauses v
-capas-hold v k w h = clauses v k h w
+pub passed-clauses : (v : Tables) → Before v → Stored v → capasHold v ≡ true → CapasClauses v
+passed-clauses v k w h = clauses v k h w

@@ -7,19 +7,21 @@ use native.Mathlib.Omega.{arith}
 use native.Mathlib.Decide.{ℕ-discrete}
 use lib.Dec.{eqb}
 use lib.ListN.{getD}
-use Rattle.model.specs.Lists.{oneIf, count, In}
+use borrow.Author.Tests.{lt-ltb, eq-eqb, ne-eqb}
+use Rattle.base.specs.Cases.{holds, fails, test}
+use Rattle.base.specs.Options.{none-some, some-same}
+use Rattle.model.specs.Lists.{oneIf, countIf, In}
 use Rattle.model.specs.State as state
 use Rattle.model.specs.Pool.{handleOf}
 use Rattle.model.specs.Sound.{ManagerSound, Managed, names, isManagementOf}
-use Rattle.laws.specs.Cases.{ltb-t, eqb-t, eqb-f, holds, fails, test}
-use Rattle.laws.specs.Tree.Sum.{sum}
-use Rattle.laws.specs.Tree.Slots.{is-live, none-some, some-same}
+use Rattle.laws.specs.Tree.Sum.{sum, sum-none}
+use Rattle.laws.specs.Tree.Slots.{is-live}
 use Rattle.tables.specs.Tables.{Tables, noDomain, headAt, slotAt}
 use Rattle.decoded.specs.Shape.{Shaped}
 use Rattle.decoded.specs.Decode.Read.{poolFrom, taken, linked, heldIn, domainFrom, domainsFrom, stateOf}
-use Rattle.decoded.specs.Settled.Pools.{table-used, table-in}
+use Rattle.decoded.specs.Canonical.Pools.{table-used, table-in}
 use Rattle.sound_capas.specs.Capas.{above, climbed, rowClaim, capasHold}
-use Rattle.exact_capas.specs.Grid.{sum-none, sum-only}
+use Rattle.exact_capas.specs.Grid.{sum-only}
 use Rattle.exact_capas.specs.Clauses.{Before}
 use Rattle.exact_capas.specs.Reads.{Lives, live-at}
 use Rattle.exact_capas.specs.Items.{Who, ofRegion, ofDomain, ofHead, who, management-claims, manager-is, head-climbs}
@@ -30,7 +32,7 @@ use Rattle.exact_capas.specs.Passed.{rows, Item, claimed, same-item}
 -- the manager's link of a domain that a link names
 pub above-is : (v : Tables) (l m : ℕ) → l ≡ suc m → above v l ≡ headAt v m .manager
 unfolding above
-above-is v l m e = let z : l - 1 ≡ m = omega arith in rw (ltb-t 0 l (omega arith)) (ap (λ i. headAt v i .manager) z)
+above-is v l m e = let z : l - 1 ≡ m = omega arith in rw (lt-ltb 0 l (omega arith)) (ap (λ i. headAt v i .manager) z)
 
 module _ (v : Tables) (k : Before v) (pass : capasHold v ≡ true) where
   abbrev s : Shaped v
@@ -88,7 +90,7 @@ module _ (v : Tables) (k : Before v) (pass : capasHold v ≡ true) where
       | holds u ↦ absurd (ne (same-item v k pass (R + d) e j m i be (omega arith) bm bi (match j c u) cl))
     ]
 
-    counted : Managing d → count (isManagementOf (handleOf (poolFrom D (v .domainPool)) d)) (domainRead e .locals .held) ≡ oneIf (names (linked (manager d)) e)
+    counted : Managing d → countIf (isManagementOf (handleOf (poolFrom D (v .domainPool)) d)) (domainRead e .locals .held) ≡ oneIf (names (linked (manager d)) e)
     unfolding poolFrom
     counted (by-head i l h cl z) = held-count v s e be (isManagementOf (handleOf (poolFrom D (v .domainPool)) d)) ∙ sum-none (holdsIt d e) S (λ j c. off d i b h cl j c (λ q. omega (arith, q .1))) ∙ sym (ap (λ n. oneIf (names (linked n) e)) z)
     counted (by-slot m i bm tm bi z l q cl w) = held-count v s e be (isManagementOf (handleOf (poolFrom D (v .domainPool)) d)) ∙ there (ℕ-discrete m e) ∙ sym (ap (λ n. oneIf (names (linked n) e)) w)
@@ -97,8 +99,8 @@ module _ (v : Tables) (k : Before v) (pass : capasHold v ≡ true) where
         here = held-management (poolFrom D (v .domainPool)) d (slotAt v m i) z q (sym (l .same) ∙ ap (λ n. getD (v .domainPool .gens) n 0) q)
 
         there : Prim.Dec (m ≡ e) → sum (holdsIt d e) S ≡ oneIf (eqb m e)
-        there (yes y) = sum-only (holdsIt d e) S i bi (λ j c ne. off m i bm (omega arith) cl j c (λ p. ne (p .1))) ∙ ap oneIf (ap (λ n. isManagementOf (handleOf (poolFrom D (v .domainPool)) d) (heldIn (slotAt v n i))) (sym y) ∙ here) ∙ sym (ap oneIf (eqb-t m e y))
-        there (no ne) = sum-none (holdsIt d e) S (λ j c. off m i bm (omega arith) cl j c (λ p. ne (sym (p .0)))) ∙ sym (ap oneIf (eqb-f m e ne))
+        there (yes y) = sum-only (holdsIt d e) S i bi (λ j c ne. off m i bm (omega arith) cl j c (λ p. ne (p .1))) ∙ ap oneIf (ap (λ n. isManagementOf (handleOf (poolFrom D (v .domainPool)) d) (heldIn (slotAt v n i))) (sym y) ∙ here) ∙ sym (ap oneIf (eq-eqb m e y))
+        there (no ne) = sum-none (holdsIt d e) S (λ j c. off m i bm (omega arith) cl j c (λ p. ne (sym (p .0)))) ∙ sym (ap oneIf (ne-eqb m e ne))
 
   -- ---- no circle
 
@@ -116,7 +118,7 @@ module _ (v : Tables) (k : Before v) (pass : capasHold v ≡ true) where
   -- by what stands above domain m
   step : (m x : ℕ) → m < D → taken (v .domainPool) m ≡ true → manager m ≡ x → ((p : ℕ) → manager m ≡ suc p → p < D → taken (v .domainPool) p ≡ true → Managed (domainsFrom v) p) → Managed (domainsFrom v) m
   unfolding headAt
-  step m zero b t e f = Managed.unmanaged m (domainRead m) (in-use m b t) (ap linked e)
+  step m zero b t e f = Managed.noManager m (domainRead m) (in-use m b t) (ap linked e)
   step m (suc p) b t e f = let u = up m p b t e in Managed.by m p (domainRead m) (in-use m b t) (ap linked e) (f p e (u .0) (u .1))
 
   climb : (n l : ℕ) → climbed v n l ≡ 0 → (m : ℕ) → l ≡ suc m → m < D → taken (v .domainPool) m ≡ true → Managed (domainsFrom v) m
@@ -136,7 +138,7 @@ module _ (v : Tables) (k : Before v) (pass : capasHold v ≡ true) where
         managerLive = λ m e. let z = up d m (u .0) (u .1) (link-out (manager d) m (w ∙ e)) in is-live _ (domainRead m) (table-used D (v .domainPool) domainRead m (z .0) (z .1));
         oneManagement = λ e y g.
             let z = table-in D (v .domainPool) domainRead e y g in
-            subst (λ (a : state.Domain). count (isManagementOf (handleOf (poolFrom D (v .domainPool)) d)) (a .locals .held) ≡ oneIf (names (x .manager) e)) (z .2)
+            subst (λ (a : state.Domain). countIf (isManagementOf (handleOf (poolFrom D (v .domainPool)) d)) (a .locals .held) ≡ oneIf (names (x .manager) e)) (z .2)
             (counted d (u .0) (u .1) e (z .0) (z .1) (managing d (u .0) (u .1)) ∙ ap (λ o. oneIf (names o e)) w);
         managed = no-circle d (u .0) (u .1);
       }

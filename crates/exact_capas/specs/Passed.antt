@@ -7,20 +7,24 @@ use native.Mathlib.Omega.{arith}
 use native.Mathlib.Decide.{ℕ-discrete}
 use lib.Dec.{eqb}
 use lib.ListN.{getD}
-use Rattle.model.specs.Lists.{oneIf, count, In}
+use borrow.Author.Tests.{eq-eqb, ne-eqb}
+use Rattle.base.specs.Cases.{lt, ge, cmp, holds, fails, test}
+use Rattle.model.specs.Lists.{oneIf, countIf, In}
 use Rattle.model.specs.State as state
 use Rattle.model.specs.Pool.{handleOf}
 use Rattle.model.specs.Sound.{OwnerSound, isRegionOf}
-use Rattle.laws.specs.Cases.{lt, ge, cmp, eqb-t, eqb-f, holds, fails, test}
 use Rattle.laws.specs.Tree.Slots.{is-live}
+use Rattle.laws.specs.Tree.Sum.{sum-none}
+use Rattle.laws.specs.Words.SameTables.{unlink}
 use Rattle.tables.specs.Tables.{Tables, noDomain, noRegion, slotAt, regionAt}
 use Rattle.decoded.specs.Shape.{Shaped}
-use Rattle.decoded.specs.Decode.Read.{poolFrom, taken, unlink, heldIn, domainFrom, regionFrom, domainsFrom, regionsFrom, stateOf}
-use Rattle.decoded.specs.Settled.Pools.{table-used, table-in}
+use Rattle.decoded.specs.Decode.Read.{poolFrom, taken, heldIn, domainFrom, regionFrom, domainsFrom, regionsFrom, stateOf}
+use Rattle.decoded.specs.Canonical.Pools.{table-used, table-in}
+use Rattle.decoded.specs.Canonical.Pools.{table-used, table-in}
 use Rattle.sound_capas.specs.Claims.{claimCount}
 use Rattle.sound_capas.specs.Capas.{inUse, rowClaim, capaClaim, capasHold}
 use Rattle.exact_capas.specs.Fits.{FitFrom, times, By, times-by, times-once, count-sum, sum-tight, holds-out}
-use Rattle.exact_capas.specs.Grid.{Rows, fit-rows, row-below, place-below, sum-none, sum-only}
+use Rattle.exact_capas.specs.Grid.{Rows, fit-rows, row-below, place-below, sum-only}
 use Rattle.exact_capas.specs.Clauses.{Before}
 use Rattle.exact_capas.specs.Reads.{Lives, live-at}
 use Rattle.exact_capas.specs.Items.{Who, ofRegion, ofDomain, ofHead, who, region-claims, owner-is}
@@ -129,7 +133,7 @@ module _ (v : Tables) (k : Before v) (pass : capasHold v ≡ true) where
       let l : Lives R (v .regionPool) (x .handle) = record { below = omega (arith, m .1); used = ap (taken (v .regionPool)) (m .1) ∙ ti; same = ap (λ n. getD (v .regionPool .gens) n 0) (m .1) ∙ sym (m .2) } in
       region-claims v s d j td bj (m .0) l (owner-is v s d j td bj (rows .within d j bd (omega arith)) (m .0) (live-at R (v .regionPool) (s .regionPool) (x .handle) l)) ∙ ap suc (m .1)
 
-  one-slot : (i : ℕ) → i < R → taken (v .regionPool) i ≡ true → (o : Owner i) (d : ℕ) → d < D → taken (v .domainPool) d ≡ true → count (isRegionOf (handleOf (poolFrom R (v .regionPool)) i)) (domainRead d .locals .held) ≡ oneIf (eqb (o .dom) d)
+  one-slot : (i : ℕ) → i < R → taken (v .regionPool) i ≡ true → (o : Owner i) (d : ℕ) → d < D → taken (v .domainPool) d ≡ true → countIf (isRegionOf (handleOf (poolFrom R (v .regionPool)) i)) (domainRead d .locals .held) ≡ oneIf (eqb (o .dom) d)
   unfolding poolFrom
   one-slot i bi ti o d bd td = held-count v s d bd (isRegionOf (handleOf (poolFrom R (v .regionPool)) i)) ∙ elim (ℕ-discrete (o .dom) d) [
     | yes e ↦
@@ -137,8 +141,8 @@ module _ (v : Tables) (k : Before v) (pass : capasHold v ≡ true) where
         held-region (poolFrom R (v .regionPool)) i (slotAt v (o .dom) (o .place)) (o .kind) (o .slot) (sym (o .lives .same) ∙ ap (λ n. getD (v .regionPool .gens) n 0) (o .slot)) in
         sum-only (λ j. oneIf (isRegionOf (handleOf (poolFrom R (v .regionPool)) i) (heldIn (slotAt v d j)))) S (o .place) (o .placeBelow) (λ j b ne. off j b (λ q. ne (q .1)))
         ∙ ap oneIf (ap (λ n. isRegionOf (handleOf (poolFrom R (v .regionPool)) i) (heldIn (slotAt v n (o .place)))) (sym e) ∙ here)
-        ∙ sym (ap oneIf (eqb-t (o .dom) d e))
-    | no ne ↦ sum-none (λ j. oneIf (isRegionOf (handleOf (poolFrom R (v .regionPool)) i) (heldIn (slotAt v d j)))) S (λ j b. off j b (λ q. ne (sym (q .0)))) ∙ sym (ap oneIf (eqb-f (o .dom) d ne))
+        ∙ sym (ap oneIf (eq-eqb (o .dom) d e))
+    | no ne ↦ sum-none (λ j. oneIf (isRegionOf (handleOf (poolFrom R (v .regionPool)) i) (heldIn (slotAt v d j)))) S (λ j b. off j b (λ q. ne (sym (q .0)))) ∙ sym (ap oneIf (ne-eqb (o .dom) d ne))
   ]
     where
       off : (j : ℕ) → j < S → ((d ≡ o .dom) × (j ≡ o .place) → ⊥) → oneIf (isRegionOf (handleOf (poolFrom R (v .regionPool)) i) (heldIn (slotAt v d j))) ≡ 0
@@ -157,6 +161,6 @@ module _ (v : Tables) (k : Before v) (pass : capasHold v ≡ true) where
         ownerLive = is-live _ (domainRead (g .owner)) (table-used D (v .domainPool) domainRead (g .owner) (omega (arith, o .domBelow)) (ap (taken (v .domainPool)) w ∙ o .domUsed));
         oneSlot = λ d x f.
             let z = table-in D (v .domainPool) domainRead d x f in
-            subst (λ (y : state.Domain). count (isRegionOf (handleOf (poolFrom R (v .regionPool)) i)) (y .locals .held) ≡ oneIf (eqb (g .owner) d)) (z .2)
+            subst (λ (y : state.Domain). countIf (isRegionOf (handleOf (poolFrom R (v .regionPool)) i)) (y .locals .held) ≡ oneIf (eqb (g .owner) d)) (z .2)
             (one-slot i (u .0) (u .1) o d (z .0) (z .1) ∙ ap (λ n. oneIf (eqb n d)) (sym w));
       }

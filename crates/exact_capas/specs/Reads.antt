@@ -1,36 +1,26 @@
 -- What the tests read of a pool and what the model says of its handles.
-use mathlib.Core.Path.{_≡_, ap}
+use mathlib.Core.Path.{_≡_}
 use Prim.Native.Nat.{ℕ, _≤_, _<_}
 use mathlib.Core.Bool.{true, false}
 use mathlib.Core.Option.{some, none}
 use native.Mathlib.Omega.{arith}
-use borrow.Author.Tests.{ltb-true, eqb-true}
+use borrow.Author.Tests.{ltb-true, eqb-true, lt-ltb, le-ltb, eq-eqb}
 use lib.Dec.{eqb, ltb}
 use lib.ListN.{length, getD, List·getD-eq-default}
-use Rattle.model.specs.Lists.{if_then_else_, oneIf, slotOf}
+use Rattle.base.specs.Cases.{lt, ge, cmp, holds, fails, test}
+use Rattle.base.specs.Tests.{both, both-true, is-true, true-is}
+use Rattle.model.specs.Lists.{atSlot, if_then_else_}
 use Rattle.model.specs.Pool.{isLive}
 use Rattle.model.specs.Sound.{LiveOrOlder}
-use Rattle.words.specs.Cases.{both, both-true}
-use Rattle.laws.specs.Cases.{lt, ge, cmp, ltb-t, ltb-f, eqb-t, holds, fails, test, is-true, true-is}
 use Rattle.tables.specs.declared.Handle.{Handle}
 use Rattle.tables.specs.Tables.{Arena}
-use Rattle.arena.specs.Arena.{isFreeB, liveB}
+use Rattle.arena.specs.Arena.{liveB}
 use Rattle.decoded.specs.Rows.{map-up-length}
 use Rattle.decoded.specs.Shape.{PoolShaped}
 use Rattle.decoded.specs.Decode.Read.{poolFrom, taken, tableFrom, handleFrom}
-use Rattle.decoded.specs.Settled.Pools.{table-used, table-free, taken-link, free-link}
+use Rattle.decoded.specs.Canonical.Pools.{table-used, table-free}
+use Rattle.decoded.specs.Canonical.Pools.{table-used, table-free}
 use Rattle.sound_capas.specs.Capas.{olderB}
-
-pub yes-no : true ≡ false → ⊥
-yes-no p = let z : _≡_ {A = ℕ} 1 0 = ap oneIf p in omega arith
-
-pub not-free : (a : Arena) (i : ℕ) → taken a i ≡ true → isFreeB a i ≡ false
-unfolding isFreeB
-not-free a i t = ltb-f 0 (getD (a .links) i 0) (omega (arith, taken-link a i t))
-
-pub free-is : (a : Arena) (i : ℕ) → taken a i ≡ false → isFreeB a i ≡ true
-unfolding isFreeB
-free-is a i t = ltb-t 0 (getD (a .links) i 0) (free-link a i t)
 
 -- a live handle: its slot is in use, and has its generation
 pub record Lives (n : ℕ) (a : Arena) (h : Handle) : Type 0 where
@@ -48,20 +38,20 @@ module _ (n : ℕ) (a : Arena) (s : PoolShaped n a) where
 
   pub live-at : (h : Handle) → Lives n a h → liveB a h ≡ true
   unfolding liveB
-  live-at h l = rw (ltb-t (h .slot) (length (a .links)) (omega (arith, l .below, s .links)), l .used, eqb-t (getD (a .gens) (h .slot) 0) (h .generation) (l .same))
+  live-at h l = rw (lt-ltb (h .slot) (length (a .links)) (omega (arith, l .below, s .links)), l .used, eq-eqb (getD (a .gens) (h .slot) 0) (h .generation) (l .same))
 
   module _ {A : Type 0} (f : ℕ → A) where
     pub live-read : (h : Handle) → isLive (poolFrom n a) (tableFrom n a f) (handleFrom h) ≡ liveB a h
     unfolding poolFrom liveB
     live-read h = elim (cmp (h .slot) n) [
-      | ge b ↦ rw (beyond (h .slot) b, ltb-f (h .slot) (length (a .links)) (omega (arith, s .links)))
+      | ge b ↦ rw (beyond (h .slot) b, le-ltb (h .slot) (length (a .links)) (omega (arith, s .links)))
       | lt b ↦ elim (test (taken a (h .slot))) [
-        | holds t ↦ rw (table-used n a f (h .slot) b t, ltb-t (h .slot) (length (a .links)) (omega (arith, s .links)), t)
-        | fails t ↦ rw (table-free n a f (h .slot) b t, ltb-t (h .slot) (length (a .links)) (omega (arith, s .links)), t)
+        | holds t ↦ rw (table-used n a f (h .slot) b t, lt-ltb (h .slot) (length (a .links)) (omega (arith, s .links)), t)
+        | fails t ↦ rw (table-free n a f (h .slot) b t, lt-ltb (h .slot) (length (a .links)) (omega (arith, s .links)), t)
       ]
     ]
       where
-        beyond : (i : ℕ) → n ≤ i → slotOf (tableFrom n a f) i ≡ none
+        beyond : (i : ℕ) → n ≤ i → atSlot (tableFrom n a f) i ≡ none
         beyond i b = List·getD-eq-default (tableFrom n a f) none (omega (arith, map-up-length (λ i. if taken a i then some (f i) else none) n))
 
     -- live or older

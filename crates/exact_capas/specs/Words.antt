@@ -1,24 +1,16 @@
 -- Where all words of the memory are 64-bit words, so are the numbers of the tables that they show.
 use Prim.Native.Nat.{ℕ, zero, suc}
 use mathlib.Core.List.{List, [], _∷_}
-use native.Mathlib.Omega.{arith}
 use lib.ListN.{getD, take, drop}
 use Rattle.model.specs.Lists.{Each}
 use Rattle.model.specs.State.{Word}
+use Rattle.laws.specs.Lists.{word-at, zero-word}
 use Rattle.words.specs.Rows.{rows}
 use Rattle.words.specs.Cuts.{cuts}
 use Rattle.tables.specs.Tables.{Domain, noDomain}
 use Rattle.sizes.specs.Sizes.{sizesOf, stride, widths}
 use Rattle.tables.specs.View.{domainOf, ofParts, view}
 use Rattle.exact_capas.specs.Clauses.{Stored}
-
-pub zero-word : Word 0
-zero-word = omega arith
-
-pub word-at : (l : List ℕ) (i : ℕ) → Each Word l → Word (getD l i 0)
-word-at [] i h = zero-word
-word-at (x ∷ l) zero h = h .0
-word-at (x ∷ l) (suc i) h = word-at l i (h .1)
 
 take-words : (n : ℕ) (l : List ℕ) → Each Word l → Each Word (take n l)
 take-words zero l h = tt

@@ -5,28 +5,19 @@ use mathlib.Core.Bool.{Bool, true, false, not}
 use mathlib.Core.Option.{none}
 use native.Mathlib.Omega.{arith}
 use lib.ListN.{length, getD}
-use Rattle.words.specs.Cases.{pick, both, both-true}
+use Rattle.base.specs.Cases.{pick, pick-t, pick-f}
+use Rattle.base.specs.Tests.{both, both-true, all-at, at-all, both-i}
 use Rattle.tables.specs.Tables.{Tables, noDomain, noSlot, headAt, slotAt, regionAt, recordAt}
 use Rattle.decoded.specs.Shape.{Shaped}
 use Rattle.decoded.specs.Tables.{domainFor}
 use Rattle.decoded.specs.Decode.Read.{taken}
-use Rattle.decoded.specs.Settled.Law.{each-at}
-use Rattle.decoded.specs.Settled.Tidy.{SlotTidy, domainRow, regionRow, recordRow}
+use Rattle.decoded.specs.Canonical.Law.{each-at}
+use Rattle.decoded.specs.Canonical.WellFormed.{SlotWellFormed, domainRow, regionRow, recordRow}
 use Rattle.sound_pools.specs.declared.links.Stack.the-variants.{Domains, Regions, Records, Slots, Trackers}
-use Rattle.sound_pools.specs.Hold.{mayMeet, eligible, nextOf, topOf, stackHolds, headClear, slotClear, slotTidy, slotsHold, domainHolds, regionClear, recordClear, rowHolds, rowsHold}
-use Rattle.exact_pools.specs.Walks.{all-at, at-all}
+use Rattle.sound_pools.specs.Hold.{mayMeet, eligible, nextOf, topOf, stackHolds, headClear, slotClear, slotWellFormed, slotsHold, domainHolds, regionClear, recordClear, rowHolds, rowsHold}
 use Rattle.exact_pools.specs.Stacks.{testOf}
 use Rattle.exact_pools.specs.Pools.{both-in, both-out, free-taken, freeB, linkOf, slotFree, slotLink, ListGood, list-good, good-list}
-use Rattle.exact_pools.specs.Rows.{domain-zero, zero-domain-head, zero-domain-slot, slot-tidy, tidy-slot}
-
-pub both-i : (a b : Bool) → a ≡ true → b ≡ true → both a b ≡ true
-both-i a b p q = rw (p, q)
-
-pub pick-t : (m b x y : Bool) → m ≡ b → b ≡ true → pick m x y ≡ x
-pick-t m b x y e t = ap (λ q. pick q x y) (e ∙ t)
-
-pub pick-f : (m b x y : Bool) → m ≡ b → b ≡ false → pick m x y ≡ y
-pick-f m b x y e t = ap (λ q. pick q x y) (e ∙ t)
+use Rattle.exact_pools.specs.Rows.{domain-zero, zero-domain-head, zero-domain-slot, slot-well-formed, well-formed-slot}
 
 module _ (v : Tables) where
   -- ---- a slot that may be met is free
@@ -79,25 +70,25 @@ module _ (v : Tables) where
 
     -- ---- a domain in use
 
-    slots-tidy : slotsHold v d false ≡ true → (j : ℕ) → j < v .sizes .slots → SlotTidy (getD (domainRow v d .slots) j noSlot)
+    slots-well-formed : slotsHold v d false ≡ true → (j : ℕ) → j < v .sizes .slots → SlotWellFormed (getD (domainRow v d .slots) j noSlot)
     unfolding slotsHold slotAt
-    slots-tidy h j l = slot-tidy (getD (domainRow v d .slots) j noSlot) (all-at (λ k. slotTidy (getD (domainRow v d .slots) k noSlot)) 0 (v .sizes .slots) h j (omega arith) (omega arith))
+    slots-well-formed h j l = slot-well-formed (getD (domainRow v d .slots) j noSlot) (all-at (λ k. slotWellFormed (getD (domainRow v d .slots) k noSlot)) 0 (v .sizes .slots) h j (omega arith) (omega arith))
 
-    tidy-slots : ((j : ℕ) → j < v .sizes .slots → SlotTidy (getD (domainRow v d .slots) j noSlot)) → slotsHold v d false ≡ true
+    well-formed-slots : ((j : ℕ) → j < v .sizes .slots → SlotWellFormed (getD (domainRow v d .slots) j noSlot)) → slotsHold v d false ≡ true
     unfolding slotsHold slotAt
-    tidy-slots h = at-all (λ k. slotTidy (getD (domainRow v d .slots) k noSlot)) 0 (v .sizes .slots) (λ j a l. tidy-slot (getD (domainRow v d .slots) j noSlot) (h j (omega arith)))
+    well-formed-slots h = at-all (λ k. slotWellFormed (getD (domainRow v d .slots) k noSlot)) 0 (v .sizes .slots) (λ j a l. well-formed-slot (getD (domainRow v d .slots) j noSlot) (h j (omega arith)))
 
     used-is : taken (v .domainPool) d ≡ true → domainHolds v d ≡ both (slotsHold v d false) (stackHolds v (Slots d))
     unfolding domainHolds
-    used-is t = pick-f (mayMeet v Domains d) (not (taken (v .domainPool) d)) _ _ (domain-free d b) (ap not t)
+    used-is t = pick-f (mayMeet v Domains d) _ _ (domain-free d b ∙ ap not t)
 
-    pub used-holds : taken (v .domainPool) d ≡ true → domainHolds v d ≡ true → ((j : ℕ) → j < v .sizes .slots → SlotTidy (getD (domainRow v d .slots) j noSlot)) × RowGood
+    pub used-holds : taken (v .domainPool) d ≡ true → domainHolds v d ≡ true → ((j : ℕ) → j < v .sizes .slots → SlotWellFormed (getD (domainRow v d .slots) j noSlot)) × RowGood
     used-holds t h =
         let p = both-true (slotsHold v d false) (stackHolds v (Slots d)) (sym (used-is t) ∙ h) in
-        (slots-tidy (p .0), list-good (v .sizes .slots) (domainRow v d) slots-many (sym list-stack ∙ p .1))
+        (slots-well-formed (p .0), list-good (v .sizes .slots) (domainRow v d) slots-many (sym list-stack ∙ p .1))
 
-    pub holds-used : taken (v .domainPool) d ≡ true → ((j : ℕ) → j < v .sizes .slots → SlotTidy (getD (domainRow v d .slots) j noSlot)) → RowGood → domainHolds v d ≡ true
-    holds-used t h g = used-is t ∙ both-i (slotsHold v d false) (stackHolds v (Slots d)) (tidy-slots h) (list-stack ∙ good-list (v .sizes .slots) (domainRow v d) slots-many (omega (arith, s .limits .slots-low)) g)
+    pub holds-used : taken (v .domainPool) d ≡ true → ((j : ℕ) → j < v .sizes .slots → SlotWellFormed (getD (domainRow v d .slots) j noSlot)) → RowGood → domainHolds v d ≡ true
+    holds-used t h g = used-is t ∙ both-i (slotsHold v d false) (stackHolds v (Slots d)) (well-formed-slots h) (list-stack ∙ good-list (v .sizes .slots) (domainRow v d) slots-many (omega (arith, s .limits .slots-low)) g)
 
     -- ---- a free one
 
@@ -111,7 +102,7 @@ module _ (v : Tables) where
 
     free-is : taken (v .domainPool) d ≡ false → domainHolds v d ≡ both (headClear (domainRow v d .head)) (slotsHold v d true)
     unfolding domainHolds headAt
-    free-is t = pick-t (mayMeet v Domains d) (not (taken (v .domainPool) d)) _ _ (domain-free d b) (ap not t)
+    free-is t = pick-t (mayMeet v Domains d) _ _ (domain-free d b ∙ ap not t)
 
     pub free-holds : taken (v .domainPool) d ≡ false → domainHolds v d ≡ true → domainRow v d ≡ domainFor (v .sizes .slots) none
     free-holds t h =
@@ -135,24 +126,24 @@ module _ (v : Tables) where
 
   pub regions-hold : rowsHold v Regions ≡ true → (i : ℕ) → i < v .sizes .regions → taken (v .regionPool) i ≡ false → regionClear (regionRow v i) ≡ true
   unfolding rowsHold rowHolds regionAt
-  regions-hold h i b t = sym (pick-t (mayMeet v Regions i) (not (taken (v .regionPool) i)) (regionClear (regionRow v i)) true (region-free i b) (ap not t)) ∙ all-at (rowHolds v Regions) 0 (v .sizes .regions) h i (omega arith) (omega arith)
+  regions-hold h i b t = sym (pick-t (mayMeet v Regions i) (regionClear (regionRow v i)) true (region-free i b ∙ ap not t)) ∙ all-at (rowHolds v Regions) 0 (v .sizes .regions) h i (omega arith) (omega arith)
 
   pub hold-regions : ((i : ℕ) → i < v .sizes .regions → taken (v .regionPool) i ≡ false → regionClear (regionRow v i) ≡ true) → rowsHold v Regions ≡ true
   unfolding rowsHold rowHolds regionAt
   hold-regions h = at-all (rowHolds v Regions) 0 (v .sizes .regions) (λ i a b. at i (omega arith) (taken (v .regionPool) i) refl)
     where
       at : (i : ℕ) → i < v .sizes .regions → (q : Bool) → taken (v .regionPool) i ≡ q → pick (mayMeet v Regions i) (regionClear (regionRow v i)) true ≡ true
-      at i b true t = pick-f (mayMeet v Regions i) (not (taken (v .regionPool) i)) _ true (region-free i b) (ap not t)
-      at i b false t = pick-t (mayMeet v Regions i) (not (taken (v .regionPool) i)) _ true (region-free i b) (ap not t) ∙ h i b t
+      at i b true t = pick-f (mayMeet v Regions i) _ true (region-free i b ∙ ap not t)
+      at i b false t = pick-t (mayMeet v Regions i) _ true (region-free i b ∙ ap not t) ∙ h i b t
 
   pub records-hold : rowsHold v Records ≡ true → (i : ℕ) → i < v .sizes .records → taken (v .recordPool) i ≡ false → recordClear (recordRow v i) ≡ true
   unfolding rowsHold rowHolds recordAt
-  records-hold h i b t = sym (pick-t (mayMeet v Records i) (not (taken (v .recordPool) i)) (recordClear (recordRow v i)) true (record-free i b) (ap not t)) ∙ all-at (rowHolds v Records) 0 (v .sizes .records) h i (omega arith) (omega arith)
+  records-hold h i b t = sym (pick-t (mayMeet v Records i) (recordClear (recordRow v i)) true (record-free i b ∙ ap not t)) ∙ all-at (rowHolds v Records) 0 (v .sizes .records) h i (omega arith) (omega arith)
 
   pub hold-records : ((i : ℕ) → i < v .sizes .records → taken (v .recordPool) i ≡ false → recordClear (recordRow v i) ≡ true) → rowsHold v Records ≡ true
   unfolding rowsHold rowHolds recordAt
   hold-records h = at-all (rowHolds v Records) 0 (v .sizes .records) (λ i a b. at i (omega arith) (taken (v .recordPool) i) refl)
     where
       at : (i : ℕ) → i < v .sizes .records → (q : Bool) → taken (v .recordPool) i ≡ q → pick (mayMeet v Records i) (recordClear (recordRow v i)) true ≡ true
-      at i b true t = pick-f (mayMeet v Records i) (not (taken (v .recordPool) i)) _ true (record-free i b) (ap not t)
-      at i b false t = pick-t (mayMeet v Records i) (not (taken (v .recordPool) i)) _ true (record-free i b) (ap not t) ∙ h i b t
+      at i b true t = pick-f (mayMeet v Records i) _ true (record-free i b ∙ ap not t)
+      at i b false t = pick-t (mayMeet v Records i) _ true (record-free i b ∙ ap not t) ∙ h i b t

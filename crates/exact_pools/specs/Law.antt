@@ -1,27 +1,29 @@
 -- Laws: each of the two parts of the test of pools and slot lists holds exactly where its clauses do.
 use mathlib.Core.Path.{_≡_, refl, sym, ap, subst, _∙_}
+use mathlib.Core.Logic.{_↔_}
 use Prim.Native.Nat.{ℕ, _<_}
 use mathlib.Core.Bool.{Bool, true, false}
 use native.Mathlib.Omega.{arith}
 use lib.ListN.{length, length-map}
+use borrow.Author.Tests.{lt-ltb, le-ltb}
+use Rattle.base.specs.Cases.{lt, ge, cmp, holds, fails, test}
+use Rattle.base.specs.Tests.{both-true, both-i}
 use Rattle.model.specs.Lists.{oneIf, In}
 use Rattle.model.specs.State as state
-use Rattle.model.specs.Sound.{OutsideSound, TrackersSound, OnceEach, inUse}
-use Rattle.laws.specs.Cases.{lt, ge, cmp, ltb-t, ltb-f, holds, fails, test}
+use Rattle.model.specs.Sound.{OutsideSound, TrackersSound, OnceEach, slotUses}
 use Rattle.laws.specs.Stack.{once-at-most, none-beyond}
-use Rattle.words.specs.Cases.{both-true}
 use Rattle.tables.specs.Tables.{Tables}
 use Rattle.decoded.specs.Shape.{Shaped}
 use Rattle.decoded.specs.Decode.Read.{taken, freeFrom, heldIn, domainFrom, regionFrom, domainsFrom, regionsFrom, poolFrom, stateOf}
-use Rattle.decoded.specs.Settled.Tidy.{OutsideTidy, TrackersTidy, DomainTidy, domainRow, regionRow, recordRow}
-use Rattle.decoded.specs.Settled.Pools.{table-used, table-in}
+use Rattle.decoded.specs.Canonical.WellFormed.{OutsideWellFormed, TrackersWellFormed, DomainWellFormed, domainRow, regionRow, recordRow}
+use Rattle.decoded.specs.Canonical.Pools.{table-used, table-in}
 use Rattle.sound_pools.specs.declared.links.Stack.the-variants.{Domains, Regions, Records, Trackers}
 use Rattle.sound_pools.specs.Hold.{mayMeet, domainHolds, stackHolds, rowsHold, trackersHold, poolHolds, outsidePoolsHold, recordPoolHolds}
 use Rattle.exact_pools.specs.Clauses.{PoolsClauses, RecordClauses}
-use Rattle.exact_pools.specs.Pools.{PoolGood, pool-good, good-pool, good-tidy, good-marked, good-beyond, good-used, good-free, good-once, once-good, marked-good, list-once, once-list}
+use Rattle.exact_pools.specs.Pools.{PoolGood, pool-good, good-pool, good-well-formed, good-marked, good-beyond, good-used, good-free, good-once, once-good, marked-good, list-once, once-list}
 use Rattle.exact_pools.specs.Rows.{region-zero, zero-region, record-zero, zero-record}
 use Rattle.exact_pools.specs.Trackers.{uses, TrackersGood, trackers-good, good-trackers}
-use Rattle.exact_pools.specs.Domains.{both-i, record-used, no-record, domain-stack, region-stack, record-stack, slots-many, RowGood, used-holds, holds-used, free-holds, holds-free, domains-hold, hold-domains, regions-hold, hold-regions, records-hold, hold-records}
+use Rattle.exact_pools.specs.Domains.{record-used, no-record, domain-stack, region-stack, record-stack, slots-many, RowGood, used-holds, holds-used, free-holds, holds-free, domains-hold, hold-domains, regions-hold, hold-regions, records-hold, hold-records}
 
 module _ (v : Tables) (s : Shaped v) where
   abbrev domainRead : ℕ → state.Domain
@@ -61,13 +63,13 @@ module _ (v : Tables) (s : Shaped v) where
   -- ---- test to clauses
 
   module _ (p : Parts) where
-    domains-used : (i : ℕ) → i < v .sizes .domains → taken (v .domainPool) i ≡ true → DomainTidy (v .sizes .slots) (domainRow v i)
+    domains-used : (i : ℕ) → i < v .sizes .domains → taken (v .domainPool) i ≡ true → DomainWellFormed (v .sizes .slots) (domainRow v i)
     domains-used i b t =
         let u = used-holds v s i b t (domains-hold v (p .domainRows) i b) in
         record { fits = u .1 .fits; ends = u .1 .ends; slots = u .0 }
 
     abbrev ListClause : state.Domain → Type 0
-    ListClause x = (length (x .locals .held) ≡ v .sizes .slots) × OnceEach (v .sizes .slots) (inUse (x .locals .held)) (x .locals .free)
+    ListClause x = (length (x .locals .held) ≡ v .sizes .slots) × OnceEach (v .sizes .slots) (slotUses (x .locals .held)) (x .locals .free)
 
     list-at : (d : ℕ) → d < v .sizes .domains → taken (v .domainPool) d ≡ true → ListClause (domainRead d)
     list-at d b t =
@@ -81,8 +83,8 @@ module _ (v : Tables) (s : Shaped v) where
     clauses : PoolsClauses v
     unfolding stateOf domainsFrom regionsFrom poolFrom
     clauses = record {
-      domainPool = good-tidy (v .sizes .domains) (v .domainPool) (p .domains);
-      regionPool = good-tidy (v .sizes .regions) (v .regionPool) (p .regions);
+      domainPool = good-well-formed (v .sizes .domains) (v .domainPool) (p .domains);
+      regionPool = good-well-formed (v .sizes .regions) (v .regionPool) (p .regions);
       domainsUsed = domains-used;
       domainsFree = λ i b t. free-holds v s i b t (domains-hold v (p .domainRows) i b);
       regionsFree = λ i b t. region-zero (regionRow v i) (regions-hold v (p .regionRows) i b t);
@@ -90,9 +92,6 @@ module _ (v : Tables) (s : Shaped v) where
       regionOnce = good-once (v .sizes .regions) (v .regionPool) (p .regions) regionRead;
       lists = all-lists;
     }
-
-  pub pools-hold : outsidePoolsHold v ≡ true → PoolsClauses v
-  pools-hold h = clauses (parts h)
 
   -- ---- clauses to test
 
@@ -116,13 +115,16 @@ module _ (v : Tables) (s : Shaped v) where
     domain-at d b true y = holds-used v s d b y (c .domainsUsed d b y .slots) (row-good d b y)
     domain-at d b false y = holds-free v s d b y (c .domainsFree d b y)
 
-    pub clauses-hold : outsidePoolsHold v ≡ true
+    clauses-hold : outsidePoolsHold v ≡ true
     clauses-hold = whole (record {
       domains = domains-good;
       regions = regions-good;
       domainRows = hold-domains v (λ d b. domain-at d b (taken (v .domainPool) d) refl);
       regionRows = hold-regions v (λ i b y. zero-region (regionRow v i) (c .regionsFree i b y));
     })
+
+  pub pools-exact : (outsidePoolsHold v ≡ true) ↔ PoolsClauses v
+  pools-exact = (λ h. clauses (parts h), clauses-hold)
 
   -- ---- records
 
@@ -155,26 +157,23 @@ module _ (v : Tables) (s : Shaped v) where
         let a = v .recordPool in
         elim (cmp i n) [
           | lt b ↦ elim (test (taken a i)) [
-            | holds t ↦ omega (arith, p .trackers .once i, ap oneIf (record-used v i b ∙ t), good-used n a (p .records) i b t, ap oneIf (ltb-t i n b))
-            | fails t ↦ omega (arith, p .trackers .once i, ap oneIf (record-used v i b ∙ t), good-free n a (p .records) i b t, ap oneIf (ltb-t i n b))
+            | holds t ↦ omega (arith, p .trackers .once i, ap oneIf (record-used v i b ∙ t), good-used n a (p .records) i b t, ap oneIf (lt-ltb i n b))
+            | fails t ↦ omega (arith, p .trackers .once i, ap oneIf (record-used v i b ∙ t), good-free n a (p .records) i b t, ap oneIf (lt-ltb i n b))
           ]
-          | ge b ↦ omega (arith, p .trackers .once i, ap oneIf (no-record v i b), good-beyond n a (p .records) i b, ap oneIf (ltb-f i n b))
+          | ge b ↦ omega (arith, p .trackers .once i, ap oneIf (no-record v i b), good-beyond n a (p .records) i b, ap oneIf (le-ltb i n b))
         ]
 
     record-clauses : RecordClauses v
     unfolding stateOf domainsFrom poolFrom uses
     record-clauses = record {
-      tidy = record {
-        recordPool = good-tidy (v .sizes .records) (v .recordPool) (p .records);
+      wellFormed = record {
+        recordPool = good-well-formed (v .sizes .records) (v .recordPool) (p .records);
         recordMarks = good-marked (v .sizes .records) (v .recordPool) (p .records);
         trackersEnd = p .trackers .ends;
         recordsFree = λ i b t. record-zero (recordRow v i) (records-hold v (p .recordRows) i b t);
       };
       recordOnce = record-once;
     }
-
-  pub record-pool-holds : recordPoolHolds v ≡ true → RecordClauses v
-  record-pool-holds h = record-clauses (record-parts h)
 
   module _ (c : RecordClauses v) where
     once-records : OnceEach (v .sizes .records) (uses v 0 (v .sizes .domains)) (freeFrom (v .sizes .records) (v .recordPool))
@@ -183,7 +182,7 @@ module _ (v : Tables) (s : Shaped v) where
 
     records-good : PoolGood (v .sizes .records) (v .recordPool)
     records-good =
-        marked-good (v .sizes .records) (v .recordPool) (c .tidy .recordPool) (c .tidy .recordMarks)
+        marked-good (v .sizes .records) (v .recordPool) (c .wellFormed .recordPool) (c .wellFormed .recordMarks)
         (λ i. omega (arith, once-at-most (v .sizes .records) (uses v 0 (v .sizes .domains)) (freeFrom (v .sizes .records) (v .recordPool)) once-records i))
         (λ i b. omega (arith, none-beyond (v .sizes .records) (uses v 0 (v .sizes .domains)) (freeFrom (v .sizes .records) (v .recordPool)) once-records i b))
 
@@ -193,24 +192,27 @@ module _ (v : Tables) (s : Shaped v) where
         let a = v .recordPool in
         elim (cmp i n) [
           | lt b ↦ elim (test (taken a i)) [
-            | holds y ↦ omega (arith, once-records i, ap oneIf (record-used v i b ∙ y), good-used n a records-good i b y, ap oneIf (ltb-t i n b))
-            | fails y ↦ omega (arith, once-records i, ap oneIf (record-used v i b ∙ y), good-free n a records-good i b y, ap oneIf (ltb-t i n b))
+            | holds y ↦ omega (arith, once-records i, ap oneIf (record-used v i b ∙ y), good-used n a records-good i b y, ap oneIf (lt-ltb i n b))
+            | fails y ↦ omega (arith, once-records i, ap oneIf (record-used v i b ∙ y), good-free n a records-good i b y, ap oneIf (lt-ltb i n b))
           ]
-          | ge b ↦ omega (arith, once-records i, ap oneIf (no-record v i b), ap oneIf (ltb-f i n b))
+          | ge b ↦ omega (arith, once-records i, ap oneIf (no-record v i b), ap oneIf (le-ltb i n b))
         ]
 
-    pub record-clauses-hold : recordPoolHolds v ≡ true
+    record-clauses-hold : recordPoolHolds v ≡ true
     record-clauses-hold = record-whole (record {
       records = records-good;
-      recordRows = hold-records v (λ i b y. zero-record (recordRow v i) (c .tidy .recordsFree i b y));
-      trackers = record { once = trackers-once; ends = c .tidy .trackersEnd };
+      recordRows = hold-records v (λ i b y. zero-record (recordRow v i) (c .wellFormed .recordsFree i b y));
+      trackers = record { once = trackers-once; ends = c .wellFormed .trackersEnd };
     })
+
+  pub record-pool-exact : (recordPoolHolds v ≡ true) ↔ RecordClauses v
+  record-pool-exact = (λ h. record-clauses (record-parts h), record-clauses-hold)
 
 -- ---- the clauses are some of those of sound tables
 
-pub hold-pools : (v : Tables) → Shaped v → OutsideTidy v → OutsideSound (stateOf v) → outsidePoolsHold v ≡ true
+pub sound-pools : (v : Tables) → OutsideWellFormed v → OutsideSound (stateOf v) → PoolsClauses v
 unfolding stateOf
-hold-pools v s t h = clauses-hold v s (record {
+sound-pools v t h = record {
   domainPool = t .domainPool;
   regionPool = t .regionPool;
   domainsUsed = t .domainsUsed;
@@ -219,8 +221,8 @@ hold-pools v s t h = clauses-hold v s (record {
   domainOnce = h .domainPool .once;
   regionOnce = h .regionPool .once;
   lists = λ d x e. let l = h .lists d x e in (l .heldLength, l .once);
-})
+}
 
-pub hold-record-pool : (v : Tables) → Shaped v → TrackersTidy v → TrackersSound (stateOf v) → recordPoolHolds v ≡ true
+pub sound-record-pool : (v : Tables) → TrackersWellFormed v → TrackersSound (stateOf v) → RecordClauses v
 unfolding stateOf
-hold-record-pool v s t h = record-clauses-hold v s (record { tidy = t; recordOnce = h .recordPool .once })
+sound-record-pool v t h = record { wellFormed = t; recordOnce = h .recordPool .once }

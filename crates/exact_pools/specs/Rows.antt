@@ -9,16 +9,16 @@ use borrow.Author.Tests.{leb-true, eqb-true, le-leb, lt-leb, eq-eqb, ne-eqb}
 use lib.Dec.{eqb, leb}
 use lib.ListN.{length, getD, replicate, length-replicate, getD-replicate}
 use lib.Seq.{ext-getD}
-use Rattle.laws.specs.Cases.{lt, ge, cmp}
-use Rattle.words.specs.Cases.{pick, both, both-true}
+use Rattle.base.specs.Cases.{lt, ge, cmp, pick}
+use Rattle.base.specs.Tests.{both, both-true}
 use Rattle.tables.specs.declared.DomainHead.{DomainHead}
 use Rattle.tables.specs.declared.Slot.{Slot}
 use Rattle.tables.specs.declared.RegionCapa.{RegionCapa}
 use Rattle.tables.specs.declared.Region.{Region}
 use Rattle.tables.specs.Tables.{Domain, noHead, noSlot, noRegion, noRecord}
 use Rattle.decoded.specs.Tables.{domainFor}
-use Rattle.decoded.specs.Settled.Tidy.{SlotTidy}
-use Rattle.sound_pools.specs.Hold.{headClear, slotClear, slotTidy, regionClear, recordClear}
+use Rattle.decoded.specs.Canonical.WellFormed.{SlotWellFormed}
+use Rattle.sound_pools.specs.Hold.{headClear, slotClear, slotWellFormed, regionClear, recordClear}
 
 -- ---- all zero
 
@@ -100,9 +100,9 @@ zero-domain-slot m x e j b = zero-slot (getD (x .slots) j noSlot) (ap (λ (y : D
 
 -- ---- a slot of a list in use
 
-pub slot-tidy : (x : Slot) → slotTidy x ≡ true → SlotTidy x
-unfolding slotTidy
-slot-tidy x t = elim (cmp 1 (x .kind)) [
+pub slot-well-formed : (x : Slot) → slotWellFormed x ≡ true → SlotWellFormed x
+unfolding slotWellFormed
+slot-well-formed x t = elim (cmp 1 (x .kind)) [
   | lt b ↦
       let h = leb-true (x .kind) 5 (sym (ap (λ q. pick q (pick (eqb (x .kind) 0) (both (eqb (x .handle .generation) 0) (eqb (x .handle .slot) 0)) (eqb (x .handle .generation) 0)) (leb (x .kind) 5)) (lt-leb (x .kind) 1 b)) ∙ t) in
       record { kindKnown = h; noneClear = λ e. absurd (omega arith); generationClear = λ e. absurd (omega arith) }
@@ -118,9 +118,9 @@ slot-tidy x t = elim (cmp 1 (x .kind)) [
       ]
 ]
 
-pub tidy-slot : (x : Slot) → SlotTidy x → slotTidy x ≡ true
-unfolding slotTidy
-tidy-slot x t = elim (cmp 1 (x .kind)) [
+pub well-formed-slot : (x : Slot) → SlotWellFormed x → slotWellFormed x ≡ true
+unfolding slotWellFormed
+well-formed-slot x t = elim (cmp 1 (x .kind)) [
   | lt b ↦ rw (lt-leb (x .kind) 1 b) (le-leb (x .kind) 5 (t .kindKnown))
   | ge b ↦ elim (ℕ-discrete (x .kind) 0) [
     | yes z ↦ rw (le-leb (x .kind) 1 b, eq-eqb (x .kind) 0 z, eq-eqb (x .handle .generation) 0 (t .generationClear b)) (eq-eqb (x .handle .slot) 0 (t .noneClear z))

@@ -7,16 +7,16 @@ use mathlib.Core.Bool.{Bool, true}
 use mathlib.Core.Option.{Option, none, some}
 use mathlib.Core.List.{List, [], _∷_}
 use native.Mathlib.Omega.{arith}
-use borrow.Author.Tests.{leb-true, le-leb}
+use borrow.Author.Tests.{leb-true, le-leb, lt-ltb}
 use lib.Dec.{eqb, ltb, leb}
-use Rattle.model.specs.Lists.{oneIf, count}
-use Rattle.laws.specs.Cases.{lt, ge, cmp, ltb-t, holds, fails, test}
+use Rattle.base.specs.Cases.{lt, ge, cmp, holds, fails, test}
+use Rattle.base.specs.Tests.{both, both-true, true-false}
+use Rattle.model.specs.Lists.{oneIf, countIf}
 use Rattle.laws.specs.Stack.{one, one-at-most}
-use Rattle.words.specs.Cases.{both, both-true}
 use Rattle.decoded.specs.Decode.Read.{stackFrom, chainFrom}
-use Rattle.decoded.specs.Settled.Ends.{stackEnd, chainEnd, end-none}
+use Rattle.decoded.specs.Canonical.Ends.{stackEnd, chainEnd, end-none}
 use Rattle.sound_pools.specs.Walk.{linkTo, met, covered, covers}
-use Rattle.exact_pools.specs.Walks.{marked-once, once-marked, covers-at, at-covers, met-is, is-met, true-false}
+use Rattle.exact_pools.specs.Walks.{marked-once, once-marked, covers-at, at-covers, met-is, is-met}
 
 -- ---- links and slots
 
@@ -37,7 +37,7 @@ module _ (f g : ℕ → ℕ) where
   chain-stack k m l h y e = from-link m l h y (chain-suc k m h) e
 
   -- the other way, for a stack of slots below n
-  stack-chain : (n m h : ℕ) → 0 < n → ((i : ℕ) → 0 < count (eqb i) (stackFrom g m h) → (i < n) × (g i < n → f i ≡ suc (g i))) → stackEnd g m h ≡ 0 → (h < n) × (chainFrom f m (suc h) ≡ stackFrom g m h) × (chainEnd f m (suc h) ≡ 1)
+  stack-chain : (n m h : ℕ) → 0 < n → ((i : ℕ) → 0 < countIf (eqb i) (stackFrom g m h) → (i < n) × (g i < n → f i ≡ suc (g i))) → stackEnd g m h ≡ 0 → (h < n) × (chainFrom f m (suc h) ≡ stackFrom g m h) × (chainEnd f m (suc h) ≡ 1)
   stack-chain n zero h z k e = (omega arith, refl, omega arith)
   stack-chain n (suc m) h z k e =
       let r = stack-chain n m (g h) z (λ i o. k i (omega arith)) e in
@@ -50,7 +50,7 @@ module _ (f g : ℕ → ℕ) where
 pub record StackGood (g : ℕ → ℕ) (ok : ℕ → Bool) (n c h : ℕ) : Type 0 where
   pub fits : c ≤ n
   pub ends : stackEnd g (n - c) h ≡ 0
-  pub once : (i : ℕ) → count (eqb i) (stackFrom g (n - c) h) ≡ oneIf (ok i)
+  pub once : (i : ℕ) → countIf (eqb i) (stackFrom g (n - c) h) ≡ oneIf (ok i)
 
 link-is : (n h : ℕ) → (linkTo n h ≡ suc h) ⊎ (linkTo n h ≡ 0)
 link-is n h = elim (test (ltb h n)) [ holds t ↦ inl (rw t) | fails t ↦ inr (rw t) ]
@@ -60,25 +60,25 @@ testOf f ok n c h = both (leb c n) (covered ok n (met f ok 1 (n - c) (linkTo n h
 
 module _ (f g : ℕ → ℕ) (ok : ℕ → Bool) (n c h : ℕ) (inside : (i : ℕ) → ok i ≡ true → i < n) where
   -- what was met is what may be met
-  counted : (l us : List ℕ) → ((i : ℕ) → count (eqb i) us ≡ count (eqb i) l + 0) → ((i : ℕ) → 0 < count (eqb i) l → ok i ≡ true) → ((i : ℕ) → count (eqb i) l ≤ 1) → covers ok n us ≡ true → (i : ℕ) → count (eqb i) l ≡ oneIf (ok i)
+  counted : (l us : List ℕ) → ((i : ℕ) → countIf (eqb i) us ≡ countIf (eqb i) l + 0) → ((i : ℕ) → 0 < countIf (eqb i) l → ok i ≡ true) → ((i : ℕ) → countIf (eqb i) l ≤ 1) → covers ok n us ≡ true → (i : ℕ) → countIf (eqb i) l ≡ oneIf (ok i)
   counted l us e p o v i = elim (cmp i n) [
     | lt b ↦ omega (arith, e i, marked-once i us (ok i) (omega (arith, e i, o i)) (covers-at ok n us v i b))
     | ge b ↦ elim (test (ok i)) [
       | holds t ↦ absurd (omega (arith, inside i t))
-      | fails t ↦ elim (cmp 0 (count (eqb i) l)) [ lt q ↦ true-false (sym (p i q) ∙ t) | ge q ↦ omega (arith, ap oneIf t) ]
+      | fails t ↦ elim (cmp 0 (countIf (eqb i) l)) [ lt q ↦ absurd (true-false (p i q) t) | ge q ↦ omega (arith, ap oneIf t) ]
     ]
   ]
 
-  single : (l : List ℕ) → ((i : ℕ) → 0 < count (eqb i) l → count (eqb i) l + 0 ≡ 1) → (i : ℕ) → count (eqb i) l ≤ 1
-  single l k i = elim (cmp 0 (count (eqb i) l)) [ lt q ↦ omega (arith, k i q) | ge q ↦ omega arith ]
+  single : (l : List ℕ) → ((i : ℕ) → 0 < countIf (eqb i) l → countIf (eqb i) l + 0 ≡ 1) → (i : ℕ) → countIf (eqb i) l ≤ 1
+  single l k i = elim (cmp 0 (countIf (eqb i) l)) [ lt q ↦ omega (arith, k i q) | ge q ↦ omega arith ]
 
   good-from : ((i : ℕ) → (f i ≡ suc (g i)) ⊎ (f i ≡ 0)) → c ≤ n → (o : Option (List ℕ)) → met f ok 1 (n - c) (linkTo n h) [] ≡ o → covered ok n o ≡ true → StackGood g ok n c h
-  good-from k b none e v = true-false (sym v)
+  good-from k b none e v = absurd (true-false v refl)
   good-from k b (some us) e v =
       let m = met-is f ok 1 (n - c) (linkTo n h) [] us e in
       let r = chain-stack f g k (n - c) (linkTo n h) h (link-is n h) (m .ends) in
       let w = counted (chainFrom f (n - c) (linkTo n h)) us (m .counts) (m .passed) (single (chainFrom f (n - c) (linkTo n h)) (m .single)) v in
-      record { fits = b; ends = r .1; once = λ i. sym (ap (count (eqb i)) (r .0)) ∙ w i }
+      record { fits = b; ends = r .1; once = λ i. sym (ap (countIf (eqb i)) (r .0)) ∙ w i }
 
   pub stack-good : ((i : ℕ) → (f i ≡ suc (g i)) ⊎ (f i ≡ 0)) → testOf f ok n c h ≡ true → StackGood g ok n c h
   stack-good k t =
@@ -88,10 +88,10 @@ module _ (f g : ℕ → ℕ) (ok : ℕ → Bool) (n c h : ℕ) (inside : (i : �
   pub good-stack : 0 < n → ((i : ℕ) → ok i ≡ true → g i < n → f i ≡ suc (g i)) → StackGood g ok n c h → testOf f ok n c h ≡ true
   good-stack z k s =
       let l = stackFrom g (n - c) h in
-      let on : (i : ℕ) → 0 < count (eqb i) l → ok i ≡ true = λ i q. elim (test (ok i)) [ holds t ↦ t | fails t ↦ absurd (omega (arith, s .once i, ap oneIf t)) ] in
+      let on : (i : ℕ) → 0 < countIf (eqb i) l → ok i ≡ true = λ i q. elim (test (ok i)) [ holds t ↦ t | fails t ↦ absurd (omega (arith, s .once i, ap oneIf t)) ] in
       let r = stack-chain f g n (n - c) h z (λ i q. (inside i (on i q), k i (on i q))) (s .ends) in
       let e : chainFrom f (n - c) (suc h) ≡ l = r .1 in
-      let w = is-met f ok 1 (n - c) (suc h) [] (λ i q. on i (omega (arith, ap (count (eqb i)) e))) (λ i q. omega (arith, ap (count (eqb i)) e, s .once i, one-at-most (ok i))) (r .2) in
-      let y : linkTo n h ≡ suc h = rw (ltb-t h n (r .0)) in
-      let v = at-covers ok n (w .us) (λ i b. once-marked i (w .us) (ok i) (omega (arith, w .counts i, ap (count (eqb i)) e, s .once i))) in
+      let w = is-met f ok 1 (n - c) (suc h) [] (λ i q. on i (omega (arith, ap (countIf (eqb i)) e))) (λ i q. omega (arith, ap (countIf (eqb i)) e, s .once i, one-at-most (ok i))) (r .2) in
+      let y : linkTo n h ≡ suc h = rw (lt-ltb h n (r .0)) in
+      let v = at-covers ok n (w .us) (λ i b. once-marked i (w .us) (ok i) (omega (arith, w .counts i, ap (countIf (eqb i)) e, s .once i))) in
       rw (le-leb c n (s .fits), y, w .finds) v

@@ -8,30 +8,28 @@ use native.Mathlib.Omega.{arith}
 use native.Mathlib.Decide.{ℕ-discrete}
 use lib.Dec.{eqb}
 use lib.ListN.{getD}
-use Rattle.model.specs.Lists.{if_then_else_, oneIf, count, countUp}
+use Rattle.base.specs.Cases.{lt, ge, cmp, holds, fails, test}
+use Rattle.base.specs.Tests.{true-false}
+use Rattle.base.specs.Options.{none-some, some-same}
+use Rattle.model.specs.Lists.{oneIf, countIf, countUp, if_then_else_}
 use Rattle.model.specs.State as state
 use Rattle.model.specs.Sound.{recordUses}
-use Rattle.laws.specs.Cases.{lt, ge, cmp, holds, fails, test}
 use Rattle.laws.specs.Stack.{one-at-most}
 use Rattle.tables.specs.declared.Region.{Region}
 use Rattle.tables.specs.Tables.{Tables, noDomain, noRecord, headAt, recordAt}
 use Rattle.decoded.specs.Decode.Read.{chainFrom, taken, recordFrom, domainFrom}
-use Rattle.decoded.specs.Settled.Ends.{chainEnd}
-use Rattle.sound_pools.specs.declared.links.Stack.the-variants.{Domains, Trackers}
+use Rattle.decoded.specs.Canonical.Ends.{chainEnd}
+use Rattle.sound_pools.specs.declared.links.Stack.the-variants.{Trackers}
+use Rattle.decoded.specs.Canonical.Ends.{chainEnd}
 use Rattle.sound_pools.specs.Walk.{covered, met}
 use Rattle.sound_pools.specs.Hold.{mayMeet, eligible, nextOf, onward, trackersMet, trackersHold}
-use Rattle.exact_pools.specs.Walks.{marked-once, once-marked, covers-at, at-covers, Met, met-is, Goes, is-met, true-false}
-use Rattle.exact_pools.specs.Pools.{inside-of, free-taken}
+use Rattle.exact_pools.specs.Walks.{marked-once, once-marked, covers-at, at-covers, Met, met-is, Goes, is-met}
+use Rattle.exact_pools.specs.Pools.{inside-of}
+use Rattle.exact_pools.specs.Domains.{domain-free}
 
-count-slots : (l : List Region) (i : ℕ) (ks : List ℕ) → count (λ (q : state.Record). eqb i (q .slot)) (map (λ j. recordFrom j (getD l j noRecord)) ks) ≡ count (eqb i) ks
+count-slots : (l : List Region) (i : ℕ) (ks : List ℕ) → countIf (λ (q : state.Record). eqb i (q .slot)) (map (λ j. recordFrom j (getD l j noRecord)) ks) ≡ countIf (eqb i) ks
 count-slots l i [] = refl
 count-slots l i (k ∷ ks) = ap (λ m. oneIf (eqb i k) + m) (count-slots l i ks)
-
-none-some : {us : List ℕ} {A : Type 0} → _≡_ {A = Option (List ℕ)} none (some us) → A
-none-some {us} x = let q : _≡_ {A = ℕ} 0 1 = cc in absurd (omega arith)
-
-some-same : {us ws : List ℕ} → some us ≡ some ws → us ≡ ws
-some-same x = cc
 
 module _ (v : Tables) where
   abbrev after : ℕ → ℕ
@@ -51,7 +49,7 @@ module _ (v : Tables) where
   unfoldable pub uses : ℕ → ℕ → ℕ → ℕ
   uses d k i = recordUses (map readAt (countUp d k)) i
 
-  uses-used : (d k i : ℕ) → taken (v .domainPool) d ≡ true → uses d (suc k) i ≡ count (eqb i) (along d) + uses (suc d) k i
+  uses-used : (d k i : ℕ) → taken (v .domainPool) d ≡ true → uses d (suc k) i ≡ countIf (eqb i) (along d) + uses (suc d) k i
   unfolding uses
   uses-used d k i t = rw t (ap (λ m. m + recordUses (map readAt (countUp (suc d) k)) i) (count-slots (v .records) i (along d)))
 
@@ -70,17 +68,13 @@ module _ (v : Tables) where
   abbrev here : ℕ → List ℕ → Option (List ℕ)
   here d vs = met after ok 0 (v .sizes .records) (getD (v .domains) d noDomain .head .tracker) vs
 
-  may-is : (d : ℕ) → d < v .sizes .domains → mayMeet v Domains d ≡ not (taken (v .domainPool) d)
-  unfolding mayMeet eligible
-  may-is d b = free-taken (v .sizes .domains) (v .domainPool) d b
-
   met-used : (d k : ℕ) (vs : List ℕ) → d < v .sizes .domains → taken (v .domainPool) d ≡ true → trackersMet v (suc k) d vs ≡ onward (here d vs) (trackersMet v k (suc d))
   unfolding trackersMet nextOf recordAt headAt
-  met-used d k vs b t = rw (may-is d b ∙ ap not t)
+  met-used d k vs b t = rw (domain-free v d b ∙ ap not t)
 
   met-free : (d k : ℕ) (vs : List ℕ) → d < v .sizes .domains → taken (v .domainPool) d ≡ false → trackersMet v (suc k) d vs ≡ trackersMet v k (suc d) vs
   unfolding trackersMet
-  met-free d k vs b t = rw (may-is d b ∙ ap not t)
+  met-free d k vs b t = rw (domain-free v d b ∙ ap not t)
 
   met-none : (d : ℕ) (vs : List ℕ) → trackersMet v 0 d vs ≡ some vs
   unfolding trackersMet
@@ -89,14 +83,14 @@ module _ (v : Tables) where
   -- ---- from the walk
 
   pub record AllMet (k d : ℕ) (vs us : List ℕ) : Type 0 where
-    pub counts : (i : ℕ) → count (eqb i) us ≡ uses d k i + count (eqb i) vs
+    pub counts : (i : ℕ) → countIf (eqb i) us ≡ uses d k i + countIf (eqb i) vs
     pub passed : (i : ℕ) → 0 < uses d k i → ok i ≡ true
-    pub single : (i : ℕ) → 0 < uses d k i → uses d k i + count (eqb i) vs ≡ 1
+    pub single : (i : ℕ) → 0 < uses d k i → uses d k i + countIf (eqb i) vs ≡ 1
     pub ends : (j : ℕ) → d ≤ j → j < d + k → taken (v .domainPool) j ≡ true → endOf j ≡ 0
 
   all-none : (d : ℕ) (vs us : List ℕ) → vs ≡ us → AllMet 0 d vs us
   all-none d vs us e = record {
-    counts = λ i. omega (arith, uses-none d i, ap (count (eqb i)) e);
+    counts = λ i. omega (arith, uses-none d i, ap (countIf (eqb i)) e);
     passed = λ i o. absurd (omega (arith, uses-none d i));
     single = λ i o. absurd (omega (arith, uses-none d i));
     ends = λ j a b t. absurd (omega arith);
@@ -108,7 +102,7 @@ module _ (v : Tables) where
     passed = λ i o. m .passed i (omega (arith, uses-free d k i t));
     single = λ i o. omega (arith, uses-free d k i t, m .single i (omega (arith, uses-free d k i t)));
     ends = λ j a b u. elim (ℕ-discrete j d) [
-      | yes e ↦ true-false (sym u ∙ ap (taken (v .domainPool)) e ∙ t)
+      | yes e ↦ absurd (true-false u (ap (taken (v .domainPool)) e ∙ t))
       | no ne ↦ m .ends j (omega arith) (omega arith) u
     ];
   }
@@ -131,11 +125,11 @@ module _ (v : Tables) where
   }
 
   go-on : (k d : ℕ) (vs us : List ℕ) → taken (v .domainPool) d ≡ true → (o : Option (List ℕ)) → here d vs ≡ o → ((ws : List ℕ) → trackersMet v k (suc d) ws ≡ some us → AllMet k (suc d) ws us) → onward o (trackersMet v k (suc d)) ≡ some us → AllMet (suc k) d vs us
-  go-on k d vs us t none e rest h = none-some h
+  go-on k d vs us t none e rest h = absurd (none-some none us refl h)
   go-on k d vs us t (some ws) e rest h = all-more k d vs ws us t (met-is after ok 0 (v .sizes .records) (getD (v .domains) d noDomain .head .tracker) vs ws e) (rest ws h)
 
   all-is : (k d : ℕ) (vs us : List ℕ) → d + k ≤ v .sizes .domains → trackersMet v k d vs ≡ some us → AllMet k d vs us
-  all-is zero d vs us b h = all-none d vs us (some-same (sym (met-none d vs) ∙ h))
+  all-is zero d vs us b h = all-none d vs us (some-same (some vs) vs us refl (sym (met-none d vs) ∙ h))
   all-is (suc k) d vs us b h = elim (test (taken (v .domainPool) d)) [
     | holds t ↦ go-on k d vs us t (here d vs) refl (λ ws q. all-is k (suc d) ws us (omega arith) q) (sym (met-used d k vs (omega arith) t) ∙ h)
     | fails t ↦ all-skip k d vs us t (all-is k (suc d) vs us (omega arith) (sym (met-free d k vs (omega arith) t) ∙ h))
@@ -146,7 +140,7 @@ module _ (v : Tables) where
   record AllGoes (k d : ℕ) (vs : List ℕ) : Type 0 where
     us : List ℕ
     finds : trackersMet v k d vs ≡ some us
-    counts : (i : ℕ) → count (eqb i) us ≡ uses d k i + count (eqb i) vs
+    counts : (i : ℕ) → countIf (eqb i) us ≡ uses d k i + countIf (eqb i) vs
 
   goes-skip : (k d : ℕ) (vs : List ℕ) → d < v .sizes .domains → taken (v .domainPool) d ≡ false → AllGoes k (suc d) vs → AllGoes (suc k) d vs
   goes-skip k d vs b t g = record { us = g .us; finds = met-free d k vs b t ∙ g .finds; counts = λ i. omega (arith, g .counts i, uses-free d k i t) }
@@ -158,7 +152,7 @@ module _ (v : Tables) where
     counts = λ i. omega (arith, g .counts i, h .counts i, uses-used d k i t);
   }
 
-  is-all : (k d : ℕ) (vs : List ℕ) → d + k ≤ v .sizes .domains → ((i : ℕ) → 0 < uses d k i → ok i ≡ true) → ((i : ℕ) → 0 < uses d k i → uses d k i + count (eqb i) vs ≤ 1) → ((j : ℕ) → d ≤ j → j < d + k → taken (v .domainPool) j ≡ true → endOf j ≡ 0) → AllGoes k d vs
+  is-all : (k d : ℕ) (vs : List ℕ) → d + k ≤ v .sizes .domains → ((i : ℕ) → 0 < uses d k i → ok i ≡ true) → ((i : ℕ) → 0 < uses d k i → uses d k i + countIf (eqb i) vs ≤ 1) → ((j : ℕ) → d ≤ j → j < d + k → taken (v .domainPool) j ≡ true → endOf j ≡ 0) → AllGoes k d vs
   is-all zero d vs b p o e = record { us = vs; finds = met-none d vs; counts = λ i. omega (arith, uses-none d i) }
   is-all (suc k) d vs b p o e = elim (test (taken (v .domainPool) d)) [
     | holds t ↦
@@ -182,7 +176,7 @@ module _ (v : Tables) where
     pub ends : (j : ℕ) → j < v .sizes .domains → taken (v .domainPool) j ≡ true → endOf j ≡ 0
 
   good-from : (o : Option (List ℕ)) → trackersMet v (v .sizes .domains) 0 [] ≡ o → covered ok (v .sizes .records) o ≡ true → TrackersGood
-  good-from none e h = true-false (sym h)
+  good-from none e h = absurd (true-false h refl)
   good-from (some us) e h =
       let m = all-is (v .sizes .domains) 0 [] us (omega arith) e in
       record { once = once m; ends = λ j b t. m .ends j (omega arith) (omega arith) t }
@@ -195,7 +189,7 @@ module _ (v : Tables) where
         | lt b ↦ omega (arith, m .counts i, marked-once i us (ok i) (omega (arith, m .counts i, few m i)) (covers-at ok (v .sizes .records) us h i b))
         | ge b ↦ elim (test (ok i)) [
           | holds t ↦ absurd (omega (arith, may-inside i t))
-          | fails t ↦ elim (cmp 0 (uses 0 (v .sizes .domains) i)) [ lt q ↦ true-false (sym (m .passed i q) ∙ t) | ge q ↦ omega (arith, ap oneIf t) ]
+          | fails t ↦ elim (cmp 0 (uses 0 (v .sizes .domains) i)) [ lt q ↦ absurd (true-false (m .passed i q) t) | ge q ↦ omega (arith, ap oneIf t) ]
         ]
       ]
 

@@ -3,62 +3,45 @@
 use mathlib.Core.Path.{_≡_, refl, sym, ap, _∙_}
 use Prim.Native.Nat.{ℕ, zero, suc, _+_, _≤_, _<_}
 use mathlib.Core.Bool.{Bool, true, false, not}
-use mathlib.Core.Option.{Option, none, some}
+use mathlib.Core.Option.{none, some}
 use mathlib.Core.List.{List, [], _∷_}
 use native.Mathlib.Nat.{zero-add}
 use native.Mathlib.Omega.{arith}
 use native.Mathlib.Decide.{ℕ-discrete}
-use borrow.Author.Tests.{eqb-true}
+use borrow.Author.Tests.{eqb-true, lt-ltb, le-ltb, eq-eqb, ne-eqb}
 use lib.Dec.{eqb, ltb}
-use Rattle.model.specs.Lists.{oneIf, count}
-use Rattle.laws.specs.Cases.{lt, ge, cmp, ltb-t, ltb-f, eqb-t, eqb-f, holds, fails, test}
+use Rattle.base.specs.Cases.{lt, ge, cmp, holds, fails, test, pick}
+use Rattle.base.specs.Tests.{both-true, all-at, at-all, true-false, allFrom}
+use Rattle.base.specs.Options.{none-some, some-same}
+use Rattle.model.specs.Lists.{oneIf, countIf}
 use Rattle.laws.specs.Stack.{one}
-use Rattle.words.specs.Cases.{pick, both-true}
 use Rattle.decoded.specs.Decode.Read.{chainFrom}
-use Rattle.decoded.specs.Settled.Ends.{chainEnd}
-use Rattle.sound_pools.specs.Walk.{seen, fresh, mark, met, ended, allFrom, covers}
-
--- ---- tests of every slot
-
-pub all-at : (p : ℕ → Bool) (i k : ℕ) → allFrom p i k ≡ true → (j : ℕ) → i ≤ j → j < i + k → p j ≡ true
-unfolding allFrom
-all-at p i zero h j a b = absurd (omega arith)
-all-at p i (suc k) h j a b = elim (ℕ-discrete j i) [
-  | yes e ↦ ap p e ∙ both-true (p i) (allFrom p (suc i) k) h .0
-  | no ne ↦ all-at p (suc i) k (both-true (p i) (allFrom p (suc i) k) h .1) j (omega arith) (omega arith)
-]
-
-pub at-all : (p : ℕ → Bool) (i k : ℕ) → ((j : ℕ) → i ≤ j → j < i + k → p j ≡ true) → allFrom p i k ≡ true
-unfolding allFrom
-at-all p i zero h = refl
-at-all p i (suc k) h = rw (h i (omega arith) (omega arith)) (at-all p (suc i) k (λ j a b. h j (omega arith) (omega arith)))
+use Rattle.decoded.specs.Canonical.Ends.{chainEnd}
+use Rattle.sound_pools.specs.Walk.{seen, fresh, mark, met, ended, covers}
 
 -- ---- what was met, counted
 
-pub seen-count : (i : ℕ) (l : List ℕ) → seen i l ≡ ltb 0 (count (eqb i) l)
+pub seen-count : (i : ℕ) (l : List ℕ) → seen i l ≡ ltb 0 (countIf (eqb i) l)
 seen-count i [] = refl
 seen-count i (h ∷ l) = elim (test (eqb i h)) [
-  | holds t ↦ rw t (sym (ltb-t 0 (1 + count (eqb i) l) (omega arith)))
-  | fails t ↦ rw t (seen-count i l ∙ ap (ltb 0) (sym (zero-add (count (eqb i) l))))
+  | holds t ↦ rw t (sym (lt-ltb 0 (1 + countIf (eqb i) l) (omega arith)))
+  | fails t ↦ rw t (seen-count i l ∙ ap (ltb 0) (sym (zero-add (countIf (eqb i) l))))
 ]
 
-pub seen-in : (i : ℕ) (l : List ℕ) → 0 < count (eqb i) l → seen i l ≡ true
-seen-in i l h = seen-count i l ∙ ltb-t 0 (count (eqb i) l) h
+pub seen-in : (i : ℕ) (l : List ℕ) → 0 < countIf (eqb i) l → seen i l ≡ true
+seen-in i l h = seen-count i l ∙ lt-ltb 0 (countIf (eqb i) l) h
 
-pub seen-not : (i : ℕ) (l : List ℕ) → count (eqb i) l ≡ 0 → seen i l ≡ false
-seen-not i l h = seen-count i l ∙ ltb-f 0 (count (eqb i) l) (omega arith)
-
-pub true-false : {A : Type 0} → true ≡ false → A
-true-false e = let z : _≡_ {A = ℕ} 0 1 = cc in absurd (omega arith)
+pub seen-not : (i : ℕ) (l : List ℕ) → countIf (eqb i) l ≡ 0 → seen i l ≡ false
+seen-not i l h = seen-count i l ∙ le-ltb 0 (countIf (eqb i) l) (omega arith)
 
 -- it is met as often as it is counted
-pub marked-once : (i : ℕ) (l : List ℕ) (b : Bool) → count (eqb i) l ≤ 1 → seen i l ≡ b → count (eqb i) l ≡ oneIf b
-marked-once i l b h e = elim (cmp 0 (count (eqb i) l)) [
+pub marked-once : (i : ℕ) (l : List ℕ) (b : Bool) → countIf (eqb i) l ≤ 1 → seen i l ≡ b → countIf (eqb i) l ≡ oneIf b
+marked-once i l b h e = elim (cmp 0 (countIf (eqb i) l)) [
   | lt k ↦ let z : oneIf b ≡ 1 = ap oneIf (sym e ∙ seen-in i l k) in omega arith
   | ge k ↦ let z : oneIf b ≡ 0 = ap oneIf (sym e ∙ seen-not i l (omega arith)) in omega arith
 ]
 
-pub once-marked : (i : ℕ) (l : List ℕ) (b : Bool) → count (eqb i) l ≡ oneIf b → seen i l ≡ b
+pub once-marked : (i : ℕ) (l : List ℕ) (b : Bool) → countIf (eqb i) l ≡ oneIf b → seen i l ≡ b
 once-marked i l true e = seen-in i l (omega arith)
 once-marked i l false e = seen-not i l e
 
@@ -74,64 +57,58 @@ covers-at ok n l h i b = marks-same (seen i l) (ok i) (all-at (λ i. eqb (mark (
 
 pub at-covers : (ok : ℕ → Bool) (n : ℕ) (l : List ℕ) → ((i : ℕ) → i < n → seen i l ≡ ok i) → covers ok n l ≡ true
 unfolding covers
-at-covers ok n l h = at-all (λ i. eqb (mark (seen i l)) (mark (ok i))) 0 n (λ i a b. rw (h i (omega arith)) (eqb-t (mark (ok i)) (mark (ok i)) refl))
+at-covers ok n l h = at-all (λ i. eqb (mark (seen i l)) (mark (ok i))) 0 n (λ i a b. rw (h i (omega arith)) (eq-eqb (mark (ok i)) (mark (ok i)) refl))
 
 -- ---- the walk and the list
 
 -- the walk found us: vs, and what is along the links, each slot once
 pub record Met (next : ℕ → ℕ) (ok : ℕ → Bool) (e k l : ℕ) (vs us : List ℕ) : Type 0 where
-  pub counts : (i : ℕ) → count (eqb i) us ≡ count (eqb i) (chainFrom next k l) + count (eqb i) vs
-  pub passed : (i : ℕ) → 0 < count (eqb i) (chainFrom next k l) → ok i ≡ true
-  pub single : (i : ℕ) → 0 < count (eqb i) (chainFrom next k l) → count (eqb i) (chainFrom next k l) + count (eqb i) vs ≡ 1
+  pub counts : (i : ℕ) → countIf (eqb i) us ≡ countIf (eqb i) (chainFrom next k l) + countIf (eqb i) vs
+  pub passed : (i : ℕ) → 0 < countIf (eqb i) (chainFrom next k l) → ok i ≡ true
+  pub single : (i : ℕ) → 0 < countIf (eqb i) (chainFrom next k l) → countIf (eqb i) (chainFrom next k l) + countIf (eqb i) vs ≡ 1
   pub ends : chainEnd next k l ≡ e
-
-none-some : {us : List ℕ} {A : Type 0} → _≡_ {A = Option (List ℕ)} none (some us) → A
-none-some {us} x = let q : _≡_ {A = ℕ} 0 1 = cc in absurd (omega arith)
-
-some-same : {us ws : List ℕ} → some us ≡ some ws → us ≡ ws
-some-same x = cc
 
 module _ (next : ℕ → ℕ) (ok : ℕ → Bool) (e : ℕ) where
   end-met : (k l : ℕ) (vs us : List ℕ) → chainFrom next k l ≡ [] → chainEnd next k l ≡ l → ended e l vs ≡ some us → Met next ok e k l vs us
   end-met k l vs us c d h = elim (test (eqb l e)) [
     | holds t ↦
-        let z : vs ≡ us = some-same (ap (λ b. pick b (some vs) none) (sym t) ∙ h) in
+        let z : vs ≡ us = some-same (some vs) vs us refl (ap (λ b. pick b (some vs) none) (sym t) ∙ h) in
         record {
-          counts = λ i. omega (arith, ap (count (eqb i)) c, ap (count (eqb i)) z);
-          passed = λ i o. absurd (omega (arith, ap (count (eqb i)) c));
-          single = λ i o. absurd (omega (arith, ap (count (eqb i)) c));
+          counts = λ i. omega (arith, ap (countIf (eqb i)) c, ap (countIf (eqb i)) z);
+          passed = λ i o. absurd (omega (arith, ap (countIf (eqb i)) c));
+          single = λ i o. absurd (omega (arith, ap (countIf (eqb i)) c));
           ends = d ∙ eqb-true l e t;
         }
-    | fails t ↦ none-some (ap (λ b. pick b (some vs) none) (sym t) ∙ h)
+    | fails t ↦ absurd (none-some none us refl (ap (λ b. pick b (some vs) none) (sym t) ∙ h))
   ]
 
   -- one slot more in front
-  front : (k i : ℕ) (vs us : List ℕ) → ok i ≡ true → count (eqb i) vs ≡ 0 → Met next ok e k (next i) (i ∷ vs) us → Met next ok e (suc k) (suc i) vs us
+  front : (k i : ℕ) (vs us : List ℕ) → ok i ≡ true → countIf (eqb i) vs ≡ 0 → Met next ok e k (next i) (i ∷ vs) us → Met next ok e (suc k) (suc i) vs us
   front k i vs us o z m = record {
     counts = λ j. omega (arith, m .counts j);
     passed = λ j p. elim (ℕ-discrete j i) [
       | yes q ↦ ap ok q ∙ o
-      | no ne ↦ m .passed j (omega (arith, ap oneIf (eqb-f j i ne)))
+      | no ne ↦ m .passed j (omega (arith, ap oneIf (ne-eqb j i ne)))
     ];
-    single = λ j p. elim (cmp 0 (count (eqb j) (chainFrom next k (next i)))) [
+    single = λ j p. elim (cmp 0 (countIf (eqb j) (chainFrom next k (next i)))) [
       | lt y ↦ omega (arith, m .single j y)
       | ge y ↦ elim (ℕ-discrete j i) [
-        | yes q ↦ omega (arith, one j i q, ap (λ x. count (eqb x) vs) q)
-        | no ne ↦ absurd (omega (arith, ap oneIf (eqb-f j i ne)))
+        | yes q ↦ omega (arith, one j i q, ap (λ x. countIf (eqb x) vs) q)
+        | no ne ↦ absurd (omega (arith, ap oneIf (ne-eqb j i ne)))
       ]
     ];
     ends = m .ends;
   }
 
-  unseen : (i : ℕ) (vs : List ℕ) → not (seen i vs) ≡ true → count (eqb i) vs ≡ 0
-  unseen i vs y = elim (cmp 0 (count (eqb i) vs)) [
-    | lt o ↦ true-false (sym y ∙ ap not (seen-in i vs o))
+  unseen : (i : ℕ) (vs : List ℕ) → not (seen i vs) ≡ true → countIf (eqb i) vs ≡ 0
+  unseen i vs y = elim (cmp 0 (countIf (eqb i) vs)) [
+    | lt o ↦ absurd (true-false y (ap not (seen-in i vs o)))
     | ge o ↦ omega arith
   ]
 
   step-is : (k i : ℕ) (vs us : List ℕ) (b : Bool) → fresh ok i vs ≡ b → (met next ok e k (next i) (i ∷ vs) ≡ some us → Met next ok e k (next i) (i ∷ vs) us) → pick b (met next ok e k (next i) (i ∷ vs)) none ≡ some us → Met next ok e (suc k) (suc i) vs us
   step-is k i vs us true f rest h = let g = both-true (ok i) (not (seen i vs)) f in front k i vs us (g .0) (unseen i vs (g .1)) (rest h)
-  step-is k i vs us false f rest h = none-some h
+  step-is k i vs us false f rest h = absurd (none-some none us refl h)
 
   pub met-is : (k l : ℕ) (vs us : List ℕ) → met next ok e k l vs ≡ some us → Met next ok e k l vs us
   unfolding met
@@ -143,22 +120,22 @@ module _ (next : ℕ → ℕ) (ok : ℕ → Bool) (e : ℕ) where
   pub record Goes (k l : ℕ) (vs : List ℕ) : Type 0 where
     pub us : List ℕ
     pub finds : met next ok e k l vs ≡ some us
-    pub counts : (i : ℕ) → count (eqb i) us ≡ count (eqb i) (chainFrom next k l) + count (eqb i) vs
+    pub counts : (i : ℕ) → countIf (eqb i) us ≡ countIf (eqb i) (chainFrom next k l) + countIf (eqb i) vs
 
   goes-end : (k l : ℕ) (vs : List ℕ) → met next ok e k l vs ≡ ended e l vs → chainFrom next k l ≡ [] → l ≡ e → Goes k l vs
-  goes-end k l vs m c h = record { us = vs; finds = m ∙ ap (λ b. pick b (some vs) none) (eqb-t l e h); counts = λ i. omega (arith, ap (count (eqb i)) c) }
+  goes-end k l vs m c h = record { us = vs; finds = m ∙ ap (λ b. pick b (some vs) none) (eq-eqb l e h); counts = λ i. omega (arith, ap (countIf (eqb i)) c) }
 
-  goes-front : (k i : ℕ) (vs : List ℕ) → ok i ≡ true → count (eqb i) vs ≡ 0 → Goes k (next i) (i ∷ vs) → Goes (suc k) (suc i) vs
+  goes-front : (k i : ℕ) (vs : List ℕ) → ok i ≡ true → countIf (eqb i) vs ≡ 0 → Goes k (next i) (i ∷ vs) → Goes (suc k) (suc i) vs
   unfolding met
   goes-front k i vs o z g =
       let f : fresh ok i vs ≡ true = rw (o, seen-not i vs z) in
       record { us = g .us; finds = ap (λ b. pick b (met next ok e k (next i) (i ∷ vs)) none) f ∙ g .finds; counts = λ j. omega (arith, g .counts j) }
 
-  pub is-met : (k l : ℕ) (vs : List ℕ) → ((i : ℕ) → 0 < count (eqb i) (chainFrom next k l) → ok i ≡ true) → ((i : ℕ) → 0 < count (eqb i) (chainFrom next k l) → count (eqb i) (chainFrom next k l) + count (eqb i) vs ≤ 1) → chainEnd next k l ≡ e → Goes k l vs
+  pub is-met : (k l : ℕ) (vs : List ℕ) → ((i : ℕ) → 0 < countIf (eqb i) (chainFrom next k l) → ok i ≡ true) → ((i : ℕ) → 0 < countIf (eqb i) (chainFrom next k l) → countIf (eqb i) (chainFrom next k l) + countIf (eqb i) vs ≤ 1) → chainEnd next k l ≡ e → Goes k l vs
   unfolding met
   is-met zero l vs p o h = goes-end zero l vs refl refl h
   is-met (suc k) zero vs p o h = goes-end (suc k) zero vs refl refl h
   is-met (suc k) (suc i) vs p o h =
-      let c : 0 < count (eqb i) (chainFrom next (suc k) (suc i)) = omega (arith, one i i refl) in
+      let c : 0 < countIf (eqb i) (chainFrom next (suc k) (suc i)) = omega (arith, one i i refl) in
       goes-front k i vs (p i c) (omega (arith, o i c, one i i refl))
       (is-met k (next i) (i ∷ vs) (λ j q. p j (omega arith)) (λ j q. omega (arith, o j (omega arith))) h)

@@ -1,10 +1,10 @@
--- The clauses of `Tidy` and `Sound` about the ring, which the test settles, and what is known before.
+-- The clauses of `WellFormed` and `Sound` about the ring, which the test settles, and what is known before.
 use Prim.Native.Nat.{ℕ, _+_, _<_}
 use Rattle.model.specs.State.{Word}
 use Rattle.model.specs.Sound.{QueueSound}
 use Rattle.tables.specs.Tables.{Tables}
 use Rattle.decoded.specs.Decode.Read.{stateOf}
-use Rattle.decoded.specs.Settled.Tidy.{QueueTidy, place}
+use Rattle.decoded.specs.Canonical.WellFormed.{QueueWellFormed, place}
 
 -- what is stored are words
 pub record Stored (v : Tables) : Type 0 where
@@ -14,4 +14,4 @@ pub record Stored (v : Tables) : Type 0 where
 
 pub record QueueClauses (v : Tables) : Type 0 where
   pub queue : QueueSound (v .sizes .updates) (stateOf v .domainPool) (stateOf v .domains) (stateOf v .queue)
-  pub tidy : QueueTidy v
+  pub wellFormed : QueueWellFormed v

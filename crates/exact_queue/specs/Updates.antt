@@ -7,15 +7,16 @@ use native.Mathlib.Omega.{arith}
 use native.Mathlib.Decide.{ℕ-discrete}
 use lib.Dec.{eqb, eqb→eq}
 use lib.Ieee.Fits.{and-l, and-r}
-use Rattle.model.specs.Lists.{oneIf, count, Each, countUp}
+use borrow.Author.Tests.{eq-eqb, ne-eqb}
+use Rattle.base.specs.Cases.{lt, ge, cmp}
+use Rattle.base.specs.Tests.{true-is, true-false}
+use Rattle.model.specs.Lists.{oneIf, countIf, Each, countUp}
 use Rattle.model.specs.State as state
 use Rattle.model.specs.State.{permission, cleanup}
 use Rattle.model.specs.Updates.{isPermissionOf}
 use Rattle.model.specs.Sound.{Singly}
-use Rattle.laws.specs.Cases.{lt, ge, cmp, eqb-t, eqb-f, true-is}
 use Rattle.tables.specs.declared.Update.{Update}
 use Rattle.decoded.specs.Decode.Read.{updateFrom}
-use Rattle.exact_capas.specs.Reads.{yes-no}
 
 -- ---- lists by number
 
@@ -30,11 +31,11 @@ up-each P g k (suc m) h j a b = elim (cmp k j) [
   | ge q ↦ let e : k ≡ j = omega arith in subst (λ i. P (g i)) e (h .0)
 ]
 
-none-up : {A : Type 0} (p : A → Bool) (g : ℕ → A) (k m : ℕ) → ((j : ℕ) → k ≤ j → j < k + m → p (g j) ≡ false) → count p (map g (countUp k m)) ≡ 0
+none-up : {A : Type 0} (p : A → Bool) (g : ℕ → A) (k m : ℕ) → ((j : ℕ) → k ≤ j → j < k + m → p (g j) ≡ false) → countIf p (map g (countUp k m)) ≡ 0
 none-up p g k zero h = refl
 none-up p g k (suc m) h = omega (arith, ap oneIf (h k (omega arith) (omega arith)), none-up p g (suc k) m (λ j a b. h j (omega arith) (omega arith)))
 
-some-up : {A : Type 0} (p : A → Bool) (g : ℕ → A) (k m j : ℕ) → k ≤ j → j < k + m → p (g j) ≡ true → 0 < count p (map g (countUp k m))
+some-up : {A : Type 0} (p : A → Bool) (g : ℕ → A) (k m j : ℕ) → k ≤ j → j < k + m → p (g j) ≡ true → 0 < countIf p (map g (countUp k m))
 some-up p g k zero j a b e = absurd (omega arith)
 some-up p g k (suc m) j a b e = elim (cmp k j) [
   | lt q ↦ omega (arith, some-up p g (suc k) m j q (omega arith) e)
@@ -59,7 +60,7 @@ singly-rest : (u : state.Update) (us : List state.Update) → Singly (u ∷ us) 
 singly-rest (permission h c) us s = s .1
 singly-rest (cleanup a b) us s = s
 
-singly-first : (u : state.Update) (us : List state.Update) → Singly (u ∷ us) → (h : state.Handle) (c : ℕ) → u ≡ permission h c → count (isPermissionOf h) us ≡ 0
+singly-first : (u : state.Update) (us : List state.Update) → Singly (u ∷ us) → (h : state.Handle) (c : ℕ) → u ≡ permission h c → countIf (isPermissionOf h) us ≡ 0
 singly-first u us s h c e = subst (λ (x : state.Update). Singly (x ∷ us)) e s .0
 
 pub singly-apart : (g : ℕ → state.Update) (k m : ℕ) → Singly (map g (countUp k m)) → (i j : ℕ) → k ≤ i → i < j → j < k + m → (h : state.Handle) (c : ℕ) → g i ≡ permission h c → isPermissionOf h (g j) ≡ true → ⊥
@@ -83,28 +84,28 @@ slotIn (permission h c) = h .slot
 slotIn (cleanup a b) = 0
 
 abbrev genIn : state.Update → ℕ
-genIn (permission h c) = h .gen
+genIn (permission h c) = h .generation
 genIn (cleanup a b) = 0
 
-pub permission-read : (u : Update) → u .kind ≡ 1 → updateFrom u ≡ permission (record { slot = u .a; gen = u .b }) (u .c)
-permission-read u e = rw (eqb-t (u .kind) 1 e)
+pub permission-read : (u : Update) → u .kind ≡ 1 → updateFrom u ≡ permission (record { slot = u .a; generation = u .b }) (u .c)
+permission-read u e = rw (eq-eqb (u .kind) 1 e)
 
 pub cleanup-read : (u : Update) → (u .kind ≡ 1 → ⊥) → updateFrom u ≡ cleanup (u .a) (u .b)
-cleanup-read u e = rw (eqb-f (u .kind) 1 e)
+cleanup-read u e = rw (ne-eqb (u .kind) 1 e)
 
-pub permission-is : (u : Update) (h : state.Handle) (c : ℕ) → updateFrom u ≡ permission h c → (u .kind ≡ 1) × (u .a ≡ h .slot) × (u .b ≡ h .gen)
+pub permission-is : (u : Update) (h : state.Handle) (c : ℕ) → updateFrom u ≡ permission h c → (u .kind ≡ 1) × (u .a ≡ h .slot) × (u .b ≡ h .generation)
 permission-is u h c e = elim (ℕ-discrete (u .kind) 1) [
   | yes k ↦ let p = sym (permission-read u k) ∙ e in (k, ap slotIn p, ap genIn p)
   | no k ↦ absurd (let z = ap kindIn (sym (cleanup-read u k) ∙ e) in omega arith)
 ]
 
-pub names-is : (u : Update) (h : state.Handle) → isPermissionOf h (updateFrom u) ≡ true → (u .kind ≡ 1) × (h .slot ≡ u .a) × (h .gen ≡ u .b)
+pub names-is : (u : Update) (h : state.Handle) → isPermissionOf h (updateFrom u) ≡ true → (u .kind ≡ 1) × (h .slot ≡ u .a) × (h .generation ≡ u .b)
 names-is u h t = elim (ℕ-discrete (u .kind) 1) [
   | yes k ↦
       let x = true-is (ap (isPermissionOf h) (sym (permission-read u k)) ∙ t) in
-      (k, eqb→eq (h .slot) (u .a) (and-l (eqb (h .slot) (u .a)) (eqb (h .gen) (u .b)) x), eqb→eq (h .gen) (u .b) (and-r (eqb (h .slot) (u .a)) (eqb (h .gen) (u .b)) x))
-  | no k ↦ absurd (yes-no (sym t ∙ ap (isPermissionOf h) (cleanup-read u k)))
+      (k, eqb→eq (h .slot) (u .a) (and-l (eqb (h .slot) (u .a)) (eqb (h .generation) (u .b)) x), eqb→eq (h .generation) (u .b) (and-r (eqb (h .slot) (u .a)) (eqb (h .generation) (u .b)) x))
+  | no k ↦ absurd (true-false t (ap (isPermissionOf h) (cleanup-read u k)))
 ]
 
-pub is-names : (u : Update) (h : state.Handle) → u .kind ≡ 1 → h .slot ≡ u .a → h .gen ≡ u .b → isPermissionOf h (updateFrom u) ≡ true
-is-names u h k a b = ap (isPermissionOf h) (permission-read u k) ∙ rw (eqb-t (h .slot) (u .a) a, eqb-t (h .gen) (u .b) b)
+pub is-names : (u : Update) (h : state.Handle) → u .kind ≡ 1 → h .slot ≡ u .a → h .generation ≡ u .b → isPermissionOf h (updateFrom u) ≡ true
+is-names u h k a b = ap (isPermissionOf h) (permission-read u k) ∙ rw (eq-eqb (h .slot) (u .a) a, eq-eqb (h .generation) (u .b) b)

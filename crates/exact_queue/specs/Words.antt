@@ -4,12 +4,13 @@ use mathlib.Core.List.{List, []}
 use lib.ListN.{getD}
 use Rattle.model.specs.Lists.{Each}
 use Rattle.model.specs.State.{Word}
+use Rattle.laws.specs.Lists.{zero-word, word-at}
 use Rattle.words.specs.Cuts.{cuts}
 use Rattle.tables.specs.declared.Update.{Update}
 use Rattle.tables.specs.Tables.{noUpdate}
 use Rattle.tables.specs.View.{updateOf, ofParts, view}
 use Rattle.sizes.specs.Sizes.{sizesOf, widths}
-use Rattle.exact_capas.specs.Words.{zero-word, word-at, row-words, section-words}
+use Rattle.exact_capas.specs.Words.{row-words, section-words}
 use Rattle.exact_queue.specs.Clauses.{Stored}
 
 module _ (t : List ℕ) (h : Each Word t) where

@@ -5,6 +5,8 @@ use mathlib.Core.Bool.{Bool, true, false, _&&_}
 use mathlib.Core.Option.{Option}
 use mathlib.Core.List.{List}
 use lib.Dec.{eqb, eqb→eq}
+use lib.Ieee.Fits.{eq→eqb}
+use Rattle.base.specs.Tests.{is-true, true-is, both}
 use Rattle.model.specs.Lists.{every}
 use Rattle.model.specs.State as state
 use Rattle.model.specs.State.{Counts}
@@ -12,9 +14,7 @@ use Rattle.model.specs.Fields.{Field, fields, get}
 use Rattle.model.specs.Counts.{Agree, regionCount}
 use Rattle.model.specs.Tracker.{sameCounts}
 use Rattle.laws.specs.Fields.{every-field}
-use Rattle.laws.specs.Cases.{is-true, true-is}
-use Rattle.laws.specs.Test.Lists.{eq-test, every-all}
-use Rattle.words.specs.Cases.{both}
+use Rattle.laws.specs.Test.Lists.{every-all}
 use Rattle.tables.specs.declared.Region.{Region}
 use Rattle.tables.specs.Tables.{Tables}
 use Rattle.sound_trackers.specs.declared.Sums.{Sums}
@@ -47,7 +47,7 @@ module _ (v : Tables) (rs : List (Option state.Region)) (d : ℕ) (tallied : (f 
   agrees-so t f = sym (eqb→eq _ _ (every-field alike (true-is (sym (agrees-is (tally v d a) q) ∙ t)) f)) ∙ tallied f a
 
   pub so-agrees : Agree rs d a (countsFrom q) → agreesB (tally v d a) q ≡ true
-  so-agrees h = agrees-is (tally v d a) q ∙ is-true (every-all alike fields (λ f. eq-test _ _ (tallied f a ∙ sym (h f))))
+  so-agrees h = agrees-is (tally v d a) q ∙ is-true (every-all alike fields (λ f. eq→eqb (tallied f a ∙ sym (h f))))
 
 -- six equal counts
 six : (a b c d e f : Bool) → both (both a b) (both (both c d) (both e f)) ≡ ((a && (b && (c && (d && (e && true))))) && f)

@@ -5,26 +5,26 @@ use mathlib.Core.Bool.{true, false, not}
 use mathlib.Core.Option.{none}
 use mathlib.Core.List.{List}
 use native.Mathlib.Omega.{arith}
-use borrow.Author.Tests.{leb-true, ltb-true, le-leb, lt-ltb}
+use borrow.Author.Tests.{leb-true, ltb-true, le-leb, lt-ltb, eq-eqb, ne-eqb}
 use lib.Dec.{T, eqb, leb, ltb}
 use lib.ListN.{getD}
-use Rattle.model.specs.Lists.{count, isSome, slotOf, In}
+use Rattle.base.specs.Cases.{lt, ge, cmp, holds, fails, test}
+use Rattle.base.specs.Tests.{both-true, true-false, both-i}
+use Rattle.model.specs.Lists.{countIf, isSome, atSlot, In}
 use Rattle.model.specs.State as state
 use Rattle.model.specs.Tree.{isCarve}
 use Rattle.model.specs.Sound.{RegionSound}
-use Rattle.laws.specs.Cases.{lt, ge, cmp, eqb-t, eqb-f, holds, fails, test}
 use Rattle.laws.specs.Tree.Slots.{live-is, each-in}
 use Rattle.laws.specs.Tree.Shares.{childOf, carveOf, carved}
 use Rattle.laws.specs.Tree.Facts.{carve-child}
 use Rattle.laws.specs.Tree.Carved.{Carving, carved-find, carved-get}
-use Rattle.words.specs.Cases.{both-true}
 use Rattle.tables.specs.declared.RegionCapa.{RegionCapa}
 use Rattle.tables.specs.Tables.{Tables, noRegion, regionAt}
 use Rattle.decoded.specs.Decode.Read.{taken, kindFrom, regionFrom, regionsFrom}
-use Rattle.decoded.specs.Settled.Pools.{table-in, table-used, table-free}
+use Rattle.decoded.specs.Canonical.Pools.{table-in, table-used, table-free}
 use Rattle.sound_trackers.specs.Chains.{chain}
 use Rattle.sound_trackers.specs.Tally.{coversB, carvesB, uncarvedB}
-use Rattle.exact_trackers.specs.Tests.{true-false, both-so, chain-is, every-in, in-every}
+use Rattle.exact_trackers.specs.Tests.{chain-is, every-in, in-every}
 
 -- ---- a row of the regions
 
@@ -40,7 +40,7 @@ module _ (v : Tables) (i : ℕ) where
   unfolding regionsFrom regionAt
   region-used h t = table-used (v .sizes .regions) (v .regionPool) (λ i. regionFrom (v .sizes .regions) (v .regions) (getD (v .regions) i noRegion)) i h t
 
-  pub region-free : i < v .sizes .regions → taken (v .regionPool) i ≡ false → slotOf (regionsFrom v) i ≡ none
+  pub region-free : i < v .sizes .regions → taken (v .regionPool) i ≡ false → atSlot (regionsFrom v) i ≡ none
   unfolding regionsFrom regionAt
   region-free h t = table-free (v .sizes .regions) (v .regionPool) (λ i. regionFrom (v .sizes .regions) (v .regions) (getD (v .regions) i noRegion)) i h t
 
@@ -79,9 +79,9 @@ of-carve k p h = elim (test (isCarve k)) [ holds e ↦ e | fails e ↦ absurd (o
 
 module _ (v : Tables) (sound : (i : ℕ) (g : state.Region) → In (regionsFrom v) i g → RegionSound (regionsFrom v) i g) (a i : ℕ) (g : state.Region) (at : In (regionsFrom v) i g) where
   -- a child that is a carve over a
-  child-carves : (c : ℕ) → 0 < count (eqb c) (g .children) → carvesB a (regionAt v c) ≡ true → Carving (regionsFrom v) i a c
+  child-carves : (c : ℕ) → 0 < countIf (eqb c) (g .children) → carvesB a (regionAt v c) ≡ true → Carving (regionsFrom v) i a c
   child-carves c h t =
-      let live = live-is (slotOf (regionsFrom v) c) (each-in (λ c. T (isSome (slotOf (regionsFrom v) c))) (g .children) (sound i g at .childrenLive) c h) in
+      let live = live-is (atSlot (regionsFrom v) c) (each-in (λ c. T (isSome (atSlot (regionsFrom v) c))) (g .children) (sound i g at .childrenLive) c h) in
       let k = both-true (leb 3 (regionAt v c .kind)) (coversB (regionAt v c) a) t in
       let w = so-covers (regionAt v c) a (k .1) in
       let read = region-in v c (live .0) (live .1) .2 in
@@ -95,13 +95,13 @@ module _ (v : Tables) (sound : (i : ℕ) (g : state.Region) → In (regionsFrom 
       }
 
   -- and the other way round
-  carve-listed : (c : ℕ) (k : Carving (regionsFrom v) i a c) → 0 < count (eqb c) (g .children)
+  carve-listed : (c : ℕ) (k : Carving (regionsFrom v) i a c) → 0 < countIf (eqb c) (g .children)
   carve-listed c k = omega (arith, k .of, carve-child (k .region .kind) i, sound c (k .region) (k .is) .listed i g at)
 
   carve-carves : (c : ℕ) (k : Carving (regionsFrom v) i a c) → carvesB a (regionAt v c) ≡ true
   carve-carves c k =
       let read = region-in v c (k .region) (k .is) .2 in
-      both-so (leb 3 (regionAt v c .kind)) (coversB (regionAt v c) a)
+      both-i (leb 3 (regionAt v c .kind)) (coversB (regionAt v c) a)
       (kind-carve (regionAt v c .kind) (regionAt v c .parent) (ap (λ (g : state.Region). isCarve (g .kind)) read ∙ of-carve (k .region .kind) i (k .of)))
       (covers-so (regionAt v c) a (omega (arith, k .low, ap (λ (g : state.Region). g .start) read)) (omega (arith, k .high, ap (λ (g : state.Region). g .end) read)))
 
@@ -109,7 +109,7 @@ module _ (v : Tables) (sound : (i : ℕ) (g : state.Region) → In (regionsFrom 
   unfolding uncarvedB
   not-carved z = in-every (λ c. not (carvesB a (regionAt v c))) (chain (λ j. regionAt v j .next) (v .sizes .regions) (regionAt v i .child)) (λ c h.
       elim (test (carvesB a (regionAt v c))) [
-        | holds t ↦ absurd (omega (arith, carved-get (regionsFrom v) i a c (child-carves c (subst (λ (l : List ℕ). 0 < count (eqb c) l) (children-are v i g at) h) t)))
+        | holds t ↦ absurd (omega (arith, carved-get (regionsFrom v) i a c (child-carves c (subst (λ (l : List ℕ). 0 < countIf (eqb c) l) (children-are v i g at) h) t)))
         | fails t ↦ rw t
       ])
 
@@ -118,13 +118,13 @@ module _ (v : Tables) (sound : (i : ℕ) (g : state.Region) → In (regionsFrom 
   is-carved h = elim (test (uncarvedB v a (regionAt v i .child))) [
     | holds t ↦
         let k = carved-find (regionsFrom v) i a h in
-        let e = every-in (λ c. not (carvesB a (regionAt v c))) (chain (λ j. regionAt v j .next) (v .sizes .regions) (regionAt v i .child)) t (k .0) (subst (λ (l : List ℕ). 0 < count (eqb (k .0)) l) (sym (children-are v i g at)) (carve-listed (k .0) (k .1))) in
+        let e = every-in (λ c. not (carvesB a (regionAt v c))) (chain (λ j. regionAt v j .next) (v .sizes .regions) (regionAt v i .child)) t (k .0) (subst (λ (l : List ℕ). 0 < countIf (eqb (k .0)) l) (sym (children-are v i g at)) (carve-listed (k .0) (k .1))) in
         absurd (true-false e (ap not (carve-carves (k .0) (k .1))))
     | fails t ↦ t
   ]
 
   pub uncarved-is : uncarvedB v a (regionAt v i .child) ≡ eqb (carved (regionsFrom v) i a) 0
   uncarved-is = elim (cmp 0 (carved (regionsFrom v) i a)) [
-    | lt h ↦ is-carved h ∙ sym (eqb-f (carved (regionsFrom v) i a) 0 (λ e. omega arith))
-    | ge h ↦ not-carved (omega arith) ∙ sym (eqb-t (carved (regionsFrom v) i a) 0 (omega arith))
+    | lt h ↦ is-carved h ∙ sym (ne-eqb (carved (regionsFrom v) i a) 0 (λ e. omega arith))
+    | ge h ↦ not-carved (omega arith) ∙ sym (eq-eqb (carved (regionsFrom v) i a) 0 (omega arith))
   ]

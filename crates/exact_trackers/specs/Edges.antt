@@ -2,16 +2,18 @@
 use mathlib.Core.Path.{_≡_, refl, sym, ap, subst, _∙_}
 use Prim.Native.Nat.{ℕ, suc, _<_}
 use mathlib.Core.Bool.{true, _||_}
-use mathlib.Core.Option.{Option, none, some}
+use mathlib.Core.Option.{Option, none, some, Option·getD}
 use mathlib.Core.List.{List, [], _∷_}
 use native.Mathlib.Omega.{arith}
 use lib.Dec.{T, eqb, leb, eqb→eq}
-use Rattle.model.specs.Lists.{oneIf, count, Each, orElse, slotOf, In}
+use borrow.Author.Tests.{eq-eqb}
+use Rattle.base.specs.Cases.{holds, fails, test}
+use Rattle.base.specs.Tests.{true-is}
+use Rattle.model.specs.Lists.{oneIf, countIf, Each, atSlot, In}
 use Rattle.model.specs.State as state
 use Rattle.model.specs.State.{Kind, Root, Alias, Carve, parentOf, noneRegion, regionIn}
 use Rattle.model.specs.Tree.{isCarve}
 use Rattle.model.specs.Sound.{RegionSound, OwnerSound, names}
-use Rattle.laws.specs.Cases.{eqb-t, true-is, holds, fails, test}
 use Rattle.laws.specs.Test.Points.{carvedFrom, concerns, pointsIn, pointsOf}
 use Rattle.laws.specs.Tree.Slots.{live-is}
 use Rattle.tables.specs.declared.RegionCapa.{RegionCapa}
@@ -66,8 +68,8 @@ module _ (v : Tables) (shaped : Shaped v)
   unfolding regionB carvesEndB carveB
   carve i p g h e f k o =
       let all = pick-both (endsB v d (regionAt v p)) (carvesEndB v d (regionAt v p .child)) (tested p h f o) .1 in
-      let listed : count (eqb i) (h .children) ≡ 1 = sound i g e .listed p h f ∙ ap (λ (c : Kind). oneIf (names (parentOf c) p)) k ∙ ap oneIf (eqb-t p p refl) in
-      let here : 0 < count (eqb i) (chain (λ j. regionAt v j .next) (v .sizes .regions) (regionAt v p .child)) = subst (λ (l : List ℕ). 0 < count (eqb i) l) (sym (children-are v p h f)) (omega arith) in
+      let listed : countIf (eqb i) (h .children) ≡ 1 = sound i g e .listed p h f ∙ ap (λ (c : Kind). oneIf (names (parentOf c) p)) k ∙ ap oneIf (eq-eqb p p refl) in
+      let here : 0 < countIf (eqb i) (chain (λ j. regionAt v j .next) (v .sizes .regions) (regionAt v p .child)) = subst (λ (l : List ℕ). 0 < countIf (eqb i) l) (sym (children-are v p h f)) (omega arith) in
       let b = every-in (λ j. carveB v d (regionAt v j)) (chain (λ j. regionAt v j .next) (v .sizes .regions) (regionAt v p .child)) all i here in
       let c = kind-carve (regionAt v i .kind) (regionAt v i .parent) (ap (λ (y : state.Region). isCarve (y .kind)) (region-in v i g e .2) ∙ ap isCarve k) in
       passes i g e (rw c at b)
@@ -82,8 +84,8 @@ module _ (v : Tables) (shaped : Shaped v)
       by Root z u = absurd u
       by (Alias p) z u = absurd u
       by (Carve p) z u =
-          let w = live-is (slotOf (regionsFrom v) p) (sound i g e .parentLive p (ap parentOf z)) in
-          carve i p g (w .0) e (w .1) z (ap (λ (y : Option state.Region). orElse y noneRegion .owner) (sym (w .1)) ∙ eqb→eq (regionIn (regionsFrom v) p .owner) d u)
+          let w = live-is (atSlot (regionsFrom v) p) (sound i g e .parentLive p (ap parentOf z)) in
+          carve i p g (w .0) e (w .1) z (ap (λ (y : Option state.Region). Option·getD y noneRegion .owner) (sym (w .1)) ∙ eqb→eq (regionIn (regionsFrom v) p .owner) d u)
 
   pub points-pass : Each (λ a. pointB v d a ≡ true) (pointsOf (regionsFrom v) d)
   points-pass = points-each (λ a. pointB v d a ≡ true) (regionsFrom v) d (regionsFrom v) (λ i g e u. concerned i g e (g .kind) refl u)

@@ -5,29 +5,23 @@ use Prim.Native.Nat.{ℕ, _≤_, _<_, max}
 use mathlib.Core.Option.{Option}
 use mathlib.Core.List.{List, [], _∷_, _++_, map}
 use native.Mathlib.Omega.{arith}
+use borrow.Author.Tests.{le-leb, lt-leb}
+use Rattle.base.specs.Cases.{lt, ge, cmp}
 use Rattle.model.specs.Lists.{Each}
 use Rattle.model.specs.State.{Counts, Region, Record}
 use Rattle.model.specs.Fields.{passes}
 use Rattle.model.specs.Counts.{countsAt, Agree}
-use Rattle.laws.specs.Cases.{lt, ge, cmp}
-use Rattle.laws.specs.Test.Floor.{leb-t, leb-f, floor, floor-le, Free, floor-free}
+use Rattle.laws.specs.Test.Floor.{floor, floor-le, Free, floor-free}
 use Rattle.laws.specs.Test.Points.{Suffice, holds-same}
 use Rattle.laws.specs.Test.Edges.{each-append}
+use Rattle.laws.specs.Lists.{each-join, each-weaken}
 use Rattle.exact_trackers.specs.Stored.{Holds, Ends}
 
 -- ---- lists
 
-pub each-join : {A : Type 0} (P : A → Type 0) (l m : List A) → Each P l → Each P m → Each P (l ++ m)
-each-join P [] m h k = k
-each-join P (x ∷ l) m h k = (h .0, each-join P l m (h .1) k)
-
 each-map : {A : Type 0} (P : ℕ → Type 0) (f : A → ℕ) (l : List A) → Each (λ q. P (f q)) l → Each P (map f l)
 each-map P f [] h = tt
 each-map P f (q ∷ l) h = (h .0, each-map P f l (h .1))
-
-pub each-weaken : {A : Type 0} (P Q : A → Type 0) (l : List A) → ((x : A) → P x → Q x) → Each P l → Each Q l
-each-weaken P Q [] f h = tt
-each-weaken P Q (x ∷ l) f h = (f x (h .0), each-weaken P Q l f (h .1))
 
 max-holds : (P : ℕ → Type 0) (b x : ℕ) → P b → P x → P (max b x)
 max-holds P b x h k = elim (cmp b x) [ lt i ↦ let e : x ≡ max b x = omega arith in subst P e k | ge i ↦ let e : b ≡ max b x = omega arith in subst P e h ]
@@ -35,8 +29,8 @@ max-holds P b x h k = elim (cmp b x) [ lt i ↦ let e : x ≡ max b x = omega ar
 floor-holds : (P : ℕ → Type 0) (a b : ℕ) (l : List ℕ) → P b → Each P l → P (floor a b l)
 floor-holds P a b [] h k = h
 floor-holds P a b (x ∷ l) h k = elim (cmp a x) [
-  | lt i ↦ rw (leb-f x a i) (floor-holds P a b l h (k .1))
-  | ge i ↦ rw (leb-t x a i) (floor-holds P a (max b x) l (max-holds P b x h (k .0)) (k .1))
+  | lt i ↦ rw (lt-leb x a i) (floor-holds P a b l h (k .1))
+  | ge i ↦ rw (le-leb x a i) (floor-holds P a (max b x) l (max-holds P b x h (k .0)) (k .1))
 ]
 
 -- ---- where nothing begins or ends

@@ -1,29 +1,30 @@
 -- Laws: tables pass the test of the trackers exactly where each live domain's tracker is as **Sound** says.
 use mathlib.Core.Path.{_≡_, refl, sym, ap, subst, _∙_}
+use mathlib.Core.Logic.{_↔_}
 use Prim.Native.Nat.{ℕ, _<_}
 use mathlib.Core.Bool.{true, false}
 use mathlib.Core.List.{List}
 use native.Mathlib.Omega.{arith}
 use borrow.Author.Tests.{lt-ltb, le-ltb}
 use lib.ListN.{getD}
+use Rattle.base.specs.Cases.{holds, fails, test, pick}
 use Rattle.model.specs.Lists.{Each, In}
 use Rattle.model.specs.State as state
 use Rattle.model.specs.State.{Record}
 use Rattle.model.specs.Fields.{Field}
 use Rattle.model.specs.Counts.{countsAt, Agree, regionCount}
-use Rattle.model.specs.Sound.{TrackersSound, RegionSound, OwnerSound, TrackerSound}
-use Rattle.laws.specs.Cases.{holds, fails, test}
+use Rattle.model.specs.Sound.{RegionSound, OwnerSound, TrackerSound}
 use Rattle.laws.specs.CountsLaw.{counts-law}
 use Rattle.laws.specs.Test.Points.{pointsOf, points-suffice}
-use Rattle.words.specs.Cases.{pick}
+use Rattle.laws.specs.Lists.{each-weaken}
 use Rattle.tables.specs.declared.Region.{Region}
 use Rattle.tables.specs.Tables.{Tables, noDomain, headAt, recordAt}
 use Rattle.arena.specs.Arena.{isFreeB}
 use Rattle.decoded.specs.Shape.{Shaped}
 use Rattle.decoded.specs.Decode.Read.{taken, domainFrom, domainsFrom, regionsFrom, stateOf}
-use Rattle.decoded.specs.Settled.Ends.{chainEnd}
-use Rattle.decoded.specs.Settled.Pools.{table-in, table-used, taken-link, free-link}
-use Rattle.decoded.specs.Settled.Tidy.{domainRow, recordRow}
+use Rattle.decoded.specs.Canonical.Ends.{chainEnd}
+use Rattle.decoded.specs.Canonical.Pools.{table-in, table-used, taken-link, free-link}
+use Rattle.decoded.specs.Canonical.WellFormed.{domainRow, recordRow}
 use Rattle.sound_trackers.specs.Tally.{agreesB, tally}
 use Rattle.sound_trackers.specs.Trackers.{records, recordsB, pointB, edgesB, domainB, trackersHold}
 use Rattle.exact_trackers.specs.Tests.{chain-is, pick-both, pick-true, every-below, below-every}
@@ -34,7 +35,7 @@ use Rattle.exact_trackers.specs.Agreement.{countsFrom, agrees-so, so-agr
 use Rattle.exact_trackers.specs.Stored.{Good, Holds, Ends, good-rising, good-merged, good-reached, good-uncacheable, good-ends, all-counted, sound-good, reach-any}
 use Rattle.exact_trackers.specs.Records.{listOf, behind, records-good, good-records}
 use Rattle.exact_trackers.specs.Points.{point-so, so-point}
-use Rattle.exact_trackers.specs.Everywhere.{everywhere, each-weaken}
+use Rattle.exact_trackers.specs.Everywhere.{everywhere}
 use Rattle.exact_trackers.specs.Edges.{points-pass, all-edges}
 
 -- What is tested before: the walk along each tracker ends, the region tree is sound, each live region has one Region slot, in its domain.
@@ -138,9 +139,13 @@ module _ (v : Tables) (shaped : Shaped v)
 
 -- ---- all domains
 
-pub trackers-hold : (v : Tables) → Before v → trackersHold v ≡ true → (d : ℕ) (x : state.Domain) → In (stateOf v .domains) d x → TrackerSound (stateOf v .regions) d (x .tracker)
+-- every tracker of the state that is read is sound
+abbrev pub TrackersClause : Tables → Type 0
+TrackersClause v = (d : ℕ) (x : state.Domain) → In (stateOf v .domains) d x → TrackerSound (stateOf v .regions) d (x .tracker)
+
+passed-clause : (v : Tables) → Before v → trackersHold v ≡ true → TrackersClause v
 unfolding stateOf trackersHold
-trackers-hold v b t d x at =
+passed-clause v b t d x at =
     tracker-sound v (b .shaped) (b .trackersEnd) (b .regions) (b .owners) d x at
     (every-below (λ d. domainB v d) (v .sizes .domains) t d (domain-low v (b .shaped) d x at))
 
@@ -152,12 +157,15 @@ used-domain : (v : Tables) (d : ℕ) → d < v .sizes .domains → taken (v .dom
 unfolding domainsFrom
 used-domain v d h e = table-used (v .sizes .domains) (v .domainPool) (λ i. domainFrom (v .sizes .slots) (v .sizes .records) (v .records) (getD (v .domains) i noDomain)) d h e
 
-pub hold-trackers : (v : Tables) → Before v → TrackersSound (stateOf v) → trackersHold v ≡ true
+clause-passes : (v : Tables) → Before v → TrackersClause v → trackersHold v ≡ true
 unfolding stateOf trackersHold
-hold-trackers v b s = below-every (λ d. domainB v d) (v .sizes .domains) (λ d h. elim (test (taken (v .domainPool) d)) [
+clause-passes v b c = below-every (λ d. domainB v d) (v .sizes .domains) (λ d h. elim (test (taken (v .domainPool) d)) [
   | holds e ↦
       let x = domainFrom (v .sizes .slots) (v .sizes .records) (v .records) (domainRow v d) in
       let at = used-domain v d h e in
-      sound-domain v (b .shaped) (b .trackersEnd) (b .regions) (b .owners) d x at (s .trackers d x at) (counts-law (stateOf v) s d x at)
+      sound-domain v (b .shaped) (b .trackersEnd) (b .regions) (b .owners) d x at (c d x at) (counts-law (regionsFrom v) d (x .tracker) (c d x at))
   | fails e ↦ free-domain v d e
 ])
+
+pub trackers-exact : (v : Tables) → Before v → (trackersHold v ≡ true) ↔ TrackersClause v
+trackers-exact v b = (passed-clause v b, clause-passes v b)

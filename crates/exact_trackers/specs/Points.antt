@@ -6,17 +6,16 @@ use mathlib.Core.List.{List, [], _∷_}
 use native.Mathlib.Omega.{arith}
 use borrow.Author.Tests.{eqb-true, eq-eqb, leb-true, le-leb}
 use lib.Dec.{eqb, leb}
+use Rattle.base.specs.Cases.{holds, fails, test, lt, ge, cmp}
+use Rattle.base.specs.Tests.{both-true, true-false, both-i}
 use Rattle.model.specs.Lists.{Each}
 use Rattle.model.specs.State.{Counts, Record}
 use Rattle.model.specs.Counts.{countsAt}
-use Rattle.laws.specs.Cases.{holds, fails, test, lt, ge, cmp}
-use Rattle.words.specs.Cases.{both-true}
 use Rattle.tables.specs.declared.Region.{Region}
 use Rattle.tables.specs.Tables.{Tables, recordAt}
 use Rattle.decoded.specs.Decode.Read.{recordFrom}
 use Rattle.sound_trackers.specs.Tally.{agreesB, tally}
 use Rattle.sound_trackers.specs.Trackers.{touchesB, insideB, pointIn}
-use Rattle.exact_trackers.specs.Tests.{true-false, both-so}
 use Rattle.exact_trackers.specs.Agreement.{countsFrom}
 use Rattle.exact_trackers.specs.Stored.{Ends, at-inside, at-past, at-low}
 use Rattle.exact_trackers.specs.Records.{listOf, empty-so, so-empty}
@@ -56,7 +55,7 @@ module _ (v : Tables) (d : ℕ) (P : ℕ → Counts → Type 0)
     | lt h ↦ at-low (recordFrom i q) l a h
     | ge h ↦ elim (cmp (q .end) a) [
       | lt k ↦ at-past (recordFrom i q) l a (omega arith)
-      | ge k ↦ absurd (true-false (both-so (leb (q .start) a) (leb a (q .end)) (le-leb (q .start) a h) (le-leb a (q .end) k)) t)
+      | ge k ↦ absurd (true-false (both-i (leb (q .start) a) (leb a (q .end)) (le-leb (q .start) a h) (le-leb a (q .end) k)) t)
     ]
   ]
 

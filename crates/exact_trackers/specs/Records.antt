@@ -6,18 +6,18 @@ use mathlib.Core.List.{List, _∷_, map}
 use native.Mathlib.Omega.{arith}
 use borrow.Author.Tests.{eqb-true, eq-eqb, ne-eqb, ltb-true, lt-ltb, leb-true, le-leb, not-true}
 use lib.Dec.{eqb, ltb, leb}
+use Rattle.base.specs.Cases.{holds, fails, test, pick}
+use Rattle.base.specs.Tests.{both, both-true, both-i}
 use Rattle.model.specs.State.{Counts, Record}
 use Rattle.model.specs.Counts.{noCounts}
-use Rattle.laws.specs.Cases.{holds, fails, test}
-use Rattle.words.specs.Cases.{pick, both, both-true}
 use Rattle.tables.specs.declared.Region.{Region}
 use Rattle.tables.specs.Tables.{Tables, noRecord, recordAt}
 use Rattle.decoded.specs.Decode.Read.{recordFrom}
-use Rattle.decoded.specs.Settled.Ends.{chainEnd}
+use Rattle.decoded.specs.Canonical.Ends.{chainEnd}
 use Rattle.sound_trackers.specs.Chains.{every, chain}
 use Rattle.sound_trackers.specs.Tally.{agreesB, tally}
 use Rattle.sound_trackers.specs.Trackers.{emptyB, formB, sameB, nextB, joinB, recordB}
-use Rattle.exact_trackers.specs.Tests.{pick-both, pick-true, both-so}
+use Rattle.exact_trackers.specs.Tests.{pick-both, pick-true}
 use Rattle.exact_trackers.specs.Agreement.{countsFrom, same-counts}
 use Rattle.exact_trackers.specs.Stored.{Formed, Follows, touching, apart, Join, Good}
 
@@ -116,4 +116,4 @@ module _ (v : Tables) (d : ℕ) (P : ℕ → Counts → Type 0)
   unfolding chain every
   good-records zero k z g = refl
   good-records (suc n) zero z g = refl
-  good-records (suc n) (suc i) z g = both-so (recordB v d (recordAt v i)) (every (λ i. recordB v d (recordAt v i)) (chain (behind v) n (behind v i))) (record-holds n i z g) (good-records n (behind v i) z (g .3))
+  good-records (suc n) (suc i) z g = both-i (recordB v d (recordAt v i)) (every (λ i. recordB v d (recordAt v i)) (chain (behind v) n (behind v i))) (record-holds n i z g) (good-records n (behind v i) z (g .3))

@@ -6,29 +6,29 @@ use mathlib.Core.Option.{none}
 use mathlib.Core.List.{map}
 use native.Mathlib.Omega.{arith}
 use native.Mathlib.Decide.{ℕ-discrete}
-use borrow.Author.Tests.{eqb-true}
+use borrow.Author.Tests.{eqb-true, lt-ltb, le-ltb, eq-eqb}
 use lib.Dec.{eqb}
 use lib.ListN.{length, getD, length-map, List·getD-map}
-use Rattle.model.specs.Lists.{oneIf, count, slotOf, In}
+use Rattle.base.specs.Tests.{both, true-false, both-i}
+use Rattle.base.specs.Lists.{getD-any}
+use Rattle.model.specs.Lists.{oneIf, countIf, atSlot, In}
 use Rattle.model.specs.State as state
 use Rattle.model.specs.State.{Pool}
 use Rattle.model.specs.Pool.{handleOf}
 use Rattle.model.specs.Sound.{OwnerSound, isRegionOf}
-use Rattle.laws.specs.Cases.{ltb-t, ltb-f, eqb-t}
 use Rattle.laws.specs.Tree.Sum.{sum, sum-same, sum-find}
 use Rattle.laws.specs.Tree.Slots.{count-sum}
-use Rattle.words.specs.Cases.{both}
 use Rattle.tables.specs.declared.Handle.{Handle}
 use Rattle.tables.specs.declared.Slot.{Slot}
 use Rattle.tables.specs.Tables.{Tables, noDomain, noSlot, slotAt}
 use Rattle.arena.specs.Arena.{liveB}
 use Rattle.decoded.specs.Shape.{Shaped}
 use Rattle.decoded.specs.Decode.Read.{taken, capaFrom, heldIn, poolFrom, domainFrom, domainsFrom, regionsFrom}
-use Rattle.decoded.specs.Decode.Walks.{getD-any}
-use Rattle.decoded.specs.Settled.Pools.{table-in}
-use Rattle.decoded.specs.Settled.Law.{each-at}
+use Rattle.decoded.specs.Canonical.Pools.{table-in}
+use Rattle.decoded.specs.Canonical.Law.{each-at}
+use Rattle.decoded.specs.Canonical.Pools.{table-in}
+use Rattle.decoded.specs.Canonical.Law.{each-at}
 use Rattle.sound_trackers.specs.Tally.{namesB}
-use Rattle.exact_trackers.specs.Tests.{true-false, both-so}
 use Rattle.exact_trackers.specs.Carved.{region-in}
 
 -- ---- what a slot names
@@ -58,11 +58,11 @@ names-region v x i e = ap (λ n. isRegionOf (handleOf (regionPool v) i) (capaFro
 module _ (v : Tables) (shaped : Shaped v) where
   pub live-is : (h : Handle) → h .slot < v .sizes .regions → liveB (v .regionPool) h ≡ both (taken (v .regionPool) (h .slot)) (eqb (getD (v .regionPool .gens) (h .slot) 0) (h .generation))
   unfolding liveB
-  live-is h k = rw (ltb-t (h .slot) (length (v .regionPool .links)) (omega (arith, shaped .regionPool .links)))
+  live-is h k = rw (lt-ltb (h .slot) (length (v .regionPool .links)) (omega (arith, shaped .regionPool .links)))
 
   pub live-not : (h : Handle) → v .sizes .regions ≤ h .slot → liveB (v .regionPool) h ≡ false
   unfolding liveB
-  live-not h k = rw (ltb-f (h .slot) (length (v .regionPool .links)) (omega (arith, shaped .regionPool .links)))
+  live-not h k = rw (le-ltb (h .slot) (length (v .regionPool .links)) (omega (arith, shaped .regionPool .links)))
 
   two : (b c : Bool) → (b && c) ≡ true → (b ≡ true) × (c ≡ true)
   two true c e = (refl, e)
@@ -77,7 +77,7 @@ module _ (v : Tables) (shaped : Shaped v) where
         let w = two (eqb i (x .handle .slot)) (eqb (getD (v .regionPool .gens) i 0) (x .handle .generation)) (sym (names-region v x i e) ∙ t) in
         let z : x .handle .slot ≡ i = sym (eqb-true i (x .handle .slot) (w .0)) in
         let r = region-in v i g at in
-        (rw (eqb-t (x .kind) 2 e) (live-is (x .handle) (omega (arith, r .0)) ∙ rw z (both-so (taken (v .regionPool) i) (eqb (getD (v .regionPool .gens) i 0) (x .handle .generation)) (r .1) (w .1))), z)
+        (rw (eq-eqb (x .kind) 2 e) (live-is (x .handle) (omega (arith, r .0)) ∙ rw z (both-i (taken (v .regionPool) i) (eqb (getD (v .regionPool .gens) i 0) (x .handle .generation)) (r .1) (w .1))), z)
   ]
 
 -- ---- the slots of domain d
@@ -94,25 +94,25 @@ module _ (v : Tables) (shaped : Shaped v) (d : ℕ) (x : state.Domain) (at : In 
   many : length (getD (v .domains) d noDomain .slots) ≡ v .sizes .slots
   many = each-at _ (v .domains) (shaped .slots) d noDomain (omega (arith, shaped .domains, domain-low))
 
-  held-at : (j : ℕ) → j < v .sizes .slots → slotOf (x .locals .held) j ≡ heldIn (slotAt v d j)
+  held-at : (j : ℕ) → j < v .sizes .slots → atSlot (x .locals .held) j ≡ heldIn (slotAt v d j)
   unfolding slotAt
   held-at j h =
       let l = getD (v .domains) d noDomain .slots in
-      ap (λ m. slotOf m j) held-is
+      ap (λ m. atSlot m j) held-is
       ∙ getD-any (map heldIn l) j none (heldIn noSlot) (omega (arith, length-map l heldIn, many))
       ∙ List·getD-map heldIn l j noSlot
 
-  pub named : (i : ℕ) → sum (λ j. oneIf (namesSlot v (slotAt v d j) i)) (v .sizes .slots) ≡ count (isRegionOf (handleOf (regionPool v) i)) (x .locals .held)
+  pub named : (i : ℕ) → sum (λ j. oneIf (namesSlot v (slotAt v d j) i)) (v .sizes .slots) ≡ countIf (isRegionOf (handleOf (regionPool v) i)) (x .locals .held)
   named i =
       let n : length (x .locals .held) ≡ v .sizes .slots = ap length held-is ∙ length-map (getD (v .domains) d noDomain .slots) heldIn ∙ many in
       sym (count-sum (isRegionOf (handleOf (regionPool v) i)) (x .locals .held)
-      ∙ ap (sum (λ j. oneIf (isRegionOf (handleOf (regionPool v) i) (slotOf (x .locals .held) j)))) n
+      ∙ ap (sum (λ j. oneIf (isRegionOf (handleOf (regionPool v) i) (atSlot (x .locals .held) j)))) n
       ∙ sum-same _ _ (v .sizes .slots) (λ j h. ap (λ o. oneIf (isRegionOf (handleOf (regionPool v) i) o)) (held-at j h)))
 
   -- a region of d's is named by a slot of d's
   pub naming : (i : ℕ) (g : state.Region) → OwnerSound (regionPool v) (domainsFrom v) i g → g .owner ≡ d → (j : ℕ) × (j < v .sizes .slots) × (namesSlot v (slotAt v d j) i ≡ true)
   naming i g own e =
-      let n = named i ∙ own .oneSlot d x at ∙ ap oneIf (eqb-t (g .owner) d e) in
+      let n = named i ∙ own .oneSlot d x at ∙ ap oneIf (eq-eqb (g .owner) d e) in
       let r = sum-find (λ j. oneIf (namesSlot v (slotAt v d j) i)) (v .sizes .slots) (omega arith) in
       (r .at, r .low, so (namesSlot v (slotAt v d (r .at)) i) (r .counts))
     where

@@ -6,26 +6,26 @@ use mathlib.Core.Bool.{false, not}
 use mathlib.Core.List.{List, [], _∷_}
 use native.Mathlib.Omega.{arith}
 use lib.Dec.{T}
-use Rattle.model.specs.Lists.{any, Each}
+use borrow.Author.Tests.{lt-ltb, le-ltb, eq-eqb, ne-eqb, le-leb, lt-leb}
+use Rattle.base.specs.Cases.{lt, ge, cmp, holds, fails, test}
+use Rattle.base.specs.Tests.{is-false, or-r}
+use Rattle.model.specs.Lists.{exists, Each}
 use Rattle.model.specs.State.{Counts, Record}
 use Rattle.model.specs.Counts as counts
 use Rattle.model.specs.Counts.{noCounts, countsAt}
 use Rattle.model.specs.Tracker.{sameCounts, mergeable}
 use Rattle.model.specs.Sound.{Rising, Merged}
-use Rattle.laws.specs.Cases.{lt, ge, cmp, ltb-t, ltb-f, eqb-t, eqb-f, is-false, holds, fails, test}
-use Rattle.laws.specs.Test.Floor.{leb-t, leb-f}
-use Rattle.laws.specs.Test.Lists.{or-r}
 
 -- ---- the counts at an address
 
 pub at-inside : (q : Record) (l : List Record) (a : ℕ) → q .start ≤ a → a < q .end → countsAt (q ∷ l) a ≡ q .counts
-at-inside q l a h k = rw (leb-t (q .start) a h, ltb-t a (q .end) k)
+at-inside q l a h k = rw (le-leb (q .start) a h, lt-ltb a (q .end) k)
 
 pub at-past : (q : Record) (l : List Record) (a : ℕ) → q .end ≤ a → countsAt (q ∷ l) a ≡ countsAt l a
-at-past q l a h = elim (cmp a (q .start)) [ lt k ↦ rw (leb-f (q .start) a k) | ge k ↦ rw (leb-t (q .start) a k, ltb-f a (q .end) h) ]
+at-past q l a h = elim (cmp a (q .start)) [ lt k ↦ rw (lt-leb (q .start) a k) | ge k ↦ rw (le-leb (q .start) a k, le-ltb a (q .end) h) ]
 
 pub at-low : (q : Record) (l : List Record) (a : ℕ) → a < q .start → countsAt (q ∷ l) a ≡ countsAt l a
-at-low q l a h = rw (leb-f (q .start) a h)
+at-low q l a h = rw (lt-leb (q .start) a h)
 
 pub at-before : (lo a : ℕ) (l : List Record) → Rising lo l → a < lo → countsAt l a ≡ noCounts
 at-before lo a [] o h = refl
@@ -78,8 +78,8 @@ module _ (P : ℕ → Counts → Type 0) where
   good-rising l g = rising-from 0 l (first-zero l) g
 
   unmerged : (q n : Record) → Follows P q n → T (not (mergeable q n))
-  unmerged q n (touching e s) = rw (s, eqb-t (q .end) (n .start) e) tt
-  unmerged q n (apart h p) = rw (eqb-f (q .end) (n .start) (λ e. omega arith)) tt
+  unmerged q n (touching e s) = rw (s, eq-eqb (q .end) (n .start) e) tt
+  unmerged q n (apart h p) = rw (ne-eqb (q .end) (n .start) (λ e. omega arith)) tt
 
   pub good-merged : (l : List Record) → Good P l → Merged l
   good-merged [] g = tt
@@ -136,7 +136,7 @@ module _ (P : ℕ → Counts → Type 0) where
   sound-follows : (q n : Record) → q .end ≤ n .start → T (not (mergeable q n)) → (q .end < n .start → P (q .end) noCounts) → Follows P q n
   sound-follows q n h t p = elim (cmp (q .end) (n .start)) [
     | lt k ↦ apart k (p k)
-    | ge k ↦ let e : q .end ≡ n .start = omega arith in touching e (let u = rw (eqb-t (q .end) (n .start) e) at t in is-false u)
+    | ge k ↦ let e : q .end ≡ n .start = omega arith in touching e (let u = rw (eq-eqb (q .end) (n .start) e) at t in is-false u)
   ]
 
   sound-join : (q : Record) (l : List Record) → Rising (q .end) l → Merged (q ∷ l) → P (q .end) (countsAt l (q .end)) → Join P q l
@@ -157,9 +157,9 @@ module _ (P : ℕ → Counts → Type 0) where
   )
 
 -- an address with counts lies in a record
-pub reach-any : (a : ℕ) (l : List Record) → 0 < countsAt l a .reach → T (any (λ q. counts.holds (q .start) (q .end) a) l)
+pub reach-any : (a : ℕ) (l : List Record) → 0 < countsAt l a .reach → T (exists (λ q. counts.holds (q .start) (q .end) a) l)
 reach-any a [] h = absurd (omega arith)
 reach-any a (q ∷ l) h = elim (test (counts.holds (q .start) (q .end) a)) [
   | holds t ↦ rw t tt
-  | fails t ↦ or-r (counts.holds (q .start) (q .end) a) (any (λ q. counts.holds (q .start) (q .end) a) l) (reach-any a l (rw t at h))
+  | fails t ↦ or-r (counts.holds (q .start) (q .end) a) (exists (λ q. counts.holds (q .start) (q .end) a) l) (reach-any a l (rw t at h))
 ]

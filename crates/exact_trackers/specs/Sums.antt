@@ -5,7 +5,8 @@ use mathlib.Core.Bool.{Bool, true, false}
 use native.Mathlib.Omega.{arith}
 use native.Mathlib.Nat.{add-mul, zero-mul, one-mul}
 use Rattle.rights.specs.Rights as rights
-use Rattle.model.specs.Lists.{if_then_else_, oneIf}
+use Rattle.rights.specs.Counters as counters
+use Rattle.model.specs.Lists.{oneIf, if_then_else_}
 use Rattle.model.specs.Fields.{Field, counter}
 use Rattle.laws.specs.Tree.Sum.{sum}
 use Rattle.tables.specs.Tables.{Tables, slotAt}
@@ -48,7 +49,7 @@ get-none f = get-each f (λ g. 0)
 get-plus : (f : Field) (s k : Sums) → getS f (plus s k) ≡ getS f s + getS f k
 get-plus f s k = get-each f (λ g. getS g s + getS g k)
 
-count-one : (b : Bool) → rights.count b ≡ oneIf b
+count-one : (b : Bool) → counters.oneIf b ≡ oneIf b
 count-one true = refl
 count-one false = refl
 

@@ -9,33 +9,29 @@ use native.Mathlib.Omega.{arith}
 use native.Mathlib.Nat.{zero-mul, one-mul, mul-zero}
 use native.Mathlib.Decide.{ℕ-discrete}
 use lib.Dec.{eqb}
-use lib.ListN.{length, getD}
-use Rattle.model.specs.Lists.{if_then_else_, oneIf, slotOf, In}
+use lib.ListN.{getD}
+use borrow.Author.Tests.{eq-eqb, ne-eqb}
+use Rattle.base.specs.Cases.{lt, ge, cmp, below, inside, above, pos, holds, fails, test, pick}
+use Rattle.base.specs.Tests.{both, true-false}
+use Rattle.model.specs.Lists.{oneIf, atSlot, In, if_then_else_}
 use Rattle.model.specs.Fields.{Field, counter}
 use Rattle.model.specs.State as state
 use Rattle.model.specs.Pool.{handleOf}
 use Rattle.model.specs.Counts.{regionCount}
 use Rattle.model.specs.Sound.{RegionSound, OwnerSound}
-use Rattle.laws.specs.Cases.{lt, ge, cmp, eqb-t, eqb-f, within, within-lo, within-in, within-hi, within-same, below, inside, above, pos, holds, fails, test}
 use Rattle.laws.specs.Tree.Sum.{sum, sum-same, sum-zero, sum-at, sum-swap}
 use Rattle.laws.specs.Tree.Shares.{clear, clear-zero, carved, weight, tally-is}
-use Rattle.words.specs.Cases.{pick, both}
+use Rattle.laws.specs.Within.{within, within-lo, within-in, within-hi, within-same}
 use Rattle.tables.specs.declared.Slot.{Slot}
 use Rattle.tables.specs.declared.RegionCapa.{RegionCapa}
 use Rattle.tables.specs.Tables.{Tables, slotAt, regionAt}
-use Rattle.decoded.specs.Rows.{map-up-length}
 use Rattle.decoded.specs.Shape.{Shaped}
 use Rattle.decoded.specs.Decode.Read.{taken, domainsFrom, regionsFrom}
+use Rattle.decoded.specs.Canonical.Pools.{regions-many}
 use Rattle.sound_trackers.specs.Tally.{noSums, ones, coversB, countsB, namesB, share, tally}
-use Rattle.exact_trackers.specs.Tests.{true-false}
 use Rattle.exact_trackers.specs.Carved.{regionRead, region-in, region-used, region-free, covers-so, so-covers, uncarved-is}
 use Rattle.exact_trackers.specs.Slots.{not-region, regionPool, namesSlot, names-region, live-is, live-not, named}
 use Rattle.exact_trackers.specs.Sums.{getS, get-none, get-ones, sum-times, tally-sum}
-
--- as many regions as the sizes say
-many-regions : (v : Tables) → length (regionsFrom v) ≡ v .sizes .regions
-unfolding regionsFrom
-many-regions v = map-up-length _ (v .sizes .regions)
 
 -- ---- what a region counts for
 
@@ -53,14 +49,14 @@ outside r a x t = elim (pos (r .start) (r .end) a) [
 module _ (v : Tables) (shaped : Shaped v) (sound : (i : ℕ) (g : state.Region) → In (regionsFrom v) i g → RegionSound (regionsFrom v) i g) (f : Field) (a : ℕ) where
   -- region i where it is not carved
   abbrev value : ℕ → ℕ
-  value i = clear (carved (regionsFrom v) i a) (cover f (slotOf (regionsFrom v) i) a)
+  value i = clear (carved (regionsFrom v) i a) (cover f (atSlot (regionsFrom v) i) a)
 
   abbrev counted : ℕ → ℕ
   counted i = getS f (pick (countsB v a (regionAt v i)) (ones (regionAt v i .rights)) noSums)
 
   pick-carved : (c r : ℕ) → getS f (pick (eqb c 0) (ones r) noSums) ≡ clear c (counter f r)
   pick-carved zero r = get-ones f r
-  pick-carved (suc c) r = rw (eqb-f (suc c) 0 (λ e. omega arith)) (get-none f)
+  pick-carved (suc c) r = rw (ne-eqb (suc c) 0 (λ e. omega arith)) (get-none f)
 
   region-value : (i : ℕ) (g : state.Region) → In (regionsFrom v) i g → counted i ≡ value i
   unfolding countsB
@@ -87,17 +83,17 @@ module _ (v : Tables) (shaped : Shaped v) (sound : (i : ℕ) (g : state.Region) 
   no-name x e = rw e (get-none f)
 
   other-zero : (x : Slot) → x .kind ≡ 2 → (i : ℕ) → i ≢ x .handle .slot → given x i ≡ 0
-  other-zero x e i ne = rw (names-region v x i e, eqb-f i (x .handle .slot) ne)
+  other-zero x e i ne = rw (names-region v x i e, ne-eqb i (x .handle .slot) ne)
 
   -- at its own region
   own : (x : Slot) → x .kind ≡ 2 → x .handle .slot < v .sizes .regions → getS f (share v a x) ≡ given x (x .handle .slot)
   unfolding share namesB
   own x e h = let i = x .handle .slot in elim (test (eqb (getD (v .regionPool .gens) i 0) (x .handle .generation))) [
     | holds g ↦ elim (test (taken (v .regionPool) i)) [
-      | holds t ↦ rw (names-region v x i e, eqb-t (x .kind) 2 e, live-is v shaped (x .handle) h, t, g, eqb-t i i refl) (region-value i (regionRead v i) (region-used v i h t))
-      | fails t ↦ rw (names-region v x i e, eqb-t (x .kind) 2 e, live-is v shaped (x .handle) h, t, g, eqb-t i i refl, region-free v i h t) (get-none f ∙ sym (clear-zero (carved (regionsFrom v) i a)))
+      | holds t ↦ rw (names-region v x i e, eq-eqb (x .kind) 2 e, live-is v shaped (x .handle) h, t, g, eq-eqb i i refl) (region-value i (regionRead v i) (region-used v i h t))
+      | fails t ↦ rw (names-region v x i e, eq-eqb (x .kind) 2 e, live-is v shaped (x .handle) h, t, g, eq-eqb i i refl, region-free v i h t) (get-none f ∙ sym (clear-zero (carved (regionsFrom v) i a)))
     ]
-    | fails g ↦ no-name x (rw (eqb-t (x .kind) 2 e, live-is v shaped (x .handle) h, g) (both-false (taken (v .regionPool) i))) ∙ rw (names-region v x i e, g, eqb-t i i refl) refl
+    | fails g ↦ no-name x (rw (eq-eqb (x .kind) 2 e, live-is v shaped (x .handle) h, g) (both-false (taken (v .regionPool) i))) ∙ rw (names-region v x i e, g, eq-eqb i i refl) refl
   ]
     where
       both-false : (b : Bool) → both b false ≡ false
@@ -106,11 +102,11 @@ module _ (v : Tables) (shaped : Shaped v) (sound : (i : ℕ) (g : state.Region) 
 
   dead : (x : Slot) → x .kind ≡ 2 → v .sizes .regions ≤ x .handle .slot → namesB v x ≡ false
   unfolding namesB
-  dead x e h = rw (eqb-t (x .kind) 2 e, live-not v shaped (x .handle) h)
+  dead x e h = rw (eq-eqb (x .kind) 2 e, live-not v shaped (x .handle) h)
 
   unnamed : (x : Slot) → (x .kind ≡ 2 → ⊥) → namesB v x ≡ false
   unfolding namesB
-  unnamed x ne = rw (eqb-f (x .kind) 2 ne)
+  unnamed x ne = rw (ne-eqb (x .kind) 2 ne)
 
   slot-sum : (x : Slot) → getS f (share v a x) ≡ sum (given x) (v .sizes .regions)
   slot-sum x = elim (ℕ-discrete (x .kind) 2) [
@@ -131,7 +127,7 @@ module _ (v : Tables) (shaped : Shaped v) (sound : (i : ℕ) (g : state.Region) 
     times true o s e y c t = rw t (one-mul (clear c (within s e a y 0)))
     times false o s e y c t = rw t (zero-mul (clear c (within s e a y 0)) ∙ sym (clear-zero c) ∙ ap (clear c) (sym (within-same {A = ℕ} s e a 0 0 refl)))
 
-    region-sum : (i : ℕ) (o : Option state.Region) → slotOf (regionsFrom v) i ≡ o → sum (λ j. given (slotAt v d j) i) (v .sizes .slots) ≡ weight f (regionsFrom v) d a i
+    region-sum : (i : ℕ) (o : Option state.Region) → atSlot (regionsFrom v) i ≡ o → sum (λ j. given (slotAt v d j) i) (v .sizes .slots) ≡ weight f (regionsFrom v) d a i
     region-sum i none e =
         sum-times (λ j. namesSlot v (slotAt v d j) i) (value i) (v .sizes .slots)
         ∙ rw e (rw (clear-zero (carved (regionsFrom v) i a)) (mul-zero (sum (λ j. oneIf (namesSlot v (slotAt v d j) i)) (v .sizes .slots))))
@@ -147,5 +143,5 @@ module _ (v : Tables) (shaped : Shaped v) (sound : (i : ℕ) (g : state.Region) 
         tally-sum f v d a (v .sizes .slots)
         ∙ sum-same _ _ (v .sizes .slots) (λ j h. slot-sum (slotAt v d j))
         ∙ sum-swap (λ j i. given (slotAt v d j) i) (v .sizes .slots) (v .sizes .regions)
-        ∙ sum-same _ _ (v .sizes .regions) (λ i h. region-sum i (slotOf (regionsFrom v) i) refl)
-        ∙ sym (tally-is f (regionsFrom v) d a ∙ ap (sum (weight f (regionsFrom v) d a)) (many-regions v))
+        ∙ sum-same _ _ (v .sizes .regions) (λ i h. region-sum i (atSlot (regionsFrom v) i) refl)
+        ∙ sym (tally-is f (regionsFrom v) d a ∙ ap (sum (weight f (regionsFrom v) d a)) (regions-many v))

@@ -5,17 +5,12 @@ use mathlib.Core.Bool.{Bool, true, false}
 use mathlib.Core.List.{List, [], _∷_}
 use native.Mathlib.Omega.{arith}
 use lib.Dec.{eqb, eqb→eq}
-use Rattle.model.specs.Lists.{oneIf, count}
-use Rattle.laws.specs.Cases.{lt, ge, cmp, eqb-t, true-is, holds, fails, test}
-use Rattle.words.specs.Cases.{pick, both, both-true}
+use borrow.Author.Tests.{eq-eqb}
+use Rattle.base.specs.Cases.{lt, ge, cmp, holds, fails, test, pick}
+use Rattle.base.specs.Tests.{true-is, both-true, true-false, both-i}
+use Rattle.model.specs.Lists.{oneIf, countIf}
 use Rattle.decoded.specs.Decode.Read.{chainFrom}
 use Rattle.sound_trackers.specs.Chains.{every, slotsFrom, chain}
-
-pub true-false : {b : Bool} → b ≡ true → b ≡ false → ⊥
-true-false e f = let z : _≡_ {A = Bool} true false = cc in no z
-  where
-    no : _≡_ {A = Bool} true false → ⊥
-    no z = let w : _≡_ {A = ℕ} 0 1 = cc in omega arith
 
 -- one test after the other
 pub pick-both : (a b : Bool) → pick a b false ≡ true → (a ≡ true) × (b ≡ true)
@@ -25,9 +20,6 @@ pick-both false b h = absurd (true-false h refl)
 pub pick-true : (a b : Bool) → a ≡ true → b ≡ true → pick a b false ≡ true
 pick-true a b h k = rw (h, k)
 
-pub both-so : (a b : Bool) → a ≡ true → b ≡ true → both a b ≡ true
-both-so a b h k = rw (h, k)
-
 pub chain-is : (f : ℕ → ℕ) (n k : ℕ) → chain f n k ≡ chainFrom f n k
 unfolding chain
 chain-is f zero k = refl
@@ -36,7 +28,7 @@ chain-is f (suc n) (suc i) = ap (λ (l : List ℕ). i ∷ l) (chain-is f n (f i)
 
 -- ---- all slots of a list
 
-pub every-in : (p : ℕ → Bool) (l : List ℕ) → every p l ≡ true → (i : ℕ) → 0 < count (eqb i) l → p i ≡ true
+pub every-in : (p : ℕ → Bool) (l : List ℕ) → every p l ≡ true → (i : ℕ) → 0 < countIf (eqb i) l → p i ≡ true
 unfolding every
 every-in p [] t i h = absurd (omega arith)
 every-in p (x ∷ l) t i h = let b = both-true (p x) (every p l) t in elim (test (eqb i x)) [
@@ -44,10 +36,10 @@ every-in p (x ∷ l) t i h = let b = both-true (p x) (every p l) t in elim (test
   | fails e ↦ every-in p l (b .1) i (omega (arith, rw e at h))
 ]
 
-pub in-every : (p : ℕ → Bool) (l : List ℕ) → ((i : ℕ) → 0 < count (eqb i) l → p i ≡ true) → every p l ≡ true
+pub in-every : (p : ℕ → Bool) (l : List ℕ) → ((i : ℕ) → 0 < countIf (eqb i) l → p i ≡ true) → every p l ≡ true
 unfolding every
 in-every p [] f = refl
-in-every p (x ∷ l) f = both-so (p x) (every p l) (f x (omega (arith, ap oneIf (eqb-t x x refl)))) (in-every p l (λ i h. f i (omega arith)))
+in-every p (x ∷ l) f = both-i (p x) (every p l) (f x (omega (arith, ap oneIf (eq-eqb x x refl)))) (in-every p l (λ i h. f i (omega arith)))
 
 -- ---- all slots below a bound
 
@@ -65,7 +57,7 @@ every-below p n t i h = every-from p 0 n t i (omega arith) (omega arith)
 from-every : (p : ℕ → Bool) (k n : ℕ) → ((i : ℕ) → k ≤ i → i < k + n → p i ≡ true) → every p (slotsFrom k n) ≡ true
 unfolding every slotsFrom
 from-every p k zero f = refl
-from-every p k (suc n) f = both-so (p k) (every p (slotsFrom (suc k) n)) (f k (omega arith) (omega arith)) (from-every p (suc k) n (λ i h j. f i (omega arith) (omega arith)))
+from-every p k (suc n) f = both-i (p k) (every p (slotsFrom (suc k) n)) (f k (omega arith) (omega arith)) (from-every p (suc k) n (λ i h j. f i (omega arith) (omega arith)))
 
 pub below-every : (p : ℕ → Bool) (n : ℕ) → ((i : ℕ) → i < n → p i ≡ true) → every p (slotsFrom 0 n) ≡ true
 below-every p n f = from-every p 0 n (λ i h j. f i (omega arith))

@@ -7,30 +7,33 @@ use mathlib.Core.List.{List, map}
 use Prim.Native.Nat.{ℕ, zero, suc, _+_, _-_, _≤_, _<_}
 use native.Mathlib.Omega.{arith}
 use lib.Dec.{T, eqb}
-use Rattle.model.specs.Lists.{count}
+use borrow.Author.Tests.{lt-ltb, le-ltb}
+use Rattle.base.specs.Cases.{lt, ge, cmp, pick}
+use Rattle.base.specs.Tests.{is-true}
+use Rattle.model.specs.Lists.{countIf}
 use Rattle.model.specs.State as state
 use Rattle.model.specs.State.{parentOf}
 use Rattle.model.specs.Sound.{RegionSound, Ordered, OutsideSound}
-use Rattle.laws.specs.Cases.{lt, ge, cmp, ltb-t, ltb-f, is-true}
-use Rattle.laws.specs.SoundTest.{rooted}
-use Rattle.laws.specs.Test.Paths.{ok-rooted}
+use Rattle.laws.specs.Test.Paths.{rooted, ok-rooted}
 use Rattle.laws.specs.Tree.Sum.{sum, sum-same, sum-zero, sum-at}
 use Rattle.laws.specs.Tree.Slots.{in-each}
 use Rattle.laws.specs.Tree.Facts.{Regions, no-overlap}
-use Rattle.words.specs.Cases.{pick}
 use Rattle.tables.specs.declared.RegionCapa.{RegionCapa}
 use Rattle.tables.specs.Tables.{Tables}
 use Rattle.decoded.specs.Shape.{Shaped}
 use Rattle.decoded.specs.Decode.Read.{kindFrom, regionsFrom, stateOf}
 use Rattle.decoded.specs.Decode.Regions.{child-once, member}
-use Rattle.decoded.specs.Settled.Tidy.{OutsideTidy, OutsideWalked, regionRow}
-use Rattle.decoded.specs.Settled.Sound.{parent-is, outside-walked}
+use Rattle.decoded.specs.Canonical.WellFormed.{OutsideWellFormed, OutsideWalked, regionRow}
+use Rattle.decoded.specs.Canonical.Sound.{parent-is, outside-walked}
+use Rattle.decoded.specs.Canonical.WellFormed.{OutsideWellFormed, OutsideWalked, regionRow}
+use Rattle.decoded.specs.Canonical.Sound.{parent-is, outside-walked}
+use Rattle.decoded.specs.Canonical.Pools.{regions-many}
 use Rattle.sound_tree.specs.Tree.{noRun, floorOf, isChild, climbFrom}
 use Rattle.exact_tree.specs.Walks.{Behind, Sorted, pairs-fit, pairs-of}
 use Rattle.exact_tree.specs.Lists.{kids, many, Listed, uses, many-uses, tells, one-t, one-f}
 use Rattle.exact_tree.specs.Rows.{Used, used, blank, PoolClauses, slot, Inside, RowFacts}
 use Rattle.exact_tree.specs.Roots.{climb-low, climb-up}
-use Rattle.exact_tree.specs.Read.{parent-link, kind-carve, regionRead, read-in, in-read, regions-long, same-starts, blank-kids, blank-listed}
+use Rattle.exact_tree.specs.Read.{parent-link, kind-carve, regionRead, read-in, in-read, same-starts, blank-kids, blank-listed}
 
 floor-none : (r : RegionCapa) → floorOf noRun r ≡ 0
 unfolding floorOf
@@ -44,7 +47,7 @@ floor-none r = same (eqb (r .kind) 3)
 first : (a b c d : ℕ) → a ≤ c → c < d → (c < b → d ≤ a) → b ≤ c
 first a b c d o n f = elim (cmp c b) [ lt u ↦ absurd (omega (arith, f u)) | ge u ↦ u ]
 
-module _ (v : Tables) (s : Shaped v) (t : OutsideTidy v) (h : OutsideSound (stateOf v)) where
+module _ (v : Tables) (s : Shaped v) (t : OutsideWellFormed v) (h : OutsideSound (stateOf v)) where
   abbrev row : ℕ → RegionCapa
   row = regionRow v
 
@@ -100,10 +103,10 @@ module _ (v : Tables) (s : Shaped v) (t : OutsideTidy v) (h : OutsideSound (stat
 
   -- a member of the list of region k
   module _ (k : ℕ) (u : Used v k) where
-    child-used : (c : ℕ) → 0 < count (eqb c) (kids row size k) → Used v c
+    child-used : (c : ℕ) → 0 < countIf (eqb c) (kids row size k) → Used v c
     child-used c o = let m = member rs sound k (regionRead v k) (read-in v k u) c o in in-read v c (m .0) (m .1) .0
 
-    child-link : (c : ℕ) → 0 < count (eqb c) (kids row size k) → (2 ≤ row c .kind) × (row c .parent ≡ suc k)
+    child-link : (c : ℕ) → 0 < countIf (eqb c) (kids row size k) → (2 ≤ row c .kind) × (row c .parent ≡ suc k)
     child-link c o =
         let m = member rs sound k (regionRead v k) (read-in v k u) c o in
         let r = in-read v c (m .0) (m .1) in
@@ -113,7 +116,7 @@ module _ (v : Tables) (s : Shaped v) (t : OutsideTidy v) (h : OutsideSound (stat
     ordered = rw (same-starts v (kids row size k) (in-each (Used v) (kids row size k) child-used)) at (at k u .ordered)
 
     -- what carvesApart says, for two children of which the first does not start later
-    sorted : (c d : ℕ) → 0 < count (eqb c) (kids row size k) → 0 < count (eqb d) (kids row size k) → c ≢ d → row c .start ≤ row d .start → Sorted row c d
+    sorted : (c d : ℕ) → 0 < countIf (eqb c) (kids row size k) → 0 < countIf (eqb d) (kids row size k) → c ≢ d → row c .start ≤ row d .start → Sorted row c d
     sorted c d a b ne o =
         let uc = child-used c a in
         let ud = child-used d b in
@@ -141,14 +144,14 @@ module _ (v : Tables) (s : Shaped v) (t : OutsideTidy v) (h : OutsideSound (stat
   -- ---- all lists
 
   -- what is in a list is a child of its region
-  in-link : (k i : ℕ) → 0 < count (eqb i) (kids row size k) → Used v i × (2 ≤ row i .kind) × (row i .parent ≡ suc k)
+  in-link : (k i : ℕ) → 0 < countIf (eqb i) (kids row size k) → Used v i × (2 ≤ row i .kind) × (row i .parent ≡ suc k)
   in-link k i o = elim (slot v s pools k) [
     | used u ↦ let l = child-link k u i o in (child-used k u i o, l .0, l .1)
-    | blank e ↦ absurd (omega (arith, ap (count (eqb i)) (blank-kids v k e)))
+    | blank e ↦ absurd (omega (arith, ap (countIf (eqb i)) (blank-kids v k e)))
   ]
 
-  no-use : (k i : ℕ) → ((row i .parent ≡ suc k → 2 ≤ row i .kind → Used v i → ⊥)) → count (eqb i) (kids row size k) ≡ 0
-  no-use k i f = elim (cmp 0 (count (eqb i) (kids row size k))) [
+  no-use : (k i : ℕ) → ((row i .parent ≡ suc k → 2 ≤ row i .kind → Used v i → ⊥)) → countIf (eqb i) (kids row size k) ≡ 0
+  no-use k i f = elim (cmp 0 (countIf (eqb i) (kids row size k))) [
     | lt o ↦ let l = in-link k i o in absurd (f (l .2) (l .1) (l .0))
     | ge o ↦ omega arith
   ]
@@ -156,8 +159,8 @@ module _ (v : Tables) (s : Shaped v) (t : OutsideTidy v) (h : OutsideSound (stat
   uses-of : (i : ℕ) → i < size → uses row size i ≡ tells (isChild row) i
   uses-of i b = elim (cmp 1 (row i .kind)) [
     | ge k ↦
-        sum-same (λ k. count (eqb i) (kids row size k)) (λ k. 0) size (λ j l. no-use j i (λ e c u. omega arith))
-        ∙ sum-zero size ∙ sym (one-f (isChild row i) (ltb-f 1 (row i .kind) k))
+        sum-same (λ k. countIf (eqb i) (kids row size k)) (λ k. 0) size (λ j l. no-use j i (λ e c u. omega arith))
+        ∙ sum-zero size ∙ sym (one-f (isChild row i) (le-ltb 1 (row i .kind) k))
     | lt k ↦ elim (slot v s pools i) [
       | blank e ↦ absurd (omega (arith, ap (λ (r : RegionCapa). r .kind) e))
       | used u ↦
@@ -166,8 +169,8 @@ module _ (v : Tables) (s : Shaped v) (t : OutsideTidy v) (h : OutsideSound (stat
           let q = parent-used i p u k z in
           let o = walks .listed i p (u .below) (u .is) k z in
           let m = child-once rs sound p (regionRead v p) (read-in v p q) i in
-          sum-at (λ k. count (eqb i) (kids row size k)) size p (q .below) (λ j ne. no-use j i (λ e c w. ne (omega arith)))
-          ∙ omega (arith, one-t (isChild row i) (ltb-t 1 (row i .kind) k))
+          sum-at (λ k. countIf (eqb i) (kids row size k)) size p (q .below) (λ j ne. no-use j i (λ e c w. ne (omega arith)))
+          ∙ omega (arith, one-t (isChild row i) (lt-ltb 1 (row i .kind) k))
     ]
   ]
 
@@ -190,5 +193,5 @@ module _ (v : Tables) (s : Shaped v) (t : OutsideTidy v) (h : OutsideSound (stat
   pub climb-any : (w : List ℕ) (j : ℕ) → j < size → climbFrom row w size j ≡ true
   climb-any w j b = elim (slot v s pools j) [
     | blank e ↦ climb-low row w size j (omega (arith, ap (λ (r : RegionCapa). r .kind) e)) (omega arith)
-    | used u ↦ climbs w size j u (subst (λ k. T (rooted k rs j)) (regions-long v) (ok-rooted rs j (at j u .rooted)))
+    | used u ↦ climbs w size j u (subst (λ k. T (rooted k rs j)) (regions-many v) (ok-rooted rs j (at j u .rooted)))
   ]

@@ -9,14 +9,16 @@ use Prim.Native.Nat.{ℕ, suc, _+_, _-_, _≤_, _<_}
 use native.Mathlib.Omega.{arith}
 use native.Mathlib.Decide.{ℕ-discrete}
 use lib.Dec.{T, eqb, ltb}
+use borrow.Author.Tests.{lt-ltb, le-ltb, ne-eqb}
+use Rattle.base.specs.Cases.{Cmp, lt, ge, cmp, holds, fails, test}
+use Rattle.base.specs.Tests.{true-is}
 use Rattle.rights.specs.Rights.{allowed}
 use Rattle.model.specs.Lists as lists
-use Rattle.model.specs.Lists.{count, Each, isSome, slotOf, In}
+use Rattle.model.specs.Lists.{countIf, Each, isSome, atSlot, In}
 use Rattle.model.specs.State as state
 use Rattle.model.specs.State.{parentOf}
 use Rattle.model.specs.Tree.{isCarve, accessOf, overlaps, childrenOf}
 use Rattle.model.specs.Sound.{Rooted, RegionSound, Ordered, names}
-use Rattle.laws.specs.Cases.{Cmp, lt, ge, cmp, ltb-t, ltb-f, eqb-f, holds, fails, test, true-is}
 use Rattle.laws.specs.Stack.{one}
 use Rattle.laws.specs.Tree.Sum.{sum, sum-lt, sum-find, sum-unique}
 use Rattle.laws.specs.Tree.Slots.{each-in, in-each, is-live}
@@ -24,9 +26,9 @@ use Rattle.tables.specs.declared.RegionCapa.{RegionCapa}
 use Rattle.tables.specs.Tables.{Tables}
 use Rattle.decoded.specs.Shape.{Shaped}
 use Rattle.decoded.specs.Decode.Read.{kindFrom, regionsFrom}
-use Rattle.decoded.specs.Settled.Ends.{ended-once}
-use Rattle.decoded.specs.Settled.Tidy.{regionRow}
-use Rattle.decoded.specs.Settled.Sound.{parent-is}
+use Rattle.decoded.specs.Canonical.Ends.{ended-once}
+use Rattle.decoded.specs.Canonical.WellFormed.{regionRow}
+use Rattle.decoded.specs.Canonical.Sound.{parent-is}
 use Rattle.sound_tree.specs.Tree.{noRun, isChild}
 use Rattle.exact_tree.specs.Walks.{nextOf, fits-parents, fits-pairs, pairs-find, pairs-ordered}
 use Rattle.exact_tree.specs.Lists.{kids, many, Listed, uses, many-uses, tells, one-t}
@@ -35,10 +37,10 @@ use Rattle.exact_tree.specs.Read.{no-parent, parent-link, carve-kind, re
 
 -- no range begins before the other ends
 apart-l : (a b c d : ℕ) → d ≤ a → T (not (ltb a d && ltb c b))
-apart-l a b c d h = rw (ltb-f a d h) tt
+apart-l a b c d h = rw (le-ltb a d h) tt
 
 apart-r : (a b c d : ℕ) → b ≤ c → T (not (ltb a d && ltb c b))
-apart-r a b c d h = elim (test (ltb a d)) [ holds t ↦ rw (t, ltb-f c b h) tt | fails t ↦ rw t tt ]
+apart-r a b c d h = elim (test (ltb a d)) [ holds t ↦ rw (t, le-ltb c b h) tt | fails t ↦ rw t tt ]
 
 module _ (v : Tables) (s : Shaped v) (pools : PoolClauses v)
     (rows : (i : ℕ) → Used v i → RowFacts v i)
@@ -58,10 +60,10 @@ module _ (v : Tables) (s : Shaped v) (pools : PoolClauses v)
   listed-any : (k : ℕ) → Listed row size k
   listed-any k = elim (slot v s pools k) [ used u ↦ below k (u .below) | blank e ↦ blank-listed v k e ]
 
-  once : (k i : ℕ) → count (eqb i) (kidsOf k) ≤ 1
+  once : (k i : ℕ) → countIf (eqb i) (kidsOf k) ≤ 1
   once k i = ended-once (nextOf row) size (row k .child) (listed-any k .ends) i
 
-  member : (k i : ℕ) → 0 < count (eqb i) (kidsOf k) → row i .parent ≡ k + 1
+  member : (k i : ℕ) → 0 < countIf (eqb i) (kidsOf k) → row i .parent ≡ k + 1
   member k i h = each-in (λ c. row c .parent ≡ k + 1) (kidsOf k) (fits-parents row (k + 1) noRun (kidsOf k) (listed-any k .fits)) i h
 
   used-child : (i : ℕ) → 0 < row i .parent → Used v i
@@ -76,13 +78,13 @@ module _ (v : Tables) (s : Shaped v) (pools : PoolClauses v)
     | ge u ↦ u
   ]
 
-  member-used : (k i : ℕ) → 0 < count (eqb i) (kidsOf k) → Used v i
+  member-used : (k i : ℕ) → 0 < countIf (eqb i) (kidsOf k) → Used v i
   member-used k i h = used-child i (omega (arith, member k i h))
 
   -- ---- the lists have every child
 
-  outside : (k : ℕ) → k < size → (i : ℕ) → size ≤ i → count (eqb i) (kidsOf k) ≡ 0
-  outside k b i h = elim (cmp 0 (count (eqb i) (kidsOf k))) [
+  outside : (k : ℕ) → k < size → (i : ℕ) → size ≤ i → countIf (eqb i) (kidsOf k) ≡ 0
+  outside k b i h = elim (cmp 0 (countIf (eqb i) (kidsOf k))) [
     | lt u ↦ absurd (omega (arith, member-used k i u .below))
     | ge u ↦ omega arith
   ]
@@ -91,9 +93,9 @@ module _ (v : Tables) (s : Shaped v) (pools : PoolClauses v)
   uses-few i = elim (cmp 0 (uses row size i)) [
     | ge u ↦ omega arith
     | lt u ↦
-        let f = sum-find (λ k. count (eqb i) (kidsOf k)) size u in
+        let f = sum-find (λ k. countIf (eqb i) (kidsOf k)) size u in
         let c = child-kind i (omega (arith, member (f .at) i (f .counts))) in
-        omega (arith, one-t (isChild row i) (ltb-t 1 (row i .kind) c), sum-unique (λ k. count (eqb i) (kidsOf k)) size (λ k. once k i) (λ j k ne a b. ne (omega (arith, member j i a, member k i b))))
+        omega (arith, one-t (isChild row i) (lt-ltb 1 (row i .kind) c), sum-unique (λ k. countIf (eqb i) (kidsOf k)) size (λ k. once k i) (λ j k ne a b. ne (omega (arith, member j i a, member k i b))))
   ]
 
   uses-all : (i : ℕ) → i < size → tells (isChild row) i ≤ uses row size i
@@ -102,12 +104,12 @@ module _ (v : Tables) (s : Shaped v) (pools : PoolClauses v)
     | lt u ↦ absurd (omega (arith, sum-lt (uses row size) (tells (isChild row)) size i b uses-few u, many-uses row size outside, total))
   ]
 
-  in-list : (i p : ℕ) → Used v i → row i .parent ≡ suc p → 0 < count (eqb i) (kidsOf p)
+  in-list : (i p : ℕ) → Used v i → row i .parent ≡ suc p → 0 < countIf (eqb i) (kidsOf p)
   in-list i p u e =
       let c = child-kind i (omega arith) in
-      let f = sum-find (λ k. count (eqb i) (kidsOf k)) size (omega (arith, uses-all i (u .below), one-t (isChild row i) (ltb-t 1 (row i .kind) c))) in
+      let f = sum-find (λ k. countIf (eqb i) (kidsOf k)) size (omega (arith, uses-all i (u .below), one-t (isChild row i) (lt-ltb 1 (row i .kind) c))) in
       let z : f .at ≡ p = omega (arith, member (f .at) i (f .counts)) in
-      subst (λ k. 0 < count (eqb i) (kidsOf k)) z (f .counts)
+      subst (λ k. 0 < countIf (eqb i) (kidsOf k)) z (f .counts)
 
   -- the parent of a region in use is in use
   pub over : (j : ℕ) → Used v j → 2 ≤ row j .kind → Used v (row j .parent - 1)
@@ -134,24 +136,24 @@ module _ (v : Tables) (s : Shaped v) (pools : PoolClauses v)
         let z : row i .parent - 1 ≡ p = omega (arith, h .1) in
         subst (Used v) z (over i u (h .0))
 
-    list-count : (p : ℕ) → count (eqb i) (kidsOf p) ≡ lists.oneIf (names (parentOf (g .kind)) p)
+    list-count : (p : ℕ) → countIf (eqb i) (kidsOf p) ≡ lists.oneIf (names (parentOf (g .kind)) p)
     list-count p = elim (cmp (row i .kind) 2) [
-      | lt k ↦ rw (no-parent (row i .kind) (row i .parent) k) (root-count (cmp 0 (count (eqb i) (kidsOf p))) k)
+      | lt k ↦ rw (no-parent (row i .kind) (row i .parent) k) (root-count (cmp 0 (countIf (eqb i) (kidsOf p))) k)
       | ge k ↦ child-count (row i .parent - 1) (omega (arith, f .childParent k)) k
     ]
       where
-        root-count : Cmp 0 (count (eqb i) (kidsOf p)) → row i .kind < 2 → count (eqb i) (kidsOf p) ≡ 0
+        root-count : Cmp 0 (countIf (eqb i) (kidsOf p)) → row i .kind < 2 → countIf (eqb i) (kidsOf p) ≡ 0
         root-count (lt h) k = absurd (omega (arith, member p i h, child-kind i (omega (arith, member p i h))))
         root-count (ge h) k = omega arith
 
-        child-count : (q : ℕ) → row i .parent ≡ suc q → 2 ≤ row i .kind → count (eqb i) (kidsOf p) ≡ lists.oneIf (names (parentOf (g .kind)) p)
+        child-count : (q : ℕ) → row i .parent ≡ suc q → 2 ≤ row i .kind → countIf (eqb i) (kidsOf p) ≡ lists.oneIf (names (parentOf (g .kind)) p)
         child-count q e k =
             let z : parentOf (g .kind) ≡ some q = ap (λ l. parentOf (kindFrom (row i .kind) l)) e ∙ parent-is (row i .kind) q k in
             rw z (elim (ℕ-discrete q p) [
               | yes y ↦ let w : row i .parent ≡ suc p = omega arith in omega (arith, one q p y, once p i, in-list i p u w)
-              | no ne ↦ elim (cmp 0 (count (eqb i) (kidsOf p))) [
+              | no ne ↦ elim (cmp 0 (countIf (eqb i) (kidsOf p))) [
                 | lt h ↦ absurd (ne (omega (arith, member p i h)))
-                | ge h ↦ omega (arith, ap lists.oneIf (eqb-f q p ne))
+                | ge h ↦ omega (arith, ap lists.oneIf (ne-eqb q p ne))
               ]
             ])
 
@@ -175,14 +177,14 @@ module _ (v : Tables) (s : Shaped v) (pools : PoolClauses v)
         let x = ap (λ (r : state.Region). r .rights) (in-read v p h m .1) in
         true-is (ap (λ k. allowed k (g .rights)) (sym (a ∙ x)) ∙ w .rights)
 
-    children-live : Each (λ c. T (isSome (slotOf rs c))) (kidsOf i)
-    children-live = in-each (λ c. T (isSome (slotOf rs c))) (kidsOf i) (λ c h. is-live (slotOf rs c) (regionRead v c) (read-in v c (member-used i c h)))
+    children-live : Each (λ c. T (isSome (atSlot rs c))) (kidsOf i)
+    children-live = in-each (λ c. T (isSome (atSlot rs c))) (kidsOf i) (λ c h. is-live (atSlot rs c) (regionRead v c) (read-in v c (member-used i c h)))
 
     ordered : Ordered (map (λ (c : state.Region). c .start) (childrenOf rs g))
     ordered = rw (same-starts v (kidsOf i) (in-each (Used v) (kidsOf i) (λ c h. member-used i c h))) (pairs-ordered row (kidsOf i) (fits-pairs row (i + 1) noRun (kidsOf i) (listed-any i .fits)))
 
     -- two children of one region, of which the first is a carve
-    apart-in : (j p : ℕ) → i ≢ j → row i .kind ≡ 3 → 0 < count (eqb i) (kidsOf p) → 0 < count (eqb j) (kidsOf p) → T (not (overlaps (accessOf g) (regionRead v j)))
+    apart-in : (j p : ℕ) → i ≢ j → row i .kind ≡ 3 → 0 < countIf (eqb i) (kidsOf p) → 0 < countIf (eqb j) (kidsOf p) → T (not (overlaps (accessOf g) (regionRead v j)))
     apart-in j p ne k a b =
         pairs-find row (kidsOf p) i j (fits-pairs row (p + 1) noRun (kidsOf p) (listed-any p .fits)) a b ne
         (λ o. apart-r (row i .start) (row i .end) (row j .start) (row j .end) (o .fromCarve k))
@@ -200,8 +202,8 @@ module _ (v : Tables) (s : Shaped v) (pools : PoolClauses v)
 
     pub region-sound : RegionSound rs i g
     region-sound = record {
-      parentLive = λ p e. is-live (slotOf rs p) (regionRead v p) (read-in v p (parent-used p e));
-      listed = λ p h m. ap (λ (x : state.Region). count (eqb i) (x .children)) (sym (in-read v p h m .1)) ∙ list-count p;
+      parentLive = λ p e. is-live (atSlot rs p) (regionRead v p) (read-in v p (parent-used p e));
+      listed = λ p h m. ap (λ (x : state.Region). countIf (eqb i) (x .children)) (sym (in-read v p h m .1)) ∙ list-count p;
       childrenLive = children-live;
       rooted = lead i u;
       ordered = ordered;

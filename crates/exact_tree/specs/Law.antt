@@ -1,5 +1,5 @@
 -- A law: the test of the region tree is exact. Tables that pass it have the clauses of the tree, where the pools have passed theirs; and tables
--- that are tidy and sound pass it.
+-- that are well formed and sound pass it.
 use mathlib.Core.Path.{_≡_, refl, ap, subst, _∙_}
 use mathlib.Core.Logic.{_⊎_, inl, inr}
 use mathlib.Core.Bool.{Bool, true}
@@ -7,21 +7,22 @@ use mathlib.Core.Option.{Option, some}
 use mathlib.Core.List.{List}
 use Prim.Native.Nat.{ℕ, zero, suc, _-_, _≤_, _<_}
 use native.Mathlib.Omega.{arith}
-use lib.ListN.{getD, replicate}
-use Rattle.model.specs.Lists.{In, slotOf}
+use lib.ListN.{replicate}
+use Rattle.base.specs.Tests.{both-true}
+use Rattle.base.specs.Lists.{getD-zeros}
+use Rattle.base.specs.Options.{none-some, some-same}
+use Rattle.model.specs.Lists.{In, atSlot}
 use Rattle.model.specs.State as state
 use Rattle.model.specs.State.{parentOf}
 use Rattle.model.specs.Sound.{Rooted, RegionSound, OutsideSound}
 use Rattle.laws.specs.Tree.Sum.{sum}
-use Rattle.laws.specs.Tree.Slots.{none-some, some-same}
-use Rattle.words.specs.Cases.{both-true}
 use Rattle.tables.specs.declared.RegionCapa.{RegionCapa}
 use Rattle.tables.specs.Tables.{Tables, regionAt}
 use Rattle.sizes.specs.Sizes.{total}
 use Rattle.decoded.specs.Shape.{Shaped}
 use Rattle.decoded.specs.Decode.Read.{kindFrom, taken, regionsFrom, stateOf}
-use Rattle.decoded.specs.Settled.Tidy.{OutsideTidy, RegionTidy, regionRow}
-use Rattle.decoded.specs.Settled.Sound.{parent-is}
+use Rattle.decoded.specs.Canonical.WellFormed.{OutsideWellFormed, RegionWellFormed, regionRow}
+use Rattle.decoded.specs.Canonical.Sound.{parent-is}
 use Rattle.sound_tree.specs.Tree.{oneIf, tallyFrom, isChild, childCount, rowsHold, listsHold, rootsHold, treeHolds}
 use Rattle.sound_tree.specs.Turns.{one-few}
 use Rattle.exact_tree.specs.Lists.{many, Listed, lists-facts, facts-lists, tells, child-sum}
@@ -31,25 +32,20 @@ use Rattle.exact_tree.specs.Read.{no-parent, regionRead, read-in, in-rea
 use Rattle.exact_tree.specs.Forth.{over, region-sound}
 use Rattle.exact_tree.specs.Back.{rows-of, listed, members, climb-any}
 
--- what `Tidy` and `Sound` say of the regions
+-- what `WellFormed` and `Sound` say of the regions
 pub record TreeClauses (v : Tables) : Type 0 where
-  pub regionsUsed : (i : ℕ) → i < v .sizes .regions → taken (v .regionPool) i ≡ true → RegionTidy (regionRow v i)
+  pub regionsUsed : (i : ℕ) → i < v .sizes .regions → taken (v .regionPool) i ≡ true → RegionWellFormed (regionRow v i)
   pub regions : (i : ℕ) (g : state.Region) → In (stateOf v .regions) i g → RegionSound (stateOf v .regions) i g
 
 few-children : (f : ℕ → Bool) (m k : ℕ) → tallyFrom f m k ≤ m
 few-children f zero k = omega arith
 few-children f (suc m) k = omega (arith, few-children f m (suc k), one-few (oneIf (f k)) (f k) refl)
 
-none-marked : (n j : ℕ) → _≡_ {A = ℕ} (getD (replicate n 0) j 0) 0
-none-marked zero j = refl
-none-marked (suc n) zero = refl
-none-marked (suc n) (suc j) = none-marked n j
-
 -- the way on from a region that leads to a root
 leads-on : (rs : List (Option state.Region)) (i p : ℕ) (g : state.Region) → In rs i g → parentOf (g .kind) ≡ some p → Rooted rs i → Rooted rs p
-leads-on rs i p g m e (Rooted.top _ h n q) = absurd (none-some (parentOf (h .kind)) p q (ap (λ (x : state.Region). parentOf (x .kind)) (some-same (slotOf rs i) h g n m) ∙ e))
+leads-on rs i p g m e (Rooted.top _ h n q) = absurd (none-some (parentOf (h .kind)) p q (ap (λ (x : state.Region). parentOf (x .kind)) (some-same (atSlot rs i) h g n m) ∙ e))
 leads-on rs i p g m e (Rooted.under _ o h n q r) =
-    let z : o ≡ p = some-same (parentOf (h .kind)) o p q (ap (λ (x : state.Region). parentOf (x .kind)) (some-same (slotOf rs i) h g n m) ∙ e) in
+    let z : o ≡ p = some-same (parentOf (h .kind)) o p q (ap (λ (x : state.Region). parentOf (x .kind)) (some-same (atSlot rs i) h g n m) ∙ e) in
     subst (Rooted rs) z r
 
 module _ (v : Tables) (s : Shaped v) (pools : PoolClauses v) (t : treeHolds v ≡ true) where
@@ -94,21 +90,21 @@ module _ (v : Tables) (s : Shaped v) (pools : PoolClauses v) (t : treeHolds v �
       (over v s pools rows below all)
       (λ j u c r. Rooted.under j (regionRow v j .parent - 1) (regionRead v j) (read-in v j u) (parent-at j u c) r)
       (λ j u c r. leads-on rs j (regionRow v j .parent - 1) (regionRead v j) (read-in v j u) (parent-at j u c) r)
-      size told size 0 (replicate (total (v .sizes)) 0) (λ j h u. absurd (omega (arith, none-marked (total (v .sizes)) j))) (parts .2) i (omega arith) (omega (arith, u .below)) u
+      size told size 0 (replicate (total (v .sizes)) 0) (λ j h u. absurd (omega (arith, getD-zeros (total (v .sizes)) j))) (parts .2) i (omega arith) (omega (arith, u .below)) u
 
   -- ---- the clauses
 
-  used-tidy : (i : ℕ) → i < size → taken (v .regionPool) i ≡ true → RegionTidy (regionRow v i)
-  used-tidy i b e = let f = rows i (record { below = b; is = e }) in record { kindLow = f .kindLow; kindHigh = f .kindHigh; owned = f .owned; rootParent = f .rootParent; rootNext = f .rootNext; childParent = f .childParent }
+  used-well-formed : (i : ℕ) → i < size → taken (v .regionPool) i ≡ true → RegionWellFormed (regionRow v i)
+  used-well-formed i b e = let f = rows i (record { below = b; is = e }) in record { kindLow = f .kindLow; kindHigh = f .kindHigh; owned = f .owned; rootParent = f .rootParent; rootNext = f .rootNext; childParent = f .childParent }
 
   pub tree-holds : RegionWords v → TreeClauses v
   unfolding stateOf
   tree-holds words = record {
-    regionsUsed = used-tidy;
+    regionsUsed = used-well-formed;
     regions = λ i g m. let r = in-read v i g m in subst (RegionSound rs i) (r .1) (region-sound v s pools rows below all words lead i (r .0));
   }
 
-module _ (v : Tables) (s : Shaped v) (t : OutsideTidy v) (h : OutsideSound (stateOf v)) where
+module _ (v : Tables) (s : Shaped v) (t : OutsideWellFormed v) (h : OutsideSound (stateOf v)) where
   lists-hold : listsHold v ≡ true
   unfolding listsHold regionAt
   lists-hold = facts-lists (regionRow v) (v .sizes .regions) (v .sizes .regions) 0 (childCount (regionRow v) (v .sizes .regions)) (λ j b. listed v s t h j) (omega (arith, child-sum (regionRow v) (v .sizes .regions), members v s t h)) (omega arith)

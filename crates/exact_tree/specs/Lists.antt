@@ -4,17 +4,17 @@ use mathlib.Core.Bool.{Bool, true, false}
 use mathlib.Core.List.{List, _∷_}
 use Prim.Native.Nat.{ℕ, zero, suc, _+_, _-_, _≤_, _<_}
 use native.Mathlib.Omega.{arith}
-use borrow.Author.Tests.{eqb-true, ltb-true}
+use borrow.Author.Tests.{eqb-true, ltb-true, lt-ltb, eq-eqb}
 use lib.Dec.{eqb, ltb}
 use lib.ListN.{length}
-use Rattle.model.specs.Lists.{count}
-use Rattle.laws.specs.Cases.{holds, fails, test, lt, ge, cmp, ltb-t, eqb-t}
+use Rattle.base.specs.Cases.{holds, fails, test, lt, ge, cmp}
+use Rattle.model.specs.Lists.{countIf}
 use Rattle.laws.specs.Tree.Sum.{sum, sum-same, sum-swap}
-use Rattle.laws.specs.Test.Paths.{counted}
+use Rattle.laws.specs.Stack.{stack-length}
 use Rattle.tables.specs.declared.RegionCapa.{RegionCapa}
 use Rattle.decoded.specs.Decode.Read.{chainFrom}
 use Rattle.decoded.specs.Decode.Walks.{chain-none}
-use Rattle.decoded.specs.Settled.Ends.{chainEnd, end-none}
+use Rattle.decoded.specs.Canonical.Ends.{chainEnd, end-none}
 use Rattle.sound_tree.specs.Tree.{oneIf, tallyFrom, noRun, walked, listsFrom, isChild, childCount}
 use Rattle.exact_tree.specs.Walks.{nextOf, FitAll, walk-facts, facts-walk}
 
@@ -97,22 +97,22 @@ module _ (row : ℕ → RegionCapa) (n : ℕ) where
   lists-facts (suc m) k left total h e s b = lists-step m k left total h e s (λ x u f g. lists-facts m (suc k) x total u f g (omega arith))
 
   pub facts-lists : (m k left : ℕ) → ((j : ℕ) → j < n → Listed j) → left + sum many k ≡ sum many n → k + m ≡ n → listsFrom row left m k ≡ true
-  facts-lists zero k left h s b = let z : k ≡ n = omega arith in eqb-t left 0 (omega (arith, ap (sum many) z))
+  facts-lists zero k left h s b = let z : k ≡ n = omega arith in eq-eqb left 0 (omega (arith, ap (sum many) z))
   facts-lists (suc m) k left h s b =
       let c : many k ≤ left = omega (arith, sum-mono many (suc k) n (omega arith)) in
       let e = facts-list left k (h k (omega arith)) c in
       let z : suc (left - many k) - 1 ≡ left - many k = omega arith in
-      rw (e, ltb-t 0 (suc (left - many k)) (omega arith), z) (facts-lists m (suc k) (left - many k) h (omega arith) (omega arith))
+      rw (e, lt-ltb 0 (suc (left - many k)) (omega arith), z) (facts-lists m (suc k) (left - many k) h (omega arith) (omega arith))
 
   -- ---- members counted by the child: in how many lists it is
 
   abbrev pub uses : ℕ → ℕ
-  uses i = sum (λ k. count (eqb i) (kids k)) n
+  uses i = sum (λ k. countIf (eqb i) (kids k)) n
 
-  pub many-uses : ((k : ℕ) → k < n → (i : ℕ) → n ≤ i → count (eqb i) (kids k) ≡ 0) → sum many n ≡ sum uses n
+  pub many-uses : ((k : ℕ) → k < n → (i : ℕ) → n ≤ i → countIf (eqb i) (kids k) ≡ 0) → sum many n ≡ sum uses n
   many-uses h =
-      sum-same many (λ k. sum (λ i. count (eqb i) (kids k)) n) n (λ k b. sym (counted n (kids k) (h k b)))
-      ∙ sum-swap (λ k i. count (eqb i) (kids k)) n n
+      sum-same many (λ k. sum (λ i. countIf (eqb i) (kids k)) n) n (λ k b. sym (stack-length n (kids k) (h k b)))
+      ∙ sum-swap (λ k i. countIf (eqb i) (kids k)) n n
 
 -- ---- the number of children
 

@@ -1,24 +1,22 @@
 -- The regions that are read from the rows.
 use mathlib.Core.Path.{_≡_, refl, ap, _∙_}
-use mathlib.Core.Option.{Option, none, some}
+use mathlib.Core.Option.{Option, none, some, Option·getD}
 use mathlib.Core.List.{List, [], _∷_, map}
 use Prim.Native.Nat.{ℕ, zero, suc, _≤_, _<_}
 use native.Mathlib.Omega.{arith}
 use lib.Dec.{T}
-use lib.ListN.{length}
-use Rattle.model.specs.Lists.{Each, orElse, In}
+use Rattle.base.specs.Options.{none-some, some-same}
+use Rattle.model.specs.Lists.{Each, In}
 use Rattle.model.specs.State as state
 use Rattle.model.specs.State.{parentOf, regionIn, noneRegion}
 use Rattle.model.specs.Tree.{isCarve}
-use Rattle.laws.specs.Tree.Slots.{none-some, some-same}
 use Rattle.tables.specs.declared.RegionCapa.{RegionCapa}
 use Rattle.tables.specs.Tables.{Tables, noRegion}
-use Rattle.decoded.specs.Rows.{map-up-length}
 use Rattle.decoded.specs.Decode.Read.{kindFrom, chainFrom, regionFrom, regionsFrom}
 use Rattle.decoded.specs.Decode.Walks.{chain-none}
-use Rattle.decoded.specs.Settled.Ends.{chainEnd, end-none}
-use Rattle.decoded.specs.Settled.Tidy.{regionRow}
-use Rattle.decoded.specs.Settled.Pools.{table-used, table-in}
+use Rattle.decoded.specs.Canonical.Ends.{chainEnd, end-none}
+use Rattle.decoded.specs.Canonical.WellFormed.{regionRow}
+use Rattle.decoded.specs.Canonical.Pools.{table-used, table-in}
 use Rattle.exact_tree.specs.Walks.{nextOf}
 use Rattle.exact_tree.specs.Lists.{kids, Listed}
 use Rattle.exact_tree.specs.Rows.{Used}
@@ -61,15 +59,11 @@ module _ (v : Tables) where
   unfolding regionsFrom
   in-read i g e = let t = table-in (v .sizes .regions) (v .regionPool) regionRead i g e in (record { below = t .0; is = t .1 }, t .2)
 
-  pub regions-long : length (regionsFrom v) ≡ v .sizes .regions
-  unfolding regionsFrom
-  regions-long = map-up-length _ (v .sizes .regions)
-
   -- the starts of children that are in use
   pub same-starts : (l : List ℕ) → Each (Used v) l → map (λ (c : state.Region). c .start) (map (regionIn (regionsFrom v)) l) ≡ map (λ c. regionRow v c .start) l
   same-starts [] h = refl
   same-starts (c ∷ l) h =
-      let e : regionIn (regionsFrom v) c .start ≡ regionRow v c .start = ap (λ (x : Option state.Region). orElse x noneRegion .start) (read-in c (h .0)) in
+      let e : regionIn (regionsFrom v) c .start ≡ regionRow v c .start = ap (λ (x : Option state.Region). Option·getD x noneRegion .start) (read-in c (h .0)) in
       λ t. e t ∷ same-starts l (h .1) t
 
   -- a zero row has no children

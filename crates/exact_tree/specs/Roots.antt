@@ -11,7 +11,7 @@ use borrow.Author.Tests.{ltb-true}
 use lib.Dec.{ltb}
 use lib.ListN.{getD, set}
 use lib.Seq.{getD-set-other}
-use Rattle.laws.specs.Cases.{lt, ge, cmp, holds, fails, test}
+use Rattle.base.specs.Cases.{lt, ge, cmp, holds, fails, test}
 use Rattle.tables.specs.declared.RegionCapa.{RegionCapa}
 use Rattle.sound_tree.specs.Ways.{stop-low}
 use Rattle.sound_tree.specs.Tree.{stops, climbFrom, markFrom, rootedFrom}

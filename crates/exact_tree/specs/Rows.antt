@@ -3,20 +3,20 @@ use mathlib.Core.Path.{_≡_, refl, sym, ap, _∙_}
 use mathlib.Core.Bool.{Bool, true, false}
 use Prim.Native.Nat.{ℕ, zero, suc, _+_, _-_, _≤_, _<_}
 use native.Mathlib.Omega.{arith}
-use borrow.Author.Tests.{eqb-true, eqb-false, ltb-true, leb-true, eq-eqb, ne-eqb, lt-ltb, le-ltb, le-leb}
+use borrow.Author.Tests.{eqb-true, eqb-false, ltb-true, leb-true, eq-eqb, ne-eqb, lt-ltb, le-leb}
 use lib.Dec.{eqb, ltb}
-use lib.ListN.{getD, List·getD-eq-default}
+use lib.ListN.{List·getD-eq-default}
+use Rattle.base.specs.Cases.{lt, ge, cmp, holds, fails, test}
+use Rattle.base.specs.Tests.{both, both-true, true-false}
 use Rattle.rights.specs.Rights.{allowed}
 use Rattle.model.specs.State.{Word}
-use Rattle.laws.specs.Cases.{lt, ge, cmp, holds, fails, test}
-use Rattle.words.specs.Cases.{both, both-true}
 use Rattle.tables.specs.declared.RegionCapa.{RegionCapa}
-use Rattle.tables.specs.Tables.{Tables, Arena, noRegion, regionAt}
-use Rattle.arena.specs.Arena.{isFreeB}
+use Rattle.tables.specs.Tables.{Tables, noRegion, regionAt}
 use Rattle.decoded.specs.Shape.{Shaped}
 use Rattle.decoded.specs.Decode.Read.{taken}
-use Rattle.decoded.specs.Settled.Tidy.{regionRow}
-use Rattle.decoded.specs.Settled.Pools.{taken-link, free-link}
+use Rattle.decoded.specs.Canonical.WellFormed.{regionRow}
+use Rattle.decoded.specs.Canonical.WellFormed.{regionRow}
+use Rattle.decoded.specs.Canonical.Pools.{taken-used, not-taken}
 use Rattle.sound_tree.specs.Tree.{allFrom, rightsFit, inParent, placeFits, rowFits, regionFits, rowsHold}
 
 -- ---- slots in use
@@ -44,14 +44,6 @@ slot v s h i = elim (cmp i (v .sizes .regions)) [
   | ge b ↦ blank (List·getD-eq-default (v .regions) noRegion (omega (arith, s .regions)))
 ]
 
-used-free : (a : Arena) (i : ℕ) → taken a i ≡ true → isFreeB a i ≡ false
-unfolding isFreeB
-used-free a i t = le-ltb 0 (getD (a .links) i 0) (omega (arith, taken-link a i t))
-
-free-free : (a : Arena) (i : ℕ) → taken a i ≡ false → isFreeB a i ≡ true
-unfolding isFreeB
-free-free a i t = lt-ltb 0 (getD (a .links) i 0) (free-link a i t)
-
 -- ---- one row
 
 -- the parent h of a region g
@@ -72,17 +64,14 @@ pub record RowFacts (v : Tables) (i : ℕ) : Type 0 where
   pub childParent : 2 ≤ regionRow v i .kind → 0 < regionRow v i .parent
   pub inside : 2 ≤ regionRow v i .kind → Inside (regionRow v i) (regionRow v (regionRow v i .parent - 1))
 
-differ : (b : Bool) → b ≡ true → b ≡ false → ⊥
-differ b e f = let z : _≡_ {A = ℕ} 0 1 = cc in omega arith
-
 rights-facts : (p c : ℕ) → rightsFit p c ≡ true → (p < 256) × (c < 256) × (allowed p c ≡ true)
 unfolding rightsFit
 rights-facts p c h = elim (test (ltb p 256)) [
   | holds a ↦ elim (test (ltb c 256)) [
     | holds b ↦ (ltb-true p 256 a, ltb-true c 256 b, rw (a, b) at h)
-    | fails b ↦ absurd (differ false (rw (a, b) at h) refl)
+    | fails b ↦ absurd (true-false (rw (a, b) at h) refl)
   ]
-  | fails a ↦ absurd (differ false (rw a at h) refl)
+  | fails a ↦ absurd (true-false (rw a at h) refl)
 ]
 
 facts-rights : (p c : ℕ) → p < 256 → c < 256 → allowed p c ≡ true → rightsFit p c ≡ true
@@ -128,7 +117,7 @@ module _ (v : Tables) (i : ℕ) where
   row-facts : Used v i → regionFits v i ≡ true → RowFacts v i
   unfolding regionFits regionAt
   row-facts u e =
-      let f : both (rowFits own) (placeFits own up) ≡ true = rw (used-free (v .regionPool) i (u .is)) at e in
+      let f : both (rowFits own) (placeFits own up) ≡ true = rw (taken-used (v .regionPool) i (u .is)) at e in
       let a = both-true (rowFits own) (placeFits own up) f in
       let b = fits-facts own (a .0) in
       record {
@@ -158,10 +147,10 @@ module _ (v : Tables) (i : ℕ) where
   facts-row : (Used v i → RowFacts v i) → i < v .sizes .regions → regionFits v i ≡ true
   unfolding regionFits regionAt rowFits
   facts-row h b = elim (test (taken (v .regionPool) i)) [
-    | fails t ↦ rw (free-free (v .regionPool) i t)
+    | fails t ↦ rw (not-taken (v .regionPool) i t)
     | holds t ↦
         let f = h (record { below = b; is = t }) in
-        rw (used-free (v .regionPool) i t, le-leb _ _ (f .kindLow), le-leb _ _ (f .kindHigh), lt-ltb _ _ (f .owned), lt-ltb _ _ (f .nonempty), lt-ltb _ _ (f .rightsByte)) (place-fits f)
+        rw (taken-used (v .regionPool) i t, le-leb _ _ (f .kindLow), le-leb _ _ (f .kindHigh), lt-ltb _ _ (f .owned), lt-ltb _ _ (f .nonempty), lt-ltb _ _ (f .rightsByte)) (place-fits f)
   ]
 
 -- ---- all rows
@@ -169,7 +158,7 @@ module _ (v : Tables) (i : ℕ) where
 all-at : (f : ℕ → Bool) (m k i : ℕ) → allFrom f m k ≡ true → k ≤ i → i < k + m → f i ≡ true
 all-at f zero k i e h b = absurd (omega arith)
 all-at f (suc m) k i e h b = elim (test (f k)) [
-  | fails t ↦ absurd (differ false (rw t at e) refl)
+  | fails t ↦ absurd (true-false (rw t at e) refl)
   | holds t ↦ elim (cmp k i) [
     | lt u ↦ all-at f m (suc k) i (rw t at e) u (omega arith)
     | ge u ↦ let z : k ≡ i = omega arith in ap f (sym z) ∙ t

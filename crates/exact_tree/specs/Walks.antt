@@ -6,17 +6,17 @@ use mathlib.Core.Bool.{true, false}
 use mathlib.Core.List.{List, [], _∷_, map}
 use Prim.Native.Nat.{ℕ, zero, suc, _+_, _≤_, _<_}
 use native.Mathlib.Omega.{arith}
-use borrow.Author.Tests.{eqb-true, leb-true, eq-eqb, le-leb}
+use borrow.Author.Tests.{eqb-true, leb-true, eq-eqb, le-leb, lt-ltb, le-ltb, ne-eqb}
 use lib.Dec.{eqb, eqb→eq}
 use lib.ListN.{length}
-use Rattle.model.specs.Lists.{oneIf, count, Each}
+use Rattle.base.specs.Cases.{holds, fails, test, lt, ge, cmp}
+use Rattle.base.specs.Tests.{true-is, both-true}
+use Rattle.model.specs.Lists.{oneIf, countIf, Each}
 use Rattle.model.specs.Sound.{Ordered}
-use Rattle.laws.specs.Cases.{holds, fails, test, true-is, lt, ge, cmp, ltb-t, ltb-f, eqb-t, eqb-f}
 use Rattle.laws.specs.Tree.Slots.{each-in, in-each}
-use Rattle.words.specs.Cases.{both-true}
 use Rattle.tables.specs.declared.RegionCapa.{RegionCapa}
 use Rattle.decoded.specs.Decode.Read.{chainFrom}
-use Rattle.decoded.specs.Settled.Ends.{chainEnd}
+use Rattle.decoded.specs.Canonical.Ends.{chainEnd}
 use Rattle.sound_tree.specs.declared.Run.{Run}
 use Rattle.sound_tree.specs.Tree.{larger, after, floorOf, childFits, walkFrom}
 
@@ -27,13 +27,13 @@ each-map P Q (x ∷ l) f h = (f x (h .0), each-map P Q l f (h .1))
 -- ---- one child
 
 larger-l : (a b : ℕ) → a ≤ larger a b
-larger-l a b = elim (cmp a b) [ lt h ↦ rw (ltb-t a b h) (omega arith) | ge h ↦ rw (ltb-f a b h) (omega arith) ]
+larger-l a b = elim (cmp a b) [ lt h ↦ rw (lt-ltb a b h) (omega arith) | ge h ↦ rw (le-ltb a b h) (omega arith) ]
 
 larger-r : (a b : ℕ) → b ≤ larger a b
-larger-r a b = elim (cmp a b) [ lt h ↦ rw (ltb-t a b h) (omega arith) | ge h ↦ rw (ltb-f a b h) (omega arith) ]
+larger-r a b = elim (cmp a b) [ lt h ↦ rw (lt-ltb a b h) (omega arith) | ge h ↦ rw (le-ltb a b h) (omega arith) ]
 
 larger-le : (a b x : ℕ) → a ≤ x → b ≤ x → larger a b ≤ x
-larger-le a b x h k = elim (cmp a b) [ lt u ↦ rw (ltb-t a b u) k | ge u ↦ rw (ltb-f a b u) h ]
+larger-le a b x h k = elim (cmp a b) [ lt u ↦ rw (lt-ltb a b u) k | ge u ↦ rw (le-ltb a b u) h ]
 
 module _ (s : Run) (r : RegionCapa) where
   floor-carve : eqb (r .kind) 3 ≡ true → floorOf s r ≡ s .far
@@ -146,12 +146,12 @@ module _ (row : ℕ → RegionCapa) where
     ]
 
     to-carve : floorOf (after s (row c)) (row d) ≤ row d .start → row d .kind ≡ 3 → row c .end ≤ row d .start
-    to-carve b k = let e = eqb-t (row d .kind) 3 k in omega (arith, floor-carve (after s (row c)) (row d) e, after-far s (row c), larger-r (s .far) (row c .end))
+    to-carve b k = let e = eq-eqb (row d .kind) 3 k in omega (arith, floor-carve (after s (row c)) (row d) e, after-far s (row c), larger-r (s .far) (row c .end))
 
     from-carve : floorOf (after s (row c)) (row d) ≤ row d .start → row c .kind ≡ 3 → row c .end ≤ row d .start
     from-carve b k = elim (test (eqb (row d .kind) 3)) [
       | holds e ↦ to-carve b (eqb-true _ _ e)
-      | fails e ↦ omega (arith, floor-other (after s (row c)) (row d) e, carved-carve s (row c) (eqb-t (row c .kind) 3 k), larger-r (s .carved) (row c .end))
+      | fails e ↦ omega (arith, floor-other (after s (row c)) (row d) e, carved-carve s (row c) (eq-eqb (row c .kind) 3 k), larger-r (s .carved) (row c .end))
     ]
 
     behind-less : Behind (after s (row c)) d → Behind s c → Behind s d
@@ -187,12 +187,12 @@ module _ (row : ℕ → RegionCapa) where
 
   -- ---- pairs of members
 
-  pub pairs-find : {X : Type 0} (l : List ℕ) (c d : ℕ) → Pairs l → 0 < count (eqb c) l → 0 < count (eqb d) l → c ≢ d → (Sorted c d → X) → (Sorted d c → X) → X
+  pub pairs-find : {X : Type 0} (l : List ℕ) (c d : ℕ) → Pairs l → 0 < countIf (eqb c) l → 0 < countIf (eqb d) l → c ≢ d → (Sorted c d → X) → (Sorted d c → X) → X
   pairs-find [] c d p h k ne f g = absurd (omega arith)
   pairs-find (x ∷ l) c d p h k ne f g = elim (test (eqb c x)) [
     | holds t ↦
         let e : c ≡ x = eqb→eq c x (true-is t) in
-        let z : eqb d x ≡ false = eqb-f d x (λ q. ne (e ∙ sym q)) in
+        let z : eqb d x ≡ false = ne-eqb d x (λ q. ne (e ∙ sym q)) in
         f (rw e (each-in (Sorted x) l (p .0) d (omega (arith, rw z at k))))
     | fails t ↦ elim (test (eqb d x)) [
       | holds u ↦
@@ -210,7 +210,7 @@ module _ (row : ℕ → RegionCapa) where
       starts [] h = tt
       starts (d ∷ l) h = (h .0 .starts, starts l (h .1))
 
-  pub pairs-of : (l : List ℕ) → Ordered (map (λ c. row c .start) l) → ((i : ℕ) → count (eqb i) l ≤ 1) → ((c d : ℕ) → 0 < count (eqb c) l → 0 < count (eqb d) l → c ≢ d → row c .start ≤ row d .start → Sorted c d) → Pairs l
+  pub pairs-of : (l : List ℕ) → Ordered (map (λ c. row c .start) l) → ((i : ℕ) → countIf (eqb i) l ≤ 1) → ((c d : ℕ) → 0 < countIf (eqb c) l → 0 < countIf (eqb d) l → c ≢ d → row c .start ≤ row d .start → Sorted c d) → Pairs l
   pairs-of [] o u f = tt
   pairs-of (c ∷ l) o u f = (
     in-each (Sorted c) l (λ d h. f c d (omega (arith, self c)) (omega arith) (λ e. omega (arith, u d, one-of d c (sym e))) (start l (o .0) d h)),
@@ -218,12 +218,12 @@ module _ (row : ℕ → RegionCapa) where
   )
     where
       self : (c : ℕ) → oneIf (eqb c c) ≡ 1
-      self c = rw (eqb-t c c refl)
+      self c = rw (eq-eqb c c refl)
 
       one-of : (d c : ℕ) → d ≡ c → oneIf (eqb d c) ≡ 1
-      one-of d c e = rw (eqb-t d c e)
+      one-of d c e = rw (eq-eqb d c e)
 
-      start : (l : List ℕ) → Each (λ y. row c .start ≤ y) (map (λ d. row d .start) l) → (d : ℕ) → 0 < count (eqb d) l → row c .start ≤ row d .start
+      start : (l : List ℕ) → Each (λ y. row c .start ≤ y) (map (λ d. row d .start) l) → (d : ℕ) → 0 < countIf (eqb d) l → row c .start ≤ row d .start
       start [] h d k = absurd (omega arith)
       start (x ∷ l) h d k = elim (test (eqb d x)) [
         | holds t ↦ rw (eqb→eq d x (true-is t)) (h .0)

@@ -1,38 +1,28 @@
 -- The law for words: what lent memory holds are words, so the starts and ends of the regions are.
 use mathlib.Core.Path.{_≡_, refl, subst}
 use mathlib.Core.Bool.{true}
-use mathlib.Core.List.{List, [], _∷_}
-use Prim.Native.Nat.{ℕ, zero, suc, _+_, _<_}
+use mathlib.Core.List.{List}
+use Prim.Native.Nat.{ℕ, _+_, _<_}
 use native.Mathlib.Omega.{arith}
 use lib.ListN.{length, getD}
+use Rattle.base.specs.Cases.{lt, ge, cmp}
 use Rattle.model.specs.Lists.{Each}
 use Rattle.model.specs.State.{Word}
-use Rattle.model.specs.Sound.{OutsideSound}
-use Rattle.laws.specs.Cases.{lt, ge, cmp}
+use Rattle.laws.specs.Lists.{zero-word, word-at}
 use Rattle.words.specs.Runs.{part-at, fetched, fetched-in, fetched-out}
 use Rattle.tables.specs.declared.RegionCapa.{RegionCapa}
 use Rattle.tables.specs.Tables.{regionAt}
 use Rattle.tables.specs.View.{view, Sized}
 use Rattle.tables.specs.Accessors.{regionPlace, region-loaded}
-use Rattle.decoded.specs.Decode.Read.{stateOf}
-use Rattle.decoded.specs.Settled.Tidy.{OutsideTidy}
-use Rattle.decoded.specs.Settled.Words.{view-shaped}
+use Rattle.decoded.specs.Canonical.Words.{view-shaped}
 use Rattle.sound_tree.specs.Tree.{treeHolds}
 use Rattle.exact_tree.specs.Rows.{PoolClauses, RegionWords}
-use Rattle.exact_tree.specs.Law.{TreeClauses, tree-holds, holds-tree}
-
-zero-word : Word 0
-zero-word = omega arith
-
-word-at : (t : List ℕ) → Each Word t → (j : ℕ) → Word (getD t j 0)
-word-at [] h j = zero-word
-word-at (x ∷ t) h zero = h .0
-word-at (x ∷ t) h (suc j) = word-at t (h .1) j
+use Rattle.exact_tree.specs.Law.{TreeClauses, tree-holds}
 
 fetched-word : (t : List ℕ) → Each Word t → (a n k : ℕ) → k < n → Word (getD (fetched t a n) k 0)
 fetched-word t h a n k b = elim (cmp (length t) (a + n)) [
   | lt o ↦ rw (fetched-out t a n o) zero-word
-  | ge o ↦ rw (fetched-in t a n o, part-at t a n k b) (word-at t h (a + k))
+  | ge o ↦ rw (fetched-in t a n o, part-at t a n k b) (word-at t (a + k) h)
 ]
 
 pub region-words : (t : List ℕ) → Sized t → Each Word t → RegionWords (view t)
@@ -43,10 +33,5 @@ region-words t s h i =
       subst (λ (r : RegionCapa). Word (r .end)) e (fetched-word t h (regionPlace t i) 8 4 (omega arith)),
     )
 
--- ---- the two directions
-
 pub words-tree : (t : List ℕ) → Sized t → Each Word t → PoolClauses (view t) → treeHolds (view t) ≡ true → TreeClauses (view t)
 words-tree t s h p e = tree-holds (view t) (view-shaped t s) p e (region-words t s h)
-
-pub tree-words : (t : List ℕ) → Sized t → OutsideTidy (view t) → OutsideSound (stateOf (view t)) → treeHolds (view t) ≡ true
-tree-words t s d h = holds-tree (view t) (view-shaped t s) d h

@@ -8,15 +8,15 @@ use mir.Syntax.{w64}
 use mir.Val.{Fits}
 use lib.ListN.{length, length-replicate, getD, replicate}
 use borrow.Author.Tests.{eq-eqb, ne-eqb, eqb-true}
-use Rattle.laws.specs.Cases.{holds, fails, test, true-is, false-is}
+use Rattle.base.specs.Cases.{holds, fails, test, pick}
+use Rattle.base.specs.Tests.{true-is, false-is}
 use Rattle.model.specs.Lists.{Each}
 use Rattle.model.specs.State.{Word}
 use Rattle.model.specs.Memory.{zeroed}
-use Rattle.words.specs.Cases.{both, pick}
 use Rattle.words.specs.Copies.{copied}
 use Rattle.answers.specs.declared.Answer.{Answer}
 use Rattle.answers.specs.declared.Answer.the-variants.{Done, Refused}
-use Rattle.answers.specs.Answers.{numberOf}
+use Rattle.refusals.specs.Refusals.{number}
 use Rattle.sound.specs.Test.{isSound}
 use Rattle.frame.specs.declared.replies.Reply.{Reply}
 use Rattle.frame.specs.declared.replies.DomainReply.{DomainReply}
@@ -36,7 +36,7 @@ finished (Refused r) t w = copied w t
 
 abbrev pub replyFor : Answer → Reply
 replyFor (Done v) = record { refusal = 0; value = v }
-replyFor (Refused r) = record { refusal = numberOf r; value = 0 }
+replyFor (Refused r) = record { refusal = number r; value = 0 }
 
 -- the reply to an opening: the slot with its generation in the tables v
 unfoldable pub openedFor : Tables → Reply → DomainReply

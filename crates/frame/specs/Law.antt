@@ -8,29 +8,29 @@ use mathlib.Core.List.{List}
 use lib.Dec.{eqb}
 use lib.ListN.{length, replicate}
 use borrow.Author.Tests.{eq-eqb, eqb-true}
+use Rattle.base.specs.Cases.{holds, fails, test}
+use Rattle.base.specs.Tests.{true-is, false-is, both-true}
 use Rattle.model.specs.Lists.{Each}
-use Rattle.model.specs.Outcome as outcome
+use Rattle.refusals.specs.Refusals.{memory}
 use Rattle.model.specs.Outcome.{Outcome, ok, refuse, _>>=_}
 use Rattle.model.specs.State.{State, Word}
 use Rattle.model.specs.Perform as model
-use Rattle.model.specs.Perform.{Call, Reply, Answer, performStep, perform, step, after as outcome-after}
+use Rattle.model.specs.Perform.{Call, Value, Answer, performStep, perform, step, after as outcome-after}
 use Rattle.model.specs.CallWords.{StepWords}
 use Rattle.model.specs.Sound.{Sound}
 use Rattle.model.specs.Layout.{words}
 use Rattle.model.specs.Memory.{Lent, NotMake, Settled, After, zeroed}
-use Rattle.laws.specs.Cases.{holds, fails, test, true-is, false-is}
-use Rattle.words.specs.Cases.{both-true}
 use Rattle.tables.specs.Tables.{Tables}
 use Rattle.tables.specs.View.{view, Sized, Left}
 use Rattle.sizes.specs.Tests.{sizedB}
 use Rattle.tables.specs.Tests.{sized-true}
 use Rattle.answers.specs.declared.Answer as code
 use Rattle.answers.specs.declared.Answer.the-variants.{Done, Refused}
-use Rattle.answers.specs.Answers.{Step}
+use Rattle.answers.specs.Answers.{Effect}
 use Rattle.decoded.specs.Tables.{tablesOf}
 use Rattle.decoded.specs.Words.{words-held, held-words}
-use Rattle.refine.specs.Agrees.{Agrees, refusalFor, same-number}
-use Rattle.refine.specs.Calls.Performs.{stepFor, slotFrom, call-refines}
+use Rattle.refine.specs.Agrees.{Agrees}
+use Rattle.refine.specs.Calls.Perform.{stepFor, slotFrom, call-refines}
 use Rattle.sound.specs.Test.{isSound}
 use Rattle.exact.specs.Law.{sound-words, words-sound}
 use Rattle.frame.specs.declared.replies.Reply as replies
@@ -45,7 +45,7 @@ module _ (t w : List ℕ) where
   lent-admitted s l = rw (eq-eqb (length w) (length t) (l .work)) (words-sound t (s, l .sound, l .tables))
 
   -- "1 Memory, either length wrong or tables not sound"
-  pub not-admitted : (c : Call) → NotMake c → admitted t w ≡ false → After t w c (Answer.no outcome.memory) t (zeroed w)
+  pub not-admitted : (c : Call) → NotMake c → admitted t w ≡ false → After t w c (Answer.no memory) t (zeroed w)
   not-admitted c n e = After.notSound c n (λ s l. false-is e (true-is (lent-admitted s l)))
 
   parts : admitted t w ≡ true → (length w ≡ length t) × (isSound t ≡ true)
@@ -61,7 +61,7 @@ module _ (t w : List ℕ) where
 -- ---- a call that the code runs as a step
 
 -- what a finished call returned and left, on the sound state whose words were lent
-pub record Ran (t w : List ℕ) (c : model.Step) (r : replies.Reply) (t₂ w₂ : List ℕ) : Type 0 where
+pub record Completed (t w : List ℕ) (c : model.Step) (r : replies.Reply) (t₂ w₂ : List ℕ) : Type 0 where
   pub state : State
   pub lent : Lent t w state
   pub reply : r ≡ replyOf (step state (Call.Do c) .0)
@@ -72,16 +72,16 @@ module _ (t w : List ℕ) (s : State) (l : Lent t w s) (c : model.Step) (a : cod
   Ends : Answer × State → Type 0
   Ends y = (replyFor a ≡ replyOf (y .0)) × (finished a u t ≡ words (y .1))
 
-  by-outcome : (x : Step) → a ≡ x .answer → Left u (x .tables) → (o : Outcome (Reply × State)) → performStep s c ≡ o → Agrees x (o >>= λ y. ok (slotFrom (y .0), y .1)) → Ends (step s (Call.Do c))
+  by-outcome : (x : Effect) → a ≡ x .answer → Left u (x .tables) → (o : Outcome (Value × State)) → performStep s c ≡ o → Agrees x (o >>= λ y. ok (slotFrom (y .0), y .1)) → Ends (step s (Call.Do c))
   unfolding step perform _>>=_ Ends
   by-outcome x e v (ok y) p g =
       let b : a ≡ Done (slotFrom (y .0)) = e ∙ g .0 in
       subst Ends (sym (ap (outcome-after s) p))
       (ap replyFor b, ap (λ z. finished z u t) b ∙ held-words (y .1) u (subst (Left u) (g .1) v))
   by-outcome x e v (refuse r) p g =
-      let b : a ≡ Refused (refusalFor r) = e ∙ g in
+      let b : a ≡ Refused r = e ∙ g in
       subst Ends (sym (ap (outcome-after s) p))
-      (ap replyFor b ∙ ap (λ n. record { refusal = n; value = 0 }) (same-number r), ap (λ z. finished z u t) b ∙ copy-back t u long ∙ l .tables)
+      (ap replyFor b, ap (λ z. finished z u t) b ∙ copy-back t u long ∙ l .tables)
 
   ends : StepWords c → a ≡ stepFor c (view t) .answer → Left u (stepFor c (view t) .tables) → (replyFor a ≡ replyOf (step s (Call.Do c) .0)) × (finished a u t ≡ words (step s (Call.Do c) .1))
   unfolding Ends
@@ -92,10 +92,10 @@ module _ (t w : List ℕ) (s : State) (l : Lent t w s) (c : model.Step) (a : cod
 -- ---- as the exported functions cite it
 
 -- b is what the test said; w₁ is the work area behind it; a and u are what the step answered and left; r, t₂ and w₂ what the end of the call gave
-pub ran : (t w : List ℕ) → Each Word t → (b : Bool) → b ≡ admitted t w → b ≡ true → (w₁ : List ℕ) → w₁ ≡ kept t w
+pub completed : (t w : List ℕ) → Each Word t → (b : Bool) → b ≡ admitted t w → b ≡ true → (w₁ : List ℕ) → w₁ ≡ kept t w
     → (c : model.Step) → StepWords c → (a : code.Answer) (u : List ℕ) → a ≡ stepFor c (view t) .answer → Left u (stepFor c (view t) .tables) → length u ≡ length t
-    → (r : replies.Reply) (t₂ w₂ : List ℕ) → r ≡ replyFor a → t₂ ≡ finished a u w₁ → w₂ ≡ zeroed w₁ → Ran t w c r t₂ w₂
-ran t w known b e h w₁ k c x a u f v long r t₂ w₂ er et ew =
+    → (r : replies.Reply) (t₂ w₂ : List ℕ) → r ≡ replyFor a → t₂ ≡ finished a u w₁ → w₂ ≡ zeroed w₁ → Completed t w c r t₂ w₂
+completed t w known b e h w₁ k c x a u f v long r t₂ w₂ er et ew =
     let d = sym e ∙ h in
     let l = lent t w known d in
     let m : w₁ ≡ t = k ∙ kept-copy t w d in
@@ -117,13 +117,13 @@ step-returns f t w c q s l r t₂ w₂ er et ew = record {
   reply = er;
 }
 
-pub ran-returns : (t w : List ℕ) (c : model.Step) (r : replies.Reply) (t₂ w₂ : List ℕ) → Ran t w c r t₂ w₂ → Returns replyOf t w (Call.Do c) r t₂ w₂
+pub ran-returns : (t w : List ℕ) (c : model.Step) (r : replies.Reply) (t₂ w₂ : List ℕ) → Completed t w c r t₂ w₂ → Returns replyOf t w (Call.Do c) r t₂ w₂
 ran-returns t w c r t₂ w₂ x = step-returns replyOf t w (Call.Do c) tt (x .state) (x .lent) r t₂ w₂ (x .reply) (x .tables) (x .work)
 
 pub call-returns : (t w : List ℕ) → Each Word t → (b : Bool) → b ≡ admitted t w → b ≡ true → (w₁ : List ℕ) → w₁ ≡ kept t w
     → (c : model.Step) → StepWords c → (a : code.Answer) (u : List ℕ) → a ≡ stepFor c (view t) .answer → Left u (stepFor c (view t) .tables) → length u ≡ length t
     → (r : replies.Reply) (t₂ w₂ : List ℕ) → r ≡ replyFor a → t₂ ≡ finished a u w₁ → w₂ ≡ zeroed w₁ → Returns replyOf t w (Call.Do c) r t₂ w₂
-call-returns t w known b e h w₁ k c x a u f v long r t₂ w₂ er et ew = ran-returns t w c r t₂ w₂ (ran t w known b e h w₁ k c x a u f v long r t₂ w₂ er et ew)
+call-returns t w known b e h w₁ k c x a u f v long r t₂ w₂ er et ew = ran-returns t w c r t₂ w₂ (completed t w known b e h w₁ k c x a u f v long r t₂ w₂ er et ew)
 
 -- the tables that a call may run on are as long as their sizes ask
 pub admitted-sized : (t w : List ℕ) → (b : Bool) → b ≡ admitted t w → b ≡ true → Sized t
@@ -132,7 +132,7 @@ admitted-sized t w b e h = sized-true t (both-true (sizedB t) _ (parts t w (sym 
 
 -- the lent memory is refused
 pub memory-returns : {R : Type 0} (f : Answer → R) (t w : List ℕ) (c : Call) → NotMake c → (b : Bool) → b ≡ admitted t w → b ≡ false
-    → (r : R) (w₂ : List ℕ) → r ≡ f (Answer.no outcome.memory) → w₂ ≡ kept t w → Returns f t w c r t w₂
+    → (r : R) (w₂ : List ℕ) → r ≡ f (Answer.no memory) → w₂ ≡ kept t w → Returns f t w c r t w₂
 memory-returns f t w c n b e h r w₂ er ew =
     let d = sym e ∙ h in
-    record { answer = Answer.no outcome.memory; after = subst (λ v. After t w c (Answer.no outcome.memory) t v) (sym (ew ∙ kept-clear t w d)) (not-admitted t w c n d); reply = er }
+    record { answer = Answer.no memory; after = subst (λ v. After t w c (Answer.no memory) t v) (sym (ew ∙ kept-clear t w d)) (not-admitted t w c n d); reply = er }

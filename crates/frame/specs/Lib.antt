@@ -2,3 +2,4 @@ pub mod Replies
 pub mod Finish
 pub mod Law
 pub mod Steps
+pub mod Unique

@@ -16,7 +16,7 @@ use Rattle.frame.specs.declared.replies.UpdateReply.{UpdateReply}
 -- ---- what is named in a call
 
 abbrev pub handle : ℕ → ℕ → Handle
-handle slot generation = record { slot = slot; gen = generation }
+handle slot generation = record { slot = slot; generation = generation }
 
 abbrev pub access : ℕ → ℕ → ℕ → Access
 access start end rights = record { start = start; end = end; rights = rights }

@@ -5,48 +5,46 @@ use mathlib.Core.Option.{none, some}
 use mathlib.Core.List.{List}
 use Rattle.model.specs.State as state
 use Rattle.model.specs.Perform as model
-use Rattle.tables.specs.declared.Handle.{Handle}
 use Rattle.tables.specs.Tables.{Tables}
 use Rattle.tables.specs.View.{Left}
 use Rattle.answers.specs.declared.Answer.{Answer}
-use Rattle.answers.specs.Answers.{Step}
+use Rattle.answers.specs.Answers.{Effect}
 use Rattle.region.specs.declared.AccessRights.{AccessRights}
 use Rattle.calls.specs.declared.Call.{Call}
-use Rattle.calls.specs.declared.Call.the-variants.{Open, OpenUnder, Channel, SetCores, Root, Alias, Carve, Send, Revoke, MakeRevoke}
+use Rattle.calls.specs.declared.Call.the-variants.{Open, OpenUnder, Channel, SetCoreMap, Root, Alias, Carve, Send, Revoke, CreateRevokeCapa}
 use Rattle.calls.specs.Steps.{stepOf}
-use Rattle.refine.specs.Calls.Performs.{stepFor}
-
-abbrev handleIn : Handle → state.Handle
-handleIn h = record { slot = h .slot; gen = h .generation }
+use Rattle.refine.specs.Calls.Perform.{stepFor}
+use Rattle.decoded.specs.Decode.Read.{handleFrom}
+use Rattle.refine.specs.Calls.Perform.{stepFor}
 
 abbrev accessIn : AccessRights → state.Access
 accessIn a = record { start = a .start; end = a .end; rights = a .ops .0 }
 
 abbrev pub stepNamed : Call → model.Step
 stepNamed (Open cores) = model.Open none cores
-stepNamed (OpenUnder h cores) = model.Open (some (handleIn h)) cores
-stepNamed (Channel h to) = model.Channel (handleIn h) (handleIn to)
-stepNamed (SetCores h cores) = model.SetCores (handleIn h) cores
-stepNamed (Root h a) = model.Root (handleIn h) (accessIn a)
-stepNamed (Alias x) = model.Alias (handleIn (x .domain)) (x .local) (accessIn (x .access))
-stepNamed (Carve x) = model.Carve (handleIn (x .domain)) (x .local) (accessIn (x .access))
-stepNamed (Send h l target) = model.Send (handleIn h) l target
-stepNamed (Revoke h l) = model.Revoke (handleIn h) l
-stepNamed (MakeRevoke h l) = model.MakeRevoke (handleIn h) l
+stepNamed (OpenUnder h cores) = model.Open (some (handleFrom h)) cores
+stepNamed (Channel h to) = model.Channel (handleFrom h) (handleFrom to)
+stepNamed (SetCoreMap h cores) = model.SetCoreMap (handleFrom h) cores
+stepNamed (Root h a) = model.Root (handleFrom h) (accessIn a)
+stepNamed (Alias x) = model.Alias (handleFrom (x .domain)) (x .local) (accessIn (x .access))
+stepNamed (Carve x) = model.Carve (handleFrom (x .domain)) (x .local) (accessIn (x .access))
+stepNamed (Send h l target) = model.Send (handleFrom h) l target
+stepNamed (Revoke h l) = model.Revoke (handleFrom h) l
+stepNamed (CreateRevokeCapa h l) = model.CreateRevokeCapa (handleFrom h) l
 
 same-step : (c : Call) (v : Tables) → stepOf c v ≡ stepFor (stepNamed c) v
 same-step (Open cores) v = refl
 same-step (OpenUnder h cores) v = refl
 same-step (Channel h to) v = refl
-same-step (SetCores h cores) v = refl
+same-step (SetCoreMap h cores) v = refl
 same-step (Root h a) v = refl
 same-step (Alias x) v = refl
 same-step (Carve x) v = refl
 same-step (Send h l target) v = refl
 same-step (Revoke h l) v = refl
-same-step (MakeRevoke h l) v = refl
+same-step (CreateRevokeCapa h l) v = refl
 
 -- as `run` cites it: a is what the step answered, u what it left
 pub ran-step : (c : Call) (v : Tables) (a : Answer) (u : List ℕ) → a ≡ stepOf c v .answer → Left u (stepOf c v .tables)
     → (a ≡ stepFor (stepNamed c) v .answer) × Left u (stepFor (stepNamed c) v .tables)
-ran-step c v a u e l = (e ∙ ap (λ (x : Step). x .answer) (same-step c v), subst (λ (x : Step). Left u (x .tables)) (same-step c v) l)
+ran-step c v a u e l = (e ∙ ap (λ (x : Effect). x .answer) (same-step c v), subst (λ (x : Effect). Left u (x .tables)) (same-step c v) l)

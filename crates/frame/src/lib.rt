@@ -7,7 +7,7 @@ ghost use Rattle.frame.specs.Finish.{admitted, kept, finished, replyFor}
 ghost use Rattle.frame.specs.Replies.{replyOf, Returns};
 ghost use Rattle.frame.specs.Steps.{stepNamed};
 use answers::Answer;
-use answers::Refusal;
+use refusals::Refusal;
 
 pub mod replies;
 
@@ -63,5 +63,5 @@ pub fn run(t: &mut [u64], w: &mut [u64], call: calls::Call) -> Reply
         let a = calls::step(t, call);
         return finish(t, w, a);
     }
-    replies::refused(Refusal::Memory)
+    replies::refused(Refusal::MEMORY)
 }

@@ -1,10 +1,9 @@
 // What the exported calls return: document 01's number of the refusal, 0 where the call was accepted, and the values of its answer,
 // 0 where there is none.
 ghost use mathlib.Core.Path.{_≡_};
-ghost use Rattle.answers.specs.Answers.{numberOf};
 ghost use Rattle.answers.specs.declared.Answer.the-variants.{Refused};
 ghost use Rattle.frame.specs.Finish.{replyFor};
-use answers::Refusal;
+use refusals::Refusal;
 
 // The value is a local slot, or a number that was read.
 #[repr(C)]
@@ -31,35 +30,11 @@ pub struct UpdateReply {
     pub c: u64,
 }
 
-pub fn number_of(r: Refusal) -> u64
-    ensures { λ n. ⌜ n ≡ numberOf r ⌝ }
-{
-    match r {
-        Refusal::Memory => 1,
-        Refusal::Sizes => 2,
-        Refusal::NoDomain => 3,
-        Refusal::NoSlot => 4,
-        Refusal::WrongKind => 5,
-        Refusal::Stale => 6,
-        Refusal::BadRange => 7,
-        Refusal::Beyond => 8,
-        Refusal::Root => 9,
-        Refusal::NotCarried => 10,
-        Refusal::NoRegion => 11,
-        Refusal::NoLocal => 12,
-        Refusal::NoTracker => 13,
-        Refusal::RingFull => 14,
-        Refusal::NoDomainRoom => 15,
-        Refusal::Spent => 16,
-        Refusal::BadRecord => 17,
-    }
-}
-
 pub fn refused(r: Refusal) -> Reply
     ensures { λ x. ⌜ x ≡ replyFor (Refused r) ⌝ }
 {
     Reply {
-        refusal: number_of(r),
+        refusal: r.0,
         value: 0,
     }
 }

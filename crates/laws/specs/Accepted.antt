@@ -5,7 +5,8 @@ use Prim.Native.Nat.{ℕ}
 use native.Mathlib.Omega.{arith}
 use lib.Dec.{T}
 use Rattle.model.specs.Lists.{if_then_else_}
-use Rattle.model.specs.Outcome.{Outcome, ok, refuse, _>>=_, _>>_, require, Refusal}
+use Rattle.model.specs.Outcome.{Outcome, ok, refuse, _>>=_, _>>_, require}
+use Rattle.refusals.specs.declared.Refusal.{Refusal}
 
 pub data All {A : Type 0} (P : A → Type 0) : Outcome A → Type 0 where
   accepted : {a : A} → P a → All P (ok a)

@@ -1,52 +1,87 @@
--- A law: `After` settles the answer and every word. Two of its cases never hold together, and a sound state is the only one with its words.
-use mathlib.Core.Path.{_≡_, refl, sym, ap, _∙_}
-use mathlib.Core.Logic.{_≢_}
+-- A law: `After` settles the answer and every word; of the list of holders all but the order.
+-- Two of its cases never hold together, and a sound state is the only one with its words.
+use mathlib.Core.Path.{_≡_, refl, sym, ap, subst, _∙_}
 use Prim.Native.Nat.{ℕ}
 use mathlib.Core.List.{List}
-use lib.Dec.{T, T-not}
+use lib.Dec.{T, T-not, eqb}
+use Rattle.model.specs.Lists.{countIf, oneIf}
 use Rattle.model.specs.State.{State}
 use Rattle.model.specs.Making.{goodSizes}
+use Rattle.model.specs.Readings.{isHolder}
 use Rattle.model.specs.Layout.{words}
-use Rattle.model.specs.Perform.{Reading, Call, Answer, step}
-use Rattle.model.specs.Memory.{Lent, After, badSizes, badLengths, made, notSound, performed, held, zeroed}
+use Rattle.model.specs.Perform.{Reading, Call, Value, Answer, step}
+use Rattle.model.specs.Memory.{Lent, After, badSizes, badLengths, made, notSound, performed, held}
 use Rattle.laws.specs.Words.Unique.{words-unique}
 
+-- The same domains, each as often, in any order.
+abbrev pub SameMembers : List ℕ → List ℕ → Type 0
+SameMembers l m = (d : ℕ) → countIf (eqb d) l ≡ countIf (eqb d) m
+
+-- Equal answers, or two lists with the same members.
+pub data SameHolders : Answer → Answer → Type 0 where
+  equal : (a : Answer) → SameHolders a a
+  listed : (l m : List ℕ) → SameMembers l m → SameHolders (Answer.yes (Value.domainList l)) (Answer.yes (Value.domainList m))
+
+-- Two answers to the call c are equal; those of the holders but for the order.
+abbrev pub SameAnswer : Call → Answer → Answer → Type 0
+SameAnswer (Call.Make z) a b = a ≡ b
+SameAnswer (Call.Do c) a b = a ≡ b
+SameAnswer Call.Pop a b = a ≡ b
+SameAnswer (Call.Read (Reading.Permissions h)) a b = a ≡ b
+SameAnswer (Call.Read (Reading.Refcount h from to)) a b = a ≡ b
+SameAnswer (Call.Read (Reading.CoreMap h)) a b = a ≡ b
+SameAnswer (Call.Read (Reading.Holders x)) a b = SameHolders a b
+
 -- What is settled: the answer, the tables, the work area.
-abbrev Same : Answer → List ℕ → List ℕ → Answer → List ℕ → List ℕ → Type 0
-Same a t w b t′ w′ = (a ≡ b) × (t ≡ t′) × (w ≡ w′)
+abbrev pub Same : Call → Answer → List ℕ → List ℕ → Answer → List ℕ → List ℕ → Type 0
+Same c a t w b t′ w′ = SameAnswer c a b × (t ≡ t′) × (w ≡ w′)
+
+-- equal answers are the same, whatever the call
+same : (c : Call) {a b : Answer} → a ≡ b → SameAnswer c a b
+same (Call.Make z) e = e
+same (Call.Do c) e = e
+same Call.Pop e = e
+same (Call.Read (Reading.Permissions h)) e = e
+same (Call.Read (Reading.Refcount h from to)) e = e
+same (Call.Read (Reading.CoreMap h)) e = e
+same (Call.Read (Reading.Holders x)) {a} e = subst (SameHolders a) e (equal a)
 
 -- lent tables are those of one state
 lent-unique : (t w : List ℕ) (s s′ : State) → Lent t w s → Lent t w s′ → s ≡ s′
 lent-unique t w s s′ l l′ = words-unique s s′ (l .sound) (l′ .sound) (sym (l .tables) ∙ l′ .tables)
 
-pub after-unique : {t w : List ℕ} {c : Call} {a b : Answer} {t₁ w₁ t₂ w₂ : List ℕ} → ((x : ℕ) → c ≢ Call.Read (Reading.Holders x)) → After t w c a t₁ w₁ → After t w c b t₂ w₂ → Same a t₁ w₁ b t₂ w₂
-after-unique n (badSizes z p) (badSizes z′ q) = (refl, refl, refl)
-after-unique n (badSizes z p) (badLengths z′ q f) = absurd (T-not (goodSizes z′) p q)
-after-unique n (badSizes z p) (made z′ q f) = absurd (T-not (goodSizes z′) p q)
-after-unique n (badSizes z p) (notSound c q u) = absurd q
-after-unique n (badSizes z p) (performed c s q l) = absurd q
-after-unique n (badLengths z p f) (badSizes z′ q) = absurd (T-not (goodSizes z′) q p)
-after-unique n (badLengths z p f) (badLengths z′ q g) = (refl, refl, refl)
-after-unique n (badLengths z p f) (made z′ q g) = absurd (f g)
-after-unique n (badLengths z p f) (notSound c q u) = absurd q
-after-unique n (badLengths z p f) (performed c s q l) = absurd q
-after-unique n (made z p f) (badSizes z′ q) = absurd (T-not (goodSizes z′) q p)
-after-unique n (made z p f) (badLengths z′ q g) = absurd (g f)
-after-unique n (made z p f) (made z′ q g) = (refl, refl, refl)
-after-unique n (made z p f) (notSound c q u) = absurd q
-after-unique n (made z p f) (performed c s q l) = absurd q
-after-unique n (notSound c q u) (badSizes z p) = absurd q
-after-unique n (notSound c q u) (badLengths z p g) = absurd q
-after-unique n (notSound c q u) (made z p g) = absurd q
-after-unique n (notSound c q u) (notSound c′ q′ u′) = (refl, refl, refl)
-after-unique n (notSound c q u) (performed c′ s q′ l) = absurd (u s l)
-after-unique n (notSound c q u) (held x s l e h) = absurd (n x refl)
-after-unique n (performed c s q l) (badSizes z p) = absurd q
-after-unique n (performed c s q l) (badLengths z p g) = absurd q
-after-unique n (performed c s q l) (made z p g) = absurd q
-after-unique n (performed c s q l) (notSound c′ q′ u) = absurd (u s l)
-after-unique {t = t} {w = w} n (performed c s q l) (performed c′ s′ q′ l′) =
+pub after-unique : {t w : List ℕ} {c : Call} {a b : Answer} {t₁ w₁ t₂ w₂ : List ℕ} → After t w c a t₁ w₁ → After t w c b t₂ w₂ → Same c a t₁ w₁ b t₂ w₂
+after-unique (badSizes z p) (badSizes z′ q) = (refl, refl, refl)
+after-unique (badSizes z p) (badLengths z′ q f) = absurd (T-not (goodSizes z′) p q)
+after-unique (badSizes z p) (made z′ q f) = absurd (T-not (goodSizes z′) p q)
+after-unique (badSizes z p) (notSound c q u) = absurd q
+after-unique (badSizes z p) (performed c s q l) = absurd q
+after-unique (badLengths z p f) (badSizes z′ q) = absurd (T-not (goodSizes z′) q p)
+after-unique (badLengths z p f) (badLengths z′ q g) = (refl, refl, refl)
+after-unique (badLengths z p f) (made z′ q g) = absurd (f g)
+after-unique (badLengths z p f) (notSound c q u) = absurd q
+after-unique (badLengths z p f) (performed c s q l) = absurd q
+after-unique (made z p f) (badSizes z′ q) = absurd (T-not (goodSizes z′) q p)
+after-unique (made z p f) (badLengths z′ q g) = absurd (g f)
+after-unique (made z p f) (made z′ q g) = (refl, refl, refl)
+after-unique (made z p f) (notSound c q u) = absurd q
+after-unique (made z p f) (performed c s q l) = absurd q
+after-unique (notSound c q u) (badSizes z p) = absurd q
+after-unique (notSound c q u) (badLengths z p g) = absurd q
+after-unique (notSound c q u) (made z p g) = absurd q
+after-unique (notSound c q u) (notSound c′ q′ u′) = (same c refl, refl, refl)
+after-unique (notSound c q u) (performed c′ s q′ l) = absurd (u s l)
+after-unique (notSound c q u) (held x s k l h) = absurd (u s l)
+after-unique (performed c s q l) (badSizes z p) = absurd q
+after-unique (performed c s q l) (badLengths z p g) = absurd q
+after-unique (performed c s q l) (made z p g) = absurd q
+after-unique (performed c s q l) (notSound c′ q′ u) = absurd (u s l)
+after-unique {t = t} {w = w} (performed c s q l) (performed c′ s′ q′ l′) =
     let e = lent-unique t w s s′ l l′ in
-    (ap (λ x. step x c .0) e, ap (λ x. words (step x c .1)) e, refl)
-after-unique n (performed c s q l) (held x s′ k e h) = absurd q
-after-unique n (held x s l e h) y = absurd (n x refl)
+    (same c (ap (λ x. step x c .0) e), ap (λ x. words (step x c .1)) e, refl)
+after-unique (performed c s q l) (held x s′ k l′ h) = absurd q
+after-unique (held x s k l h) (notSound c q u) = absurd (u s l)
+after-unique (held x s k l h) (performed c s′ q l′) = absurd q
+after-unique {t = t} {w = w} (held x s k l h) (held x′ s′ k′ l′ h′) =
+    let e = lent-unique t w s s′ l l′ in
+    (listed k k′ (λ d. h d ∙ ap (λ y. oneIf (isHolder y x d)) e ∙ sym (h′ d)), refl, refl)

@@ -5,7 +5,8 @@ use mathlib.Core.Bool.{Bool, true, false}
 use native.Mathlib.Omega.{arith}
 use lib.Dec.{T}
 use Rattle.model.specs.Lists.{if_then_else_}
-use Rattle.model.specs.Outcome.{Outcome, ok, refuse, _>>=_, _>>_, require, Refusal}
+use Rattle.model.specs.Outcome.{Outcome, ok, refuse, _>>=_, _>>_, require}
+use Rattle.refusals.specs.declared.Refusal.{Refusal}
 use Rattle.laws.specs.Accepted.{All, accepted, refused}
 
 pub data Gives {A : Type 0} (P : A → Type 0) (R : Refusal → Type 0) : Outcome A → Type 0 where

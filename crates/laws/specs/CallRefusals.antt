@@ -2,51 +2,55 @@
 -- says what it can be refused with; a call is its steps one after another.
 use mathlib.Core.Path.{_≡_}
 use mathlib.Core.Logic.{inl, inr}
-use Prim.Native.Nat.{ℕ}
+use Prim.Native.Nat.{ℕ, _<_}
+use mathlib.Core.Bool.{_&&_}
 use mathlib.Core.Option.{Option, none, some}
 use mathlib.Core.List.{List, [], _∷_}
-use lib.Dec.{T, eqb}
-use Rattle.model.specs.Lists.{any}
-use Rattle.model.specs.Outcome.{Outcome, refuse, _>>=_, okOr, Refusal, number, noDomain, noSlot, wrongKind, stale, badRange, isRoot, notCarried, noRegion, noLocal, noTracker, ringFull, noDomainRoom, spent}
+use lib.Dec.{T, eqb, ltb, ltb→lt}
+use lib.Ieee.Fits.{and-l, and-r}
+use Rattle.model.specs.Lists.{exists}
+use Rattle.model.specs.Outcome.{Outcome, refuse, _>>=_, okOr}
+use Rattle.refusals.specs.declared.Refusal.{Refusal}
+use Rattle.refusals.specs.Refusals.{number, memory, sizes, noDomain, noSlot, wrongKind, stale, badRange, beyond, isRoot, notCarried, noRegion, noLocal, noTracker, ringFull, noDomainRoom, spent}
 use Rattle.model.specs.State.{State, Sizes, Handle, Access, Kind, Capa, noCapa, region, regionRevoke, management, channel, domainAt}
 use Rattle.model.specs.Pool.{isLive}
 use Rattle.model.specs.Locals.{insertLocal, insertCapa, hasCapacity, capaAt}
 use Rattle.model.specs.Regions.{newRegion}
 use Rattle.model.specs.Making.{makeTables}
-use Rattle.model.specs.Calls.{liveDomain, liveRegion, asRegion, asTarget, regionHeld, roomForRegion, newDomain, openDomain, openChannel, setCores, createRootRegion, addChild, aliasRegion, carveRegion, sendCapa, send, revokeUnlessRoot, revokeCapa, revoke, createRevokeCapa}
+use Rattle.model.specs.Calls.{liveDomain, liveRegion, asRegion, asTarget, regionHeld, roomForRegion, newDomain, openDomain, openChannel, setCoreMap, createRootRegion, addChild, aliasRegion, carveRegion, sendCapa, send, revokeUnlessRoot, revokeCapa, revoke, createRevokeCapa}
 use Rattle.model.specs.Readings.{permissions, getRefcount, coreMap}
-use Rattle.model.specs.Perform.{Step, Open, Channel, SetCores, Root, Alias, Carve, Send, Revoke, MakeRevoke, Reading, Permissions, Refcount, CoreMap, Holders, Call, Make, Do, Pop, Read, makeAnew, performStep, readTables, perform}
+use Rattle.model.specs.Perform.{Step, Open, Channel, SetCoreMap, Root, Alias, Carve, Send, Revoke, CreateRevokeCapa, Reading, Permissions, Refcount, CoreMap, Holders, Call, Make, Do, Pop, Read, makeAnew, performStep, readTables, perform}
 use Rattle.laws.specs.Answers.{Gives, gives, refuses, gives-then, gives-branch, gives-checked, refusal}
 use Rattle.laws.specs.Keep.Refusals.{MayStop, activate-stops, exchange-stops, send-stops, revoke-stops, allocate-stops, new-stops}
 
--- Document 01's numbers for each call, in its order of checks, those of the steps afterwards last. Bad memory (1) is refused before
+-- Document 01's refusals for each call, in its order of checks, those of the steps afterwards last. Bad memory (1) is refused before
 -- `perform`, save for a making with another length.
-abbrev pub stepRefusals : Step → List ℕ
-stepRefusals (Open m cores) = 3 ∷ 15 ∷ 12 ∷ []
-stepRefusals (Channel h to) = 3 ∷ 12 ∷ []
-stepRefusals (SetCores h cores) = 3 ∷ []
-stepRefusals (Root h a) = 3 ∷ 11 ∷ 12 ∷ 7 ∷ 13 ∷ 14 ∷ 16 ∷ []
-stepRefusals (Alias h l a) = 3 ∷ 4 ∷ 5 ∷ 6 ∷ 11 ∷ 12 ∷ 7 ∷ 8 ∷ 13 ∷ 14 ∷ 16 ∷ []
-stepRefusals (Carve h l a) = 3 ∷ 4 ∷ 5 ∷ 6 ∷ 11 ∷ 12 ∷ 7 ∷ 8 ∷ 13 ∷ 14 ∷ 16 ∷ []
-stepRefusals (Send h l target) = 3 ∷ 4 ∷ 5 ∷ 12 ∷ 10 ∷ 6 ∷ 13 ∷ 14 ∷ 16 ∷ []
-stepRefusals (Revoke h l) = 3 ∷ 4 ∷ 10 ∷ 6 ∷ 9 ∷ 13 ∷ 14 ∷ 16 ∷ []
-stepRefusals (MakeRevoke h l) = 3 ∷ 4 ∷ 5 ∷ 6 ∷ 9 ∷ 12 ∷ []
+abbrev pub stepRefusals : Step → List Refusal
+stepRefusals (Open m cores) = noDomain ∷ noDomainRoom ∷ noLocal ∷ []
+stepRefusals (Channel h to) = noDomain ∷ noLocal ∷ []
+stepRefusals (SetCoreMap h cores) = noDomain ∷ []
+stepRefusals (Root h a) = noDomain ∷ noRegion ∷ noLocal ∷ badRange ∷ noTracker ∷ ringFull ∷ spent ∷ []
+stepRefusals (Alias h l a) = noDomain ∷ noSlot ∷ wrongKind ∷ stale ∷ noRegion ∷ noLocal ∷ badRange ∷ beyond ∷ noTracker ∷ ringFull ∷ spent ∷ []
+stepRefusals (Carve h l a) = noDomain ∷ noSlot ∷ wrongKind ∷ stale ∷ noRegion ∷ noLocal ∷ badRange ∷ beyond ∷ noTracker ∷ ringFull ∷ spent ∷ []
+stepRefusals (Send h l target) = noDomain ∷ noSlot ∷ wrongKind ∷ noLocal ∷ notCarried ∷ stale ∷ noTracker ∷ ringFull ∷ spent ∷ []
+stepRefusals (Revoke h l) = noDomain ∷ noSlot ∷ notCarried ∷ stale ∷ isRoot ∷ noTracker ∷ ringFull ∷ spent ∷ []
+stepRefusals (CreateRevokeCapa h l) = noDomain ∷ noSlot ∷ wrongKind ∷ stale ∷ isRoot ∷ noLocal ∷ []
 
-abbrev pub readingRefusals : Reading → List ℕ
-readingRefusals (Permissions h) = 3 ∷ []
-readingRefusals (Refcount h from to) = 3 ∷ []
-readingRefusals (CoreMap h) = 3 ∷ []
+abbrev pub readingRefusals : Reading → List Refusal
+readingRefusals (Permissions h) = noDomain ∷ []
+readingRefusals (Refcount h from to) = noDomain ∷ []
+readingRefusals (CoreMap h) = noDomain ∷ []
 readingRefusals (Holders a) = []
 
-abbrev pub refusals : Call → List ℕ
-refusals (Make z) = 2 ∷ 1 ∷ []
+abbrev pub refusals : Call → List Refusal
+refusals (Make z) = sizes ∷ memory ∷ []
 refusals (Do c) = stepRefusals c
 refusals Pop = []
 refusals (Read r) = readingRefusals r
 
--- The refusal is one of a call's.
+-- The refusal is one of a call's, and its number is not 0, which stands for an accepted call.
 abbrev Of : Call → Refusal → Type 0
-Of c r = T (any (eqb (number r)) (refusals c))
+Of c r = T (ltb 0 (number r) && exists (λ x. eqb (number x) (number r)) (refusals c))
 
 -- The outcome is accepted, or a refusal with R.
 abbrev Within : {A : Type 0} → (Refusal → Type 0) → Outcome A → Type 0
@@ -127,7 +131,7 @@ module _ {R : Refusal → Type 0} where
   unfolding newDomain
   opened-within i m cores s = only noDomainRoom i (allocate-stops noDomainRoom (s .domainPool .gens) (s .domainPool .free)) andThen (λ x. gives tt)
 
--- ---- the calls; `tt` says that a number is in the call's list
+-- ---- the calls; `tt` says that a refusal is in the call's list
 
 make-within : (z : Sizes) (s : State) → Within (Of (Make z)) (makeAnew z s)
 unfolding makeAnew makeTables
@@ -142,9 +146,9 @@ channel-within : (h to : Handle) (s : State) → Within (Of (Do (Channel h to)))
 unfolding openChannel
 channel-within h to s = domain-within tt s h andThen (λ d. domain-within tt s to andThen (λ t. capacity-within tt d s andThen (λ u. insert-within tt d _ u)))
 
-cores-within : (h : Handle) (cores : ℕ) (s : State) → Within (Of (Do (SetCores h cores))) (setCores h cores s)
-unfolding setCores
-cores-within h cores s = domain-within tt s h andThen (λ d. gives tt)
+set-core-map-within : (h : Handle) (cores : ℕ) (s : State) → Within (Of (Do (SetCoreMap h cores))) (setCoreMap h cores s)
+unfolding setCoreMap
+set-core-map-within h cores s = domain-within tt s h andThen (λ d. gives tt)
 
 root-within : (h : Handle) (a : Access) (s : State) → Within (Of (Do (Root h a))) (createRootRegion h a s)
 unfolding createRootRegion
@@ -224,9 +228,9 @@ revoke-within h l s =
     slot-within tt s d l andThen (λ c.
     revoked-within (tt, tt, tt) (tt, tt, tt) c s andThen (λ t. gives tt)))
 
-make-revoke-within : (h : Handle) (l : ℕ) (s : State) → Within (Of (Do (MakeRevoke h l))) (createRevokeCapa h l s)
+create-revoke-capa-within : (h : Handle) (l : ℕ) (s : State) → Within (Of (Do (CreateRevokeCapa h l))) (createRevokeCapa h l s)
 unfolding createRevokeCapa
-make-revoke-within h l s =
+create-revoke-capa-within h l s =
     domain-within tt s h andThen (λ d.
     held-within (tt, tt, tt) s d l andThen (λ n.
     gives-checked _ _ tt (λ c.
@@ -238,13 +242,13 @@ step-within : (s : State) (c : Step) → Within (Of (Do c)) (performStep s c)
 unfolding performStep
 step-within s (Open m cores) = open-within m cores s andThen (λ x. gives tt)
 step-within s (Channel h to) = channel-within h to s andThen (λ x. gives tt)
-step-within s (SetCores h cores) = cores-within h cores s andThen (λ x. gives tt)
+step-within s (SetCoreMap h cores) = set-core-map-within h cores s andThen (λ x. gives tt)
 step-within s (Root h a) = root-within h a s andThen (λ x. gives tt)
 step-within s (Alias h l a) = alias-within h l a s andThen (λ x. gives tt)
 step-within s (Carve h l a) = carve-within h l a s andThen (λ x. gives tt)
 step-within s (Send h l target) = send-within h l target s andThen (λ x. gives tt)
 step-within s (Revoke h l) = revoke-within h l s andThen (λ x. gives tt)
-step-within s (MakeRevoke h l) = make-revoke-within h l s andThen (λ x. gives tt)
+step-within s (CreateRevokeCapa h l) = create-revoke-capa-within h l s andThen (λ x. gives tt)
 
 reading-within : (s : State) (r : Reading) → Within (Of (Read r)) (readTables s r)
 unfolding readTables permissions getRefcount coreMap
@@ -261,5 +265,9 @@ perform-within s Pop = gives tt andThen (λ x. gives tt)
 perform-within s (Read r) = reading-within s r andThen (λ x. gives tt)
 
 -- A refused call's number is one of those that document 01 lists for the call.
-pub call-refusals : (s : State) (c : Call) (r : Refusal) → perform s c ≡ refuse r → T (any (eqb (number r)) (refusals c))
-call-refusals s c r e = refusal (perform-within s c) r e
+pub call-refusals : (s : State) (c : Call) (r : Refusal) → perform s c ≡ refuse r → T (exists (λ x. eqb (number x) (number r)) (refusals c))
+call-refusals s c r e = and-r (ltb 0 (number r)) _ (refusal (perform-within s c) r e)
+
+-- It is not 0.
+pub refusal-above : (s : State) (c : Call) (r : Refusal) → perform s c ≡ refuse r → 0 < number r
+refusal-above s c r e = ltb→lt 0 (number r) (and-l (ltb 0 (number r)) _ (refusal (perform-within s c) r e))

@@ -7,13 +7,14 @@ use mathlib.Core.List.{List, [], _∷_}
 use native.Mathlib.Omega.{arith}
 use lib.Dec.{T, leb→le, ltb→lt}
 use lib.Ieee.Fits.{and-l, and-r}
-use Rattle.model.specs.Lists.{oneIf, any, Each, In}
-use Rattle.model.specs.State.{State, Domain, Region, Record}
+use Rattle.model.specs.Lists.{oneIf, exists, Each, In}
+use Rattle.model.specs.State.{Region, Record, State, Domain}
+use Rattle.base.specs.Cases.{lt, ge, cmp}
+use Rattle.base.specs.Tests.{true-is}
 use Rattle.model.specs.Fields.{Field, passes}
 use Rattle.model.specs.Counts.{holds, noCounts, countsAt, countsFor, tally, regionCount, Agree}
-use Rattle.model.specs.Sound.{TrackersSound}
+use Rattle.model.specs.Sound.{TrackerSound}
 use Rattle.laws.specs.Fields.{get-none}
-use Rattle.laws.specs.Cases.{lt, ge, cmp, true-is}
 
 fewer : (b c : Bool) → oneIf (b && c) ≤ oneIf (b && true)
 fewer true true = omega arith
@@ -31,13 +32,13 @@ nothing-there : (rs : List (Option Region)) (d a : ℕ) → regionCount Field.Re
 nothing-there rs d a h f = omega (arith, get-none f, tally-le rs d a (passes f) 0 rs)
 
 -- the first record that holds a agrees; if none does, no region counts there
-read-off : (rs : List (Option Region)) (d a : ℕ) (l : List Record) → Each (λ q. (b : ℕ) → q .start ≤ b → b < q .end → Agree rs d b (q .counts)) l → (0 < regionCount Field.Reach rs d a → T (any (λ q. holds (q .start) (q .end) a) l)) → Agree rs d a (countsAt l a)
+read-off : (rs : List (Option Region)) (d a : ℕ) (l : List Record) → Each (λ q. (b : ℕ) → q .start ≤ b → b < q .end → Agree rs d b (q .counts)) l → (0 < regionCount Field.Reach rs d a → T (exists (λ q. holds (q .start) (q .end) a) l)) → Agree rs d a (countsAt l a)
 read-off rs d a [] h c = elim (cmp 0 (regionCount Field.Reach rs d a)) [ lt i ↦ absurd (c i) | ge i ↦ nothing-there rs d a (omega arith) ]
 read-off rs d a (q ∷ l) h c = go (holds (q .start) (q .end) a) refl (λ k. read-off rs d a l (h .1) k)
   where
-    go : (b : Bool) → holds (q .start) (q .end) a ≡ b → ((0 < regionCount Field.Reach rs d a → T (any (λ n. holds (n .start) (n .end) a) l)) → Agree rs d a (countsAt l a)) → Agree rs d a (countsAt (q ∷ l) a)
+    go : (b : Bool) → holds (q .start) (q .end) a ≡ b → ((0 < regionCount Field.Reach rs d a → T (exists (λ n. holds (n .start) (n .end) a) l)) → Agree rs d a (countsAt l a)) → Agree rs d a (countsAt (q ∷ l) a)
     go true e ih = rw e (let t = true-is e in h .0 a (leb→le _ _ (search and-l)) (ltb→lt _ _ (search and-r)))
     go false e ih = rw e (ih (λ k. rw e at (c k)))
 
-pub counts-law : (s : State) → TrackersSound s → (d : ℕ) (x : Domain) → In (s .domains) d x → (a : ℕ) → Agree (s .regions) d a (countsAt (x .tracker) a)
-counts-law s h d x i a = let k = h .trackers d x i in read-off (s .regions) d a (x .tracker) (k .counted) (k .covered a)
+pub counts-law : (rs : List (Option Region)) (d : ℕ) (l : List Record) → TrackerSound rs d l → (a : ℕ) → Agree rs d a (countsAt l a)
+counts-law rs d l h a = read-off rs d a l (h .counted) (h .covered a)

@@ -4,9 +4,10 @@ use Prim.Native.Nat.{ℕ, zero, suc}
 use mathlib.Core.Option.{none, some}
 use mathlib.Core.List.{List, [], _∷_}
 use lib.ListN.{length, length-set}
-use Rattle.model.specs.Lists.{any}
+use Rattle.model.specs.Lists.{exists}
 use Rattle.rights.specs.Rights.{has, CLEANUP}
-use Rattle.model.specs.Outcome.{Outcome, Refusal}
+use Rattle.model.specs.Outcome.{Outcome}
+use Rattle.refusals.specs.declared.Refusal.{Refusal}
 use Rattle.laws.specs.Accepted.{All, accepted, refused, bind, bind-any, and-then, branch, weaken}
 use Rattle.laws.specs.Tracker.Slots.{gain-slots, lose-slots}
 use Rattle.model.specs.State.{State, Pool, Capa, Domain, Region, Kind, Root, Alias, Carve, Access, Record, Update, withRecordPool, withTracker, putDomain, putRegion, domainAt, regionAt}
@@ -94,7 +95,7 @@ push-kept u s = and-then _ (accepted (record { sizes = refl; domains = refl; reg
 
 permission-kept : (d : ℕ) (s : State) → All (Kept s) (pushPermission d s)
 unfolding pushPermission
-permission-kept d s = branch (any (isPermissionOf (handleOf (s .domainPool) d)) (s .queue .items)) (accepted (same s)) (push-kept _ s)
+permission-kept d s = branch (exists (isPermissionOf (handleOf (s .domainPool) d)) (s .queue .items)) (accepted (same s)) (push-kept _ s)
 
 walk-kept : (d : ℕ) (w : Walk) (s : State) → PoolOf (s .recordPool) w → All (Kept s) (putWalk d w s)
 unfolding putWalk

@@ -1,22 +1,20 @@
 -- A law: no call but making changes the sizes or the length of a table.
-use mathlib.Core.Path.{_≡_, refl, ap, _∙_}
+use mathlib.Core.Path.{_≡_, refl}
 use Prim.Native.Nat.{ℕ}
 use mathlib.Core.Option.{Option, none, some}
 use mathlib.Core.List.{List, [], _∷_}
-use lib.Dec.{eqb, eqb→eq}
-use lib.ListN.{length, length-set}
+use lib.Dec.{eqb}
+use lib.ListN.{length-set}
 use Rattle.model.specs.Lists.{Each}
 use Rattle.model.specs.Outcome.{Outcome, ok, refuse}
-use Rattle.laws.specs.Accepted.{All, accepted, refused, bind, bind-any, and-then, branch, checked}
-use Rattle.model.specs.State.{State, Sizes, Handle, Capa, noCapa, region, regionRevoke, management, channel, Kind, Root, Alias, Carve, Access, Update}
+use Rattle.laws.specs.Accepted.{All, accepted, refused, bind, bind-any, and-then, branch}
+use Rattle.model.specs.State.{State, Handle, Capa, noCapa, region, regionRevoke, management, channel, Kind, Root, Alias, Carve, Access, Update}
 use Rattle.model.specs.Pool.{free, isLive}
 use Rattle.model.specs.Updates.{pop}
 use Rattle.model.specs.Tree.{insertChild}
-use Rattle.model.specs.Calls.{roomForRegion, newDomain, openDomain, openChannel, setCores, createRootRegion, addChild, aliasRegion, exchangeRights, carveRegion, sendCapa, send, revokeUnlessRoot, revokeCapa, revoke, createRevokeCapa}
-use Rattle.model.specs.Perform.{Step, Call, Reply, makeAnew, performStep, perform, after, step, run}
-use Rattle.model.specs.Making.{makeTables}
+use Rattle.model.specs.Calls.{roomForRegion, newDomain, openDomain, openChannel, setCoreMap, createRootRegion, addChild, aliasRegion, exchangeRights, carveRegion, sendCapa, send, revokeUnlessRoot, revokeCapa, revoke, createRevokeCapa}
+use Rattle.model.specs.Perform.{Step, Call, Value, performStep, perform, after, step, run}
 use Rattle.model.specs.Memory.{NotMake}
-use Rattle.model.specs.Layout.{lengthFor}
 use Rattle.laws.specs.Kept.{Kept, allocate-same, same, trans, Kept₁, put-domain, put-region, capacity-kept, insert-kept, remove-kept, empty-kept, activate-kept, deactivate-kept, and-so, and-so₁, new-region-kept, send-region-kept, revoke-region-kept}
 
 room-kept : (d : ℕ) (a : Access) (s : State) → All (Kept s) (roomForRegion d a s)
@@ -40,9 +38,9 @@ channel-kept : (h to : Handle) (s : State) → All (Kept₁ s) (openChannel h to
 unfolding openChannel
 channel-kept h to s = bind-any _ (λ d. bind-any _ (λ t. bind (capacity-kept d s) (λ s₁ k. and-so₁ k (insert-kept d _ s₁))))
 
-cores-kept : (h : Handle) (c : ℕ) (s : State) → All (Kept s) (setCores h c s)
-unfolding setCores
-cores-kept h c s = bind-any _ (λ d. accepted (put-domain d _ s))
+set-core-map-kept : (h : Handle) (c : ℕ) (s : State) → All (Kept s) (setCoreMap h c s)
+unfolding setCoreMap
+set-core-map-kept h c s = bind-any _ (λ d. accepted (put-domain d _ s))
 
 root-kept : (h : Handle) (a : Access) (s : State) → All (Kept₁ s) (createRootRegion h a s)
 unfolding createRootRegion
@@ -115,9 +113,9 @@ revoke-kept : (h : Handle) (l : ℕ) (s : State) → All (Kept s) (revoke h l s)
 unfolding revoke
 revoke-kept h l s = bind-any _ (λ d. bind-any _ (λ c. bind (revoke-capa-kept c s) (λ s₁ k. accepted (trans s s₁ _ (empty-kept d l s₁) k))))
 
-make-revoke-kept : (h : Handle) (l : ℕ) (s : State) → All (Kept₁ s) (createRevokeCapa h l s)
+create-revoke-capa-kept : (h : Handle) (l : ℕ) (s : State) → All (Kept₁ s) (createRevokeCapa h l s)
 unfolding createRevokeCapa
-make-revoke-kept h l s = bind-any _ (λ d. bind-any _ (λ i. and-then _ (bind (capacity-kept d s) (λ s₁ k. and-so₁ k (insert-kept d _ s₁)))))
+create-revoke-capa-kept h l s = bind-any _ (λ d. bind-any _ (λ i. and-then _ (bind (capacity-kept d s) (λ s₁ k. and-so₁ k (insert-kept d _ s₁)))))
 
 pop-kept : (s : State) (us : List Update) → s .queue .items ≡ us → Kept s (pop s .1)
 unfolding pop
@@ -128,13 +126,13 @@ perform-step-kept : (s : State) (c : Step) → All (Kept₁ s) (performStep s c)
 unfolding performStep
 perform-step-kept s (Step.Open m c) = bind (open-kept m c s) (λ x k. accepted k)
 perform-step-kept s (Step.Channel h to) = bind (channel-kept h to s) (λ x k. accepted k)
-perform-step-kept s (Step.SetCores h c) = bind (cores-kept h c s) (λ x k. accepted k)
+perform-step-kept s (Step.SetCoreMap h c) = bind (set-core-map-kept h c s) (λ x k. accepted k)
 perform-step-kept s (Step.Root h a) = bind (root-kept h a s) (λ x k. accepted k)
 perform-step-kept s (Step.Alias h l a) = bind (alias-kept h l a s) (λ x k. accepted k)
 perform-step-kept s (Step.Carve h l a) = bind (carve-kept h l a s) (λ x k. accepted k)
 perform-step-kept s (Step.Send h l t) = bind (send-kept h l t s) (λ x k. accepted k)
 perform-step-kept s (Step.Revoke h l) = bind (revoke-kept h l s) (λ x k. accepted k)
-perform-step-kept s (Step.MakeRevoke h l) = bind (make-revoke-kept h l s) (λ x k. accepted k)
+perform-step-kept s (Step.CreateRevokeCapa h l) = bind (create-revoke-capa-kept h l s) (λ x k. accepted k)
 
 -- No call but making changes the sizes or the length of a table.
 pub perform-kept : (s : State) (c : Call) → NotMake c → All (Kept₁ s) (perform s c)
@@ -144,7 +142,7 @@ perform-kept s (Call.Do c) n = perform-step-kept s c
 perform-kept s Call.Pop n = bind {P = Kept₁ s} (accepted (pop-kept s _ refl)) (λ x k. accepted k)
 perform-kept s (Call.Read r) n = bind-any _ (λ x. accepted (same s))
 
-after-kept : (s : State) (m : Outcome (Reply × State)) → All (Kept₁ s) m → Kept s (after s m .1)
+after-kept : (s : State) (m : Outcome (Value × State)) → All (Kept₁ s) m → Kept s (after s m .1)
 after-kept s (ok x) (accepted h) = h
 after-kept s (refuse r) refused = same s
 
@@ -156,17 +154,3 @@ pub run-kept : (s : State) (cs : List Call) → Each NotMake cs → Kept s (run 
 unfolding run
 run-kept s [] n = same s
 run-kept s (c ∷ cs) n = trans s (step s c .1) _ (run-kept (step s c .1) cs (n .1)) (step-kept s c (n .0))
-
--- ---- the length of the tables, which making keeps too
-
--- as many words
-abbrev pub SameLength : State → State → Type 0
-SameLength s t = lengthFor (t .sizes) ≡ lengthFor (s .sizes)
-
-made-sizes : (z : Sizes) → All (λ (t : State). t .sizes ≡ z) (makeTables z)
-unfolding makeTables
-made-sizes z = and-then _ (accepted refl)
-
-anew-length : (z : Sizes) (s : State) → All (SameLength s) (makeAnew z s)
-unfolding makeAnew
-anew-length z s = bind (made-sizes z) (λ t e. checked (eqb (lengthFor z) (lengthFor (s .sizes))) _ (λ k. accepted (ap lengthFor e ∙ eqb→eq _ _ k)))

@@ -1,7 +1,8 @@
 -- Theorems about the definitions of crate model.
 pub mod Accepted
 pub mod Answers
-pub mod Cases
+pub mod Within
+pub mod Lists
 pub mod Parts
 pub mod Stack
 pub mod Fields
@@ -11,13 +12,13 @@ pub mod Kept
 pub mod KeptCalls
 pub mod Keep
 pub mod CallRefusals
+pub mod Codes
 pub mod Capas
 pub mod SoundKept
 pub mod Empty
-pub mod PopSound
 pub mod CountsLaw
-pub mod SoundTest
 pub mod Test
 pub mod RingFull
 pub mod Words
 pub mod AfterUnique
+pub mod FilledUnique

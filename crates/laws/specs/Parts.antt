@@ -5,8 +5,8 @@ use mathlib.Core.List.{List, [], _∷_, _++_, map, flatMap, append-assoc, append
 use native.Mathlib.Omega.{arith}
 use native.Mathlib.Nat.{zero-mul, suc-mul}
 use lib.ListN.{length, length-append}
+use Rattle.base.specs.Cases.{lt, ge, cmp}
 use Rattle.model.specs.Lists.{countUp}
-use Rattle.laws.specs.Cases.{lt, ge, cmp}
 
 -- all the parts, one after the other; used only in proofs
 abbrev pub join : List (List ℕ) → List ℕ

@@ -4,24 +4,24 @@ use mathlib.Core.List.{List, [], _∷_}
 use Rattle.model.specs.Lists.{Each}
 use Rattle.model.specs.State.{State}
 use Rattle.model.specs.Outcome.{Outcome, ok, refuse}
-use Rattle.model.specs.Perform.{Call, Reply, Answer, perform, after, step, run}
+use Rattle.model.specs.Perform.{Call, Value, Answer, perform, after, step, run}
 use Rattle.model.specs.CallWords.{CallWords}
 use Rattle.model.specs.Sound.{Sound}
 use Rattle.laws.specs.Accepted.{All, accepted, refused, weaken}
 use Rattle.laws.specs.Capas.Held.{OthersSound}
 use Rattle.laws.specs.Capas.Perform.{perform-sound}
-use Rattle.laws.specs.Keep.Coupled.{coupled-tracker}
-use Rattle.laws.specs.Keep.Performed.{perform-keeps}
+use Rattle.laws.specs.Keep.Agreement.{counts-agree-tracker}
+use Rattle.laws.specs.Keep.Perform.{perform-keeps}
 
 -- The capability clauses are kept by themselves (`Capas`); the others are part of what `Keep` shows.
 pub sound-kept : (s : State) (c : Call) → Sound s → CallWords c → All (λ x. Sound (x .1)) (perform s c)
-sound-kept s c h w = perform-sound s c h w (weaken (perform-keeps s h c w) (λ (a, t) (good, base). record {
-  regions = good .regions;
-  tracked = record { recordPool = good .tracked .pool; trackers = coupled-tracker t (good .tracked) };
+sound-kept s c h w = perform-sound s c h w (weaken (perform-keeps s h c w) (λ (a, t) (agree, base). record {
+  regions = agree .regions;
+  tracked = record { recordPool = agree .tracked .pool; trackers = counts-agree-tracker t (agree .tracked) };
 }))
 
 -- a refused call leaves the state
-after-sound : (s : State) (m : Outcome (Reply × State)) → Sound s → All (λ x. Sound (x .1)) m → Sound (after s m .1)
+after-sound : (s : State) (m : Outcome (Value × State)) → Sound s → All (λ x. Sound (x .1)) m → Sound (after s m .1)
 after-sound s (ok x) h (accepted k) = k
 after-sound s (refuse r) h k = h
 

@@ -13,7 +13,7 @@ pub mod FromRoot
 pub mod Stored
 pub mod Change
 pub mod Added
-pub mod Spare
+pub mod CountsInclude
 pub mod Rule
 pub mod Tallies
 pub mod Shape

@@ -2,11 +2,11 @@
 use mathlib.Core.Path.{_≡_, refl}
 use mathlib.Core.List.{[], _∷_}
 use Rattle.model.specs.State.{State}
-use Rattle.model.specs.Making.{emptyTables}
+use Rattle.model.specs.Making.{emptyTables, scriptSizes}
 use Rattle.model.specs.Perform.{run}
 use Rattle.model.specs.Checked.Compute.{computing}
-use Rattle.model.specs.Checked.Script.{scriptSizes, example}
-use Rattle.listing.specs.Lines.{domainLines, p, queueLines}
+use Rattle.model.specs.Checked.Script.{example}
+use Rattle.listing.specs.Lines.{domainLines}
 
 abbrev after : State
 after = run (emptyTables scriptSizes) example .1
@@ -14,7 +14,3 @@ after = run (emptyTables scriptSizes) example .1
 example-domains : domainLines after ≡ (0 ∷ 0 ∷ 4 ∷ 3 ∷ 2 ∷ []) ∷ (0 ∷ 8 ∷ 16 ∷ 3 ∷ 1 ∷ []) ∷ (1 ∷ 4 ∷ 8 ∷ 1 ∷ 1 ∷ []) ∷ []
 unfolding computing domainLines
 example-domains = refl
-
-example-queue : queueLines after ≡ p 0 0 ∷ p 1 0 ∷ []
-unfolding computing queueLines
-example-queue = refl

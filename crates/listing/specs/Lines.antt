@@ -2,10 +2,8 @@
 use Prim.Native.Nat.{ℕ, suc}
 use mathlib.Core.Option.{Option, none, some}
 use mathlib.Core.List.{List, [], _∷_, _++_, map}
-use Rattle.model.specs.State.{State, Domain, Record, Update, permission, cleanup}
+use Rattle.model.specs.State.{State, Domain, Record}
 use Rattle.model.specs.Readings.{rightsOf}
-
--- ---- domains
 
 -- "d: domain, start, end, rights, reach": the numbers of a record's line.
 abbrev pub recordLine : ℕ → Record → List ℕ
@@ -28,18 +26,3 @@ linesFrom d (o ∷ l) = slotLines d o ++ linesFrom (suc d) l
 
 unfoldable pub domainLines : State → List (List ℕ)
 domainLines s = linesFrom 0 (s .domains)
-
--- ---- the queue
-
--- "p domain, cores; c start, end": a letter and two numbers.
-pub data QueueLine : Type 0 where
-  p : ℕ → ℕ → QueueLine
-  c : ℕ → ℕ → QueueLine
-
-abbrev pub queueLine : Update → QueueLine
-queueLine (permission h cores) = p (h .slot) cores
-queueLine (cleanup start end) = c start end
-
--- "Then the queue, oldest first".
-unfoldable pub queueLines : State → List QueueLine
-queueLines s = map queueLine (s .queue .items)

@@ -5,7 +5,7 @@ use mathlib.Core.Option.{Option, none}
 use mathlib.Core.List.{List, [], _++_}
 use lib.ListN.{length, drop, drop-of-length-le}
 use lib.Seq.{drop-cons}
-use Rattle.model.specs.Lists.{slotOf}
+use Rattle.model.specs.Lists.{atSlot}
 use Rattle.model.specs.State.{State, Domain}
 use Rattle.listing.specs.Lines.{slotLines, linesFrom, domainLines}
 
@@ -14,7 +14,7 @@ unfolding domainLines
 lines-first s = refl
 
 module _ (l : List (Option Domain)) (d : ℕ) where
-  pub lines-next : d < length l → linesFrom d (drop d l) ≡ slotLines d (slotOf l d) ++ linesFrom (suc d) (drop (suc d) l)
+  pub lines-next : d < length l → linesFrom d (drop d l) ≡ slotLines d (atSlot l d) ++ linesFrom (suc d) (drop (suc d) l)
   lines-next h = rw (drop-cons l d none h)
 
   pub lines-last : length l ≤ d → linesFrom d (drop d l) ≡ []

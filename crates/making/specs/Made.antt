@@ -1,5 +1,5 @@
 -- Cleared words with the sizes in their header are blank, and blank words with three new pools are the empty tables.
-use mathlib.Core.Path.{_≡_, refl, sym, ap, _∙_}
+use mathlib.Core.Path.{_≡_, sym, ap, _∙_}
 use mathlib.Core.List.{List, [], _∷_, _++_, map}
 use Prim.Native.Nat.{ℕ, _+_, _*_, _<_}
 use native.Mathlib.Omega.{arith}
@@ -13,7 +13,7 @@ use Rattle.tables.specs.Tables.{Tables, withDomainPool, withRegionPool, withRec
 use Rattle.sizes.specs.Limits.{Limits}
 use Rattle.sizes.specs.Sizes.{sizesOf, widths, stride, total, headerWidth, headWidth, slotWidth, regionWidth, recordWidth, updateWidth}
 use Rattle.tables.specs.View.{view, ofParts, Left, layout, domainOf, slotOf, regionOf, recordOf, updateOf}
-use Rattle.tables.specs.Header.{read-is, write-is}
+use Rattle.tables.specs.Header.{read-is, write-is, sizes-seen}
 use Rattle.tables.specs.Layout.{words-are}
 use Rattle.arena.specs.Arena.{newArena}
 use Rattle.making.specs.Empty.{empty, emptyDomain, Blank}
@@ -84,10 +84,6 @@ module _ (z : Sizes) (l : Limits z) (m : List ℕ) (t : List ℕ) (cleared : m �
       }
 
 -- ---- three new pools
-
-sizes-seen : (t : List ℕ) → view t .sizes ≡ sizesOf t
-unfolding view ofParts
-sizes-seen t = refl
 
 pub made : (z : Sizes) (t₁ t₂ t₃ t₄ : List ℕ) → Blank z t₁
     → Left t₂ (withDomainPool (view t₁) (newArena (sizesOf t₁ .domains)))

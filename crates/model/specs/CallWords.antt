@@ -1,4 +1,5 @@
--- What a program can name in a call: 64-bit numbers, and rights of 8 bits (document 01, "The call, from the entry down").
+-- What a program can name in a call: 64-bit numbers, and rights of 8 bits (document 01, "The call, from the entry down"). No definition asks this;
+-- theorems about lists of calls do, and the exported functions' arguments have it by their types.
 use Prim.Native.Nat.{_<_}
 use mathlib.Core.Option.{none, some}
 use Rattle.model.specs.State.{Word, Sizes, Handle, Access}
@@ -6,7 +7,7 @@ use Rattle.model.specs.Perform.{Step, Reading, Call}
 
 -- a handle, a range with rights, sizes
 abbrev pub HandleWords : Handle → Type 0
-HandleWords h = Word (h .slot) × Word (h .gen)
+HandleWords h = Word (h .slot) × Word (h .generation)
 
 abbrev pub AccessWords : Access → Type 0
 AccessWords a = Word (a .start) × Word (a .end) × a .rights < 256
@@ -19,13 +20,13 @@ abbrev pub StepWords : Step → Type 0
 StepWords (Step.Open none cores) = Word cores
 StepWords (Step.Open (some m) cores) = HandleWords m × Word cores
 StepWords (Step.Channel h to) = HandleWords h × HandleWords to
-StepWords (Step.SetCores h cores) = HandleWords h × Word cores
+StepWords (Step.SetCoreMap h cores) = HandleWords h × Word cores
 StepWords (Step.Root h a) = HandleWords h × AccessWords a
 StepWords (Step.Alias h l a) = HandleWords h × Word l × AccessWords a
 StepWords (Step.Carve h l a) = HandleWords h × Word l × AccessWords a
 StepWords (Step.Send h l target) = HandleWords h × Word l × Word target
 StepWords (Step.Revoke h l) = HandleWords h × Word l
-StepWords (Step.MakeRevoke h l) = HandleWords h × Word l
+StepWords (Step.CreateRevokeCapa h l) = HandleWords h × Word l
 
 abbrev pub ReadingWords : Reading → Type 0
 ReadingWords (Reading.Permissions h) = HandleWords h

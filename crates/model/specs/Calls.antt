@@ -6,16 +6,18 @@ use mathlib.Core.List.{[]}
 use lib.Dec.{eqb, ltb}
 use lib.ListN.{set}
 use Rattle.model.specs.Lists.{if_then_else_, isEmpty}
-use Rattle.model.specs.Outcome.{Outcome, ok, refuse, _>>=_, _>>_, require, noDomain, wrongKind, stale, badRange, beyond, isRoot, notCarried, noRegion, noDomainRoom}
+use Rattle.model.specs.Outcome.{Outcome, ok, refuse, _>>=_, _>>_, require}
+use Rattle.refusals.specs.Refusals.{noDomain, wrongKind, stale, badRange, beyond, isRoot, notCarried, noRegion, noDomainRoom}
 use Rattle.model.specs.State.{Handle, Capa, noCapa, region, regionRevoke, management, channel, Access, Kind, Root, Alias, Carve, State, withDomains, withCores, domainAt, regionAt, putDomain}
 use Rattle.model.specs.Pool.{allocate, handleOf, isLive}
 use Rattle.model.specs.Locals.{freshLocals, hasCapacity, capaAt, insertCapa, removeCapa, emptyCapa}
 use Rattle.model.specs.Tree.{isRootKind, checkAlias, checkCarve, insertChild}
-use Rattle.model.specs.Regions.{activate, deactivate, newRegion, sendRegion, revokeRegion, liveRegions}
+use Rattle.model.specs.Regions.{activate, deactivate, newRegion, sendRegion, revokeRegion, liveCount}
 
 -- ---- checks that several calls share
 
--- 3: "slot number too large, generation not the slot's, or slot free". The answer is the domain's slot.
+-- 3: "slot number too large, generation not the slot's, or slot free". The answer is the domain's slot. No call frees a domain: its handle stays live until
+-- tables are made anew.
 unfoldable pub liveDomain : State → Handle → Outcome ℕ
 liveDomain s h = do
   require (isLive (s .domainPool) (s .domains) h) noDomain  -- 3
@@ -87,8 +89,8 @@ openChannel h to s = do
   insertCapa d (channel to) s₁
 
 -- "set a core map"
-unfoldable pub setCores : Handle → ℕ → State → Outcome State
-setCores h cores s = do
+unfoldable pub setCoreMap : Handle → ℕ → State → Outcome State
+setCoreMap h cores s = do
   d ← liveDomain s h  -- 3
   ok (putDomain d (withCores cores (domainAt s d)) s)
 
@@ -104,7 +106,7 @@ createRootRegion h a s = do
   s₄ ← activate d a s₃  -- 13, 14, 16
   ok (l, s₄)
 
--- A child of region p, in p's child list and in a slot of domain d's list.
+-- A child of region p, in p's child list and in a slot of domain d's list. It is in the region table before `insertChild` reads its start there.
 unfoldable pub addChild : ℕ → ℕ → Kind → Access → State → Outcome (ℕ × State)
 addChild d p k a s = do
   (i, s₁) ← newRegion d k a s
@@ -166,7 +168,7 @@ send h l target s = do
 unfoldable pub revokeUnlessRoot : ℕ → State → Outcome State
 revokeUnlessRoot i s = do
   require (not (isRootKind (regionAt s i .kind))) isRoot  -- 9
-  revokeRegion (liveRegions s) i s  -- 13, 14, 16
+  revokeRegion (liveCount s) i s  -- 13, 14, 16
 
 -- 10, 6, 9; "a RegionRevoke of a dead region succeeds", and "For a channel, a None or a dead RegionRevoke that is all."
 unfoldable pub revokeCapa : Capa → State → Outcome State

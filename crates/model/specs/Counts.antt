@@ -5,15 +5,15 @@ use mathlib.Core.Bool.{Bool, false, not, _&&_}
 use mathlib.Core.Option.{Option, none, some}
 use mathlib.Core.List.{List, [], _∷_}
 use lib.Dec.{eqb, ltb, leb}
-use Rattle.model.specs.Lists.{if_then_else_, oneIf, any}
+use Rattle.model.specs.Lists.{if_then_else_, oneIf, exists}
 use Rattle.model.specs.State.{State, Region, Root, Alias, Carve, Counts, Record, domainAt}
 use Rattle.model.specs.Fields.{Field, get, passes, each}
 
 -- ---- what is stored
 
--- Does the range from s up to, but not including, e hold address a?
+-- Does the range up to, but not including, `to` hold address a?
 abbrev pub holds : ℕ → ℕ → ℕ → Bool
-holds s e a = leb s a && ltb a e
+holds from to a = leb from a && ltb a to
 
 abbrev pub noCounts : Counts
 noCounts = each (λ f. 0) 0
@@ -34,15 +34,17 @@ abbrev pub carves : ℕ → ℕ → Option Region → Bool
 carves i a none = false
 carves i a (some g) = elim (g .kind) [ Root ↦ false | Alias p ↦ false | Carve p ↦ eqb p i && holds (g .start) (g .end) a ]
 
--- Region g in slot i counts for domain d at address a: it is d's, covers a, and is not carved there.
-abbrev pub countsFor : List (Option Region) → ℕ → ℕ → ℕ → Region → Bool
-countsFor rs d a i g = eqb (g .owner) d && holds (g .start) (g .end) a && not (any (carves i a) rs)
+-- Among the regions rs, for domain d at address a:
+module _ (rs : List (Option Region)) (d a : ℕ) where
+  -- Region g in slot i counts: it is d's, covers a, and is not carved there.
+  abbrev pub countsFor : ℕ → Region → Bool
+  countsFor i g = eqb (g .owner) d && holds (g .start) (g .end) a && not (exists (carves i a) rs)
 
--- how many regions of l count there and pass a test of their rights; i is the slot of the first one
-abbrev pub tally : List (Option Region) → ℕ → ℕ → (ℕ → Bool) → ℕ → List (Option Region) → ℕ
-tally rs d a t i [] = 0
-tally rs d a t i (none ∷ l) = tally rs d a t (suc i) l
-tally rs d a t i (some g ∷ l) = oneIf (countsFor rs d a i g && t (g .rights)) + tally rs d a t (suc i) l
+  -- how many regions count and pass a test of their rights; l is rs from slot i on
+  abbrev pub tally : (ℕ → Bool) → ℕ → List (Option Region) → ℕ
+  tally t i [] = 0
+  tally t i (none ∷ l) = tally t (suc i) l
+  tally t i (some g ∷ l) = oneIf (countsFor i g && t (g .rights)) + tally t (suc i) l
 
 -- the number of live regions that count for domain d at address a; for a right, of those that have it
 abbrev pub regionCount : Field → List (Option Region) → ℕ → ℕ → ℕ

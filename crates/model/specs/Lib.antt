@@ -1,18 +1,24 @@
--- The trusted text, in the order to read it; what stands below `Checked` is proved of it.
+-- The trusted text, in the order to read it, after Rights.antt of crate rights and Refusals.antt of crate refusals; what stands below `Checked` is proved of it.
 --
--- How to read it. In comments "…" quotes document 01, `…` names the Rust, **…** names a paragraph of document 01, and a number such as 12 is a refusal.
+-- How to read it. In comments "…" quotes document 01, `…` names the Rust or a definition, **…** names a paragraph of document 01, and a number such as 12
+-- is a refusal (crate `refusals` has their names).
 --   f : A → B → C             f takes an A and a B and gives a C; below it stand its equations, by the forms of its arguments
+--   (x : A) → P x             for every x. Arguments in braces, as {A : Type 0}, are left out where f is used
+--   module _ (x : A) where    each definition below takes x first, and leaves it out where it uses another one of them
 --   record R where a : A      a value with named parts; x .a is that part, also behind a call: f x .a is the part a of f x
---   data D where c : A → D    a D is one of the forms listed
---   (x, y) and A × B          a pair, and the type of pairs; p .0 and p .1 are its halves. Between two facts × is "and"
---   λ x. e                    the function of x that gives e
+--   data D where c : A → D    a D is one of the forms listed; where D says a fact, it holds by one of the rules listed
+--   (x, y) and A × B          a pair, and the type of pairs; p .0 and p .1 are its halves. Between two facts × is "and"; (x : A) × P x: there is an x
+--   λ x. e, λ (x, y). e       the function of x that gives e; the function of a pair
 --   elim x [ c a ↦ e | .. ]   by the form of x
 --   do x ← m; ..              m may refuse, which ends the call; else x is its answer. m >>= λ x. e is the same
 --   Option A, none, some a    a value that may be missing;  List A, [], x ∷ l, l ++ m  lists
+--   zero, suc n               0 and n + 1
 --   x ≡ y, ¬ P, ⊥, T b        equality; not; what nothing proves; the test b holds. Unit {0} and tt say nothing, as an empty list of facts
---   eqb, ltb, leb             the tests =, <, ≤
--- `abbrev`, `unfoldable`, `pub`, {ℓ}, Type 0 and `use` lines matter to the checker alone.
--- At their edges: getD l i d is d past the end of l; set l i x is l past its end; m - n is 0 where n is more than m.
+--   eqb, ltb, leb, &&, ||     the tests =, <, ≤; and, or of tests
+-- `abbrev`, `unfoldable`, `pub`, `infix`, {ℓ}, Type 0, « », a type's name before a form's (`Step.Open`) and `use` lines matter to the checker alone.
+-- At their edges: getD l i d is d past the end of l, and getElem? l i is none; set l i x is l past its end; Option·getD o d is d where o is none; m - n is 0
+-- where n is more than m. `+` and `-` are done from left to right. Records have no update: a function that changes one part says the others again, each
+-- from the old value.
 pub mod Lists
 pub mod Outcome
 pub mod State

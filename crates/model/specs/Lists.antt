@@ -29,9 +29,9 @@ isEmpty [] = true
 isEmpty (x ∷ l) = false
 
 -- Does one pass the test?
-abbrev pub any {ℓ} : {A : Type ℓ} → (A → Bool) → List A → Bool
-any p [] = false
-any p (x ∷ l) = p x || any p l
+abbrev pub exists {ℓ} : {A : Type ℓ} → (A → Bool) → List A → Bool
+exists p [] = false
+exists p (x ∷ l) = p x || exists p l
 
 -- Do all pass the test?
 abbrev pub every {ℓ} : {A : Type ℓ} → (A → Bool) → List A → Bool
@@ -39,9 +39,14 @@ every p [] = true
 every p (x ∷ l) = p x && every p l
 
 -- how many pass the test
-abbrev pub count {ℓ} : {A : Type ℓ} → (A → Bool) → List A → ℕ
-count p [] = 0
-count p (x ∷ l) = oneIf (p x) + count p l
+abbrev pub countIf {ℓ} : {A : Type ℓ} → (A → Bool) → List A → ℕ
+countIf p [] = 0
+countIf p (x ∷ l) = oneIf (p x) + countIf p l
+
+-- those that pass the test, in their order
+abbrev pub keep {ℓ} : {A : Type ℓ} → (A → Bool) → List A → List A
+keep p [] = []
+keep p (x ∷ l) = if p x then x ∷ keep p l else keep p l
 
 -- Every element has the property.
 abbrev pub Each : {A : Type 0} → (A → Type 0) → List A → Type 0
@@ -50,18 +55,13 @@ Each P (x ∷ l) = P x × Each P l
 
 -- ---- values that may be missing
 
--- a value with a fallback
-abbrev pub orElse {ℓ} : {A : Type ℓ} → Option A → A → A
-orElse none d = d
-orElse (some a) d = a
-
 -- What a table holds in slot i: `none` where the slot is free or its number too large.
-abbrev pub slotOf {ℓ} : {A : Type ℓ} → List (Option A) → ℕ → Option A
-slotOf l i = getD l i none
+abbrev pub atSlot {ℓ} : {A : Type ℓ} → List (Option A) → ℕ → Option A
+atSlot l i = getD l i none
 
 -- Slot i of a table is in use, and holds x.
 abbrev pub In : {A : Type 0} → List (Option A) → ℕ → A → Type 0
-In l i x = slotOf l i ≡ some x
+In l i x = atSlot l i ≡ some x
 
 -- ---- lists of slot numbers
 

@@ -4,8 +4,9 @@ use mathlib.Core.Bool.{Bool, true, not}
 use mathlib.Core.Option.{Option, none, some}
 use mathlib.Core.List.{List, [], _∷_}
 use lib.ListN.{set, replicate}
-use Rattle.model.specs.Lists.{if_then_else_, countUp, isEmpty, slotOf}
-use Rattle.model.specs.Outcome.{Outcome, ok, refuse, _>>=_, _>>_, require, okOr, noSlot, noLocal}
+use Rattle.model.specs.Lists.{if_then_else_, countUp, isEmpty, atSlot}
+use Rattle.model.specs.Outcome.{Outcome, ok, refuse, _>>=_, _>>_, require, okOr}
+use Rattle.refusals.specs.Refusals.{noSlot, noLocal}
 use Rattle.model.specs.State.{State, LocalList, Capa, noCapa, region, regionRevoke, management, channel, domainAt, putDomain, withLocals}
 use Rattle.model.specs.Pool.{isLive}
 
@@ -44,7 +45,8 @@ freeLocals (i ∷ is) l = freeLocals is (freeLocal i l)
 unfoldable pub freeInvalidCapas : State → LocalList → LocalList
 freeInvalidCapas s l = freeLocals (invalidSlots s 0 (l .held)) l
 
--- "When a list is full" it is swept; 12 where it is full still (`has_capacity_for`).
+-- Not a test alone: "When a list is full" it is swept; 12 where it is full still (`has_capacity_for`). Where the call is refused later, its old state
+-- stands, and the sweep is lost with the new one.
 unfoldable pub hasCapacity : ℕ → State → Outcome State
 hasCapacity d s = do
   let old = domainAt s d .locals
@@ -54,7 +56,7 @@ hasCapacity d s = do
 
 -- What local slot l of domain d holds; 4 where it is free or the number too large.
 unfoldable pub capaAt : State → ℕ → ℕ → Outcome Capa
-capaAt s d l = okOr (slotOf (domainAt s d .locals .held) l) noSlot
+capaAt s d l = okOr (atSlot (domainAt s d .locals .held) l) noSlot
 
 -- The domain's list is "read out, changed and put back as one record".
 unfoldable pub insertCapa : ℕ → Capa → State → Outcome (ℕ × State)

@@ -5,7 +5,8 @@ use mathlib.Core.Option.{none}
 use mathlib.Core.List.{[]}
 use lib.Dec.{leb}
 use lib.ListN.{replicate}
-use Rattle.model.specs.Outcome.{Outcome, ok, _>>_, require, sizes}
+use Rattle.model.specs.Outcome.{Outcome, ok, _>>_, require}
+use Rattle.refusals.specs.Refusals.{sizes}
 use Rattle.model.specs.State.{Sizes, State}
 use Rattle.model.specs.Pool.{freshPool}
 
@@ -17,6 +18,10 @@ upTo most n = leb 1 n && leb n most
 abbrev pub goodSizes : Sizes → Bool
 goodSizes z = upTo 32 (z .domains) && upTo 128 (z .slots) && upTo 1024 (z .regions) && upTo 1024 (z .records) && upTo 128 (z .updates)
 
+-- The script program's: "Tables: 8 domains, 16 slots, 128 regions, 128 records, 32 updates."
+abbrev pub scriptSizes : Sizes
+scriptSizes = record { domains = 8; slots = 16; regions = 128; records = 128; updates = 32 }
+
 -- Empty tables: every slot free, nothing queued.
 abbrev pub emptyTables : Sizes → State
 emptyTables z =
@@ -27,7 +32,7 @@ emptyTables z =
       recordPool = freshPool (z .records);
       domains = replicate (z .domains) none;
       regions = replicate (z .regions) none;
-      queue = record { first = 0; items = [] };
+      queue = record { readPlace = 0; items = [] };
     }
 
 -- 2 where a size is outside its limits

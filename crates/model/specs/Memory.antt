@@ -5,12 +5,13 @@ use mathlib.Core.Bool.{not}
 use mathlib.Core.List.{List}
 use lib.Dec.{T}
 use lib.ListN.{length, replicate}
-use Rattle.model.specs.Outcome.{Refusal, memory, sizes}
+use Rattle.refusals.specs.declared.Refusal.{Refusal}
+use Rattle.refusals.specs.Refusals.{memory, sizes}
 use Rattle.model.specs.State.{Sizes, Handle, Access, State}
 use Rattle.model.specs.Making.{goodSizes, emptyTables}
 use Rattle.model.specs.Readings.{IsHolders, fillRun}
 use Rattle.model.specs.Layout.{words, lengthFor}
-use Rattle.model.specs.Perform.{Reading, Call, Reply, Answer, step}
+use Rattle.model.specs.Perform.{Reading, Call, Value, Answer, step}
 use Rattle.model.specs.Sound.{Sound}
 
 -- The tables t are the words of the sound state s, and "The work area has the tables' length."
@@ -35,7 +36,7 @@ NotMake (Call.Do c) = Unit {0}
 NotMake Call.Pop = Unit {0}
 NotMake (Call.Read r) = Unit {0}
 
--- The calls that the definitions settle: not making, of which the first three cases speak, and not the holders, whose order is left open.
+-- The calls that `step` settles: not making, which has rules of its own below, and not the holders, whose order is left open.
 abbrev pub Settled : Call → Type 0
 Settled (Call.Make z) = ⊥
 Settled (Call.Do c) = Unit {0}
@@ -45,28 +46,29 @@ Settled (Call.Read (Reading.Refcount h from to)) = Unit {0}
 Settled (Call.Read (Reading.CoreMap h)) = Unit {0}
 Settled (Call.Read (Reading.Holders a)) = ⊥
 
--- `After t w c a t′ w′`: the call c on tables t and work area w is answered a, and leaves t′ and w′.
+-- `After t w c a t′ w′`: the call c on tables t and work area w is answered a, and leaves t′ and w′. But for the holders' order there is one answer, one t′
+-- and one w′ (`after-unique`, crate laws).
 pub data After (t w : List ℕ) : Call → Answer → List ℕ → List ℕ → Type 0 where
-  -- making: "2 Sizes, one outside its limits (empty tables only, before 1 ..)"
+  -- making, on any memory: "2 Sizes, one outside its limits (empty tables only, before 1 ..)"
   badSizes : (z : Sizes) → T (not (goodSizes z)) → After t w (Call.Make z) (Answer.no sizes) t (zeroed w)
   -- ".. 1, which there tests lengths alone"
   badLengths : (z : Sizes) → T (goodSizes z) → ¬ Fit t w z → After t w (Call.Make z) (Answer.no memory) t (zeroed w)
-  made : (z : Sizes) → T (goodSizes z) → Fit t w z → After t w (Call.Make z) (Answer.yes Reply.done) (words (emptyTables z)) (zeroed w)
+  made : (z : Sizes) → T (goodSizes z) → Fit t w z → After t w (Call.Make z) (Answer.yes Value.done) (words (emptyTables z)) (zeroed w)
   -- any other call: "1 Memory, either length wrong or tables not sound"
   notSound : (c : Call) → NotMake c → ((s : State) → ¬ Lent t w s) → After t w c (Answer.no memory) t (zeroed w)
   -- on sound tables what the model says: on refusal the state, and so the tables, are as found
   performed : (c : Call) (s : State) → Settled c → Lent t w s → After t w c (step s c .0) (words (step s c .1)) (zeroed w)
   -- the holders' order is left open
-  held : (a : ℕ) (s : State) (l : List ℕ) → Lent t w s → IsHolders a s l → After t w (Call.Read (Reading.Holders a)) (Answer.yes (Reply.domainList l)) t (zeroed w)
+  held : (a : ℕ) (s : State) (l : List ℕ) → Lent t w s → IsHolders a s l → After t w (Call.Read (Reading.Holders a)) (Answer.yes (Value.domainList l)) t (zeroed w)
 
 -- A reading whose list l is written into a lent run (**Reading**): "the answer is the whole number of records"; refused, the run is as found.
-pub data Filled {A : Type 0} (t w : List ℕ) (c : Call) (reply : List A → Reply) (run : List A) : Answer → List ℕ → List ℕ → List A → Type 0 where
-  filled : (l : List A) (t′ w′ : List ℕ) → After t w c (Answer.yes (reply l)) t′ w′ → Filled t w c reply run (Answer.yes (Reply.number (length l))) t′ w′ (fillRun l run)
+pub data Filled {A : Type 0} (t w : List ℕ) (c : Call) (reply : List A → Value) (run : List A) : Answer → List ℕ → List ℕ → List A → Type 0 where
+  filled : (l : List A) (t′ w′ : List ℕ) → After t w c (Answer.yes (reply l)) t′ w′ → Filled t w c reply run (Answer.yes (Value.number (length l))) t′ w′ (fillRun l run)
   untouched : (r : Refusal) (t′ w′ : List ℕ) → After t w c (Answer.no r) t′ w′ → Filled t w c reply run (Answer.no r) t′ w′ run
 
 -- "The permission list is filled into a lent run of records"; "Holders fill a run of domain slots likewise".
 abbrev pub AfterPermissions : List ℕ → List ℕ → Handle → List Access → Answer → List ℕ → List ℕ → List Access → Type 0
-AfterPermissions t w h run = Filled t w (Call.Read (Reading.Permissions h)) Reply.permissionList run
+AfterPermissions t w h run = Filled t w (Call.Read (Reading.Permissions h)) Value.permissionList run
 
 abbrev pub AfterHolders : List ℕ → List ℕ → ℕ → List ℕ → Answer → List ℕ → List ℕ → List ℕ → Type 0
-AfterHolders t w a run = Filled t w (Call.Read (Reading.Holders a)) Reply.domainList run
+AfterHolders t w a run = Filled t w (Call.Read (Reading.Holders a)) Value.domainList run

@@ -1,31 +1,7 @@
--- Answers and refusals (document 01, "Memory and who can be refused").
-use Prim.Native.Nat.{ℕ}
+-- What a call comes to: a value, or a refusal (document 01, "Memory and who can be refused"; by name in crate `refusals`).
 use mathlib.Core.Bool.{Bool, true, false}
 use mathlib.Core.Option.{Option, none, some}
-
--- The refusals, by document 01's names. `isRoot` is its 9 Root.
-pub data Refusal : Type 0 where
-  memory sizes noDomain noSlot wrongKind stale badRange beyond isRoot notCarried noRegion noLocal noTracker ringFull noDomainRoom spent badRecord : Refusal
-
--- Document 01's number of each refusal.
-abbrev pub number : Refusal → ℕ
-number memory = 1
-number sizes = 2
-number noDomain = 3
-number noSlot = 4
-number wrongKind = 5
-number stale = 6
-number badRange = 7
-number beyond = 8
-number isRoot = 9
-number notCarried = 10
-number noRegion = 11
-number noLocal = 12
-number noTracker = 13
-number ringFull = 14
-number noDomainRoom = 15
-number spent = 16
-number badRecord = 17
+use Rattle.refusals.specs.declared.Refusal.{Refusal}
 
 -- "A refusal gives its number and nothing else": in particular no new state.
 pub data Outcome (A : Type 0) : Type 0 where

@@ -4,30 +4,32 @@ use mathlib.Core.Option.{Option}
 use mathlib.Core.List.{List, [], _∷_}
 use lib.Dec.{eqb}
 use lib.ListN.{length}
-use Rattle.model.specs.Outcome.{Outcome, ok, refuse, _>>=_, _>>_, require, Refusal, memory}
-use Rattle.model.specs.Outcome
+use Rattle.model.specs.Outcome.{Outcome, ok, refuse, _>>=_, _>>_, require}
+use Rattle.refusals.specs.declared.Refusal.{Refusal}
+use Rattle.refusals.specs.Refusals.{memory}
+use Rattle.refusals.specs.Refusals
 use Rattle.model.specs.State.{State, Sizes, Handle, Access, Update}
 use Rattle.model.specs.Updates.{pop}
 use Rattle.model.specs.Making.{makeTables}
-use Rattle.model.specs.Calls.{openDomain, openChannel, setCores, createRootRegion, aliasRegion, carveRegion, send, revoke, createRevokeCapa}
+use Rattle.model.specs.Calls.{openDomain, openChannel, setCoreMap, createRootRegion, aliasRegion, carveRegion, send, revoke, createRevokeCapa}
 use Rattle.model.specs.Readings.{permissions, getRefcount, holders, coreMap}
 use Rattle.model.specs.Layout.{updateWords, lengthFor}
 
 -- ---- calls and answers
 
--- The calls, with what the caller names. All numbers are plain; `CallWords` says which of them a program can give.
+-- The calls, with what the caller names. All numbers are plain; `CallWords` says which of them a program can give, and theorems about lists of calls ask it.
 
 -- A step changes the tables, or is refused.
 pub data Step : Type 0 where
   Open : Option Handle → ℕ → Step
   Channel : Handle → Handle → Step
-  SetCores : Handle → ℕ → Step
+  SetCoreMap : Handle → ℕ → Step
   Root : Handle → Access → Step
   Alias : Handle → ℕ → Access → Step
   Carve : Handle → ℕ → Access → Step
   Send : Handle → ℕ → ℕ → Step
   Revoke : Handle → ℕ → Step
-  MakeRevoke : Handle → ℕ → Step
+  CreateRevokeCapa : Handle → ℕ → Step
 
 -- A reading leaves the tables.
 pub data Reading : Type 0 where
@@ -44,29 +46,29 @@ pub data Call : Type 0 where
   Read : Reading → Call
 
 -- What an accepted call answers: nothing, the new domain, the local slot, the update popped, or what was read.
-pub data Reply : Type 0 where
-  done : Reply
-  domain : Handle → Reply
-  local : ℕ → Reply
-  popped : Option Update → Reply
-  permissionList : List Access → Reply
-  number : ℕ → Reply
-  domainList : List ℕ → Reply
+pub data Value : Type 0 where
+  done : Value
+  domain : Handle → Value
+  local : ℕ → Value
+  popped : Option Update → Value
+  permissionList : List Access → Value
+  number : ℕ → Value
+  domainList : List ℕ → Value
 
 -- What a caller sees of a call.
 pub data Answer : Type 0 where
-  yes : Reply → Answer
+  yes : Value → Answer
   no : Refusal → Answer
 
--- Document 01's number of an answer: the refusal's, and 0 for an accepted call.
+-- What an exported call returns (Replies.antt of crate frame): document 01's number of an answer, the refusal's and 0 for an accepted call,
 abbrev pub code : Answer → ℕ
 code (Answer.yes r) = 0
-code (Answer.no r) = Outcome.number r
+code (Answer.no r) = Refusals.number r
 
--- The values of an accepted call's answer. Of a list the "whole number of records"; of a pop the words of docs/TABLES.md.
-abbrev pub values : Reply → List ℕ
+-- and the values of an accepted call's answer. Of a list the "whole number of records"; of a pop the words of docs/TABLES.md.
+abbrev pub values : Value → List ℕ
 values done = []
-values (domain h) = h .slot ∷ h .gen ∷ []
+values (domain h) = h .slot ∷ h .generation ∷ []
 values (local l) = l ∷ []
 values (popped u) = updateWords u
 values (permissionList l) = length l ∷ []
@@ -75,7 +77,7 @@ values (domainList l) = length l ∷ []
 
 -- ---- one call
 
--- Making in memory that holds s: the tables' length stays, so 1 where sizes ask for another.
+-- Making as a call of a list, in the memory that holds s: the tables' length stays, so 1 where sizes ask for another. Memory has the rules for any memory.
 unfoldable pub makeAnew : Sizes → State → Outcome State
 makeAnew z s = do
   t ← makeTables z  -- 2
@@ -83,34 +85,34 @@ makeAnew z s = do
   ok t
 
 -- A call's outcome as a reply, with the state that it leaves.
-abbrev answer : {A : Type 0} → (A → Reply) → Outcome (A × State) → Outcome (Reply × State)
+abbrev answer : {A : Type 0} → (A → Value) → Outcome (A × State) → Outcome (Value × State)
 answer f m = m >>= λ (a, s). ok (f a, s)
 
 -- a call with no answer of its own
-abbrev silent : Outcome State → Outcome (Reply × State)
+abbrev silent : Outcome State → Outcome (Value × State)
 silent m = m >>= λ s. ok (done, s)
 
 -- What a step does: the reply and the new state, or the refusal.
-unfoldable pub performStep : State → Step → Outcome (Reply × State)
+unfoldable pub performStep : State → Step → Outcome (Value × State)
 performStep s (Open m cores) = answer domain (openDomain m cores s)
 performStep s (Channel h to) = answer local (openChannel h to s)
-performStep s (SetCores h cores) = silent (setCores h cores s)
+performStep s (SetCoreMap h cores) = silent (setCoreMap h cores s)
 performStep s (Root h a) = answer local (createRootRegion h a s)
 performStep s (Alias h l a) = answer local (aliasRegion h l a s)
 performStep s (Carve h l a) = answer local (carveRegion h l a s)
 performStep s (Send h l target) = answer local (send h l target s)
 performStep s (Revoke h l) = silent (revoke h l s)
-performStep s (MakeRevoke h l) = answer local (createRevokeCapa h l s)
+performStep s (CreateRevokeCapa h l) = answer local (createRevokeCapa h l s)
 
 -- What is read, or the refusal.
-unfoldable pub readTables : State → Reading → Outcome Reply
+unfoldable pub readTables : State → Reading → Outcome Value
 readTables s (Permissions h) = permissions h s >>= λ l. ok (permissionList l)
 readTables s (Refcount h from to) = getRefcount h from to s >>= λ n. ok (number n)
 readTables s (CoreMap h) = coreMap h s >>= λ n. ok (number n)
 readTables s (Holders a) = ok (domainList (holders a s))
 
 -- What a call does: the reply and the new state, or the refusal. After a reading the state is as it was.
-unfoldable pub perform : State → Call → Outcome (Reply × State)
+unfoldable pub perform : State → Call → Outcome (Value × State)
 perform s (Make z) = silent (makeAnew z s)
 perform s (Do c) = performStep s c
 perform s Pop = answer popped (ok (pop s))
@@ -119,7 +121,7 @@ perform s (Read r) = readTables s r >>= λ a. ok (a, s)
 -- ---- a list of calls
 
 -- "kept only on success": a refused call leaves the state as it was.
-abbrev pub after : State → Outcome (Reply × State) → Answer × State
+abbrev pub after : State → Outcome (Value × State) → Answer × State
 after s (ok x) = (Answer.yes (x .0), x .1)
 after s (refuse r) = (Answer.no r, s)
 
@@ -127,7 +129,7 @@ after s (refuse r) = (Answer.no r, s)
 unfoldable pub step : State → Call → Answer × State
 step s c = after s (perform s c)
 
--- "each call gets the tables the last left": the answers, and the last state.
+-- "each call gets the tables the last left": the answers, and the last state. Demand 3 (crate book) is about this.
 unfoldable pub run : State → List Call → List Answer × State
 run s [] = ([], s)
 run s (c ∷ cs) = let x = step s c in let y = run (x .1) cs in (x .0 ∷ y .0, y .1)

@@ -5,8 +5,10 @@ use mathlib.Core.Option.{Option}
 use mathlib.Core.List.{List, [], _∷_}
 use lib.Dec.{eqb}
 use lib.ListN.{getD, set, replicate}
-use Rattle.model.specs.Lists.{countUp, isSome, slotOf}
-use Rattle.model.specs.Outcome.{Outcome, ok, refuse, _>>_, require, Refusal, spent}
+use Rattle.model.specs.Lists.{countUp, isSome, atSlot}
+use Rattle.model.specs.Outcome.{Outcome, ok, refuse, _>>_, require}
+use Rattle.refusals.specs.declared.Refusal.{Refusal}
+use Rattle.refusals.specs.Refusals.{spent}
 use Rattle.model.specs.State.{Pool, Handle}
 
 -- "fresh ones go 0, 1, 2"
@@ -26,12 +28,12 @@ free i p = do
 
 -- the handle of the slot as it is now
 abbrev pub handleOf : Pool → ℕ → Handle
-handleOf p i = record { slot = i; gen = getD (p .gens) i 0 }
+handleOf p i = record { slot = i; generation = getD (p .gens) i 0 }
 
 -- A handle is live when its slot is in use and the generation is the slot's (the negation of 3 and of 6).
 abbrev pub isLive {ℓ} : {A : Type ℓ} → Pool → List (Option A) → Handle → Bool
-isLive p l h = isSome (slotOf l (h .slot)) && eqb (getD (p .gens) (h .slot) 0) (h .gen)
+isLive p l h = isSome (atSlot l (h .slot)) && eqb (getD (p .gens) (h .slot) 0) (h .generation)
 
 -- the same slot and the same generation
 abbrev pub sameHandle : Handle → Handle → Bool
-sameHandle h k = eqb (h .slot) (k .slot) && eqb (h .gen) (k .gen)
+sameHandle h k = eqb (h .slot) (k .slot) && eqb (h .generation) (k .generation)

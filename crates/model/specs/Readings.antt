@@ -1,17 +1,17 @@
 -- The readings (document 01, **Reading**). They change nothing.
 use mathlib.Core.Path.{_≡_}
-use Prim.Native.Nat.{ℕ, suc, _+_, max}
+use Prim.Native.Nat.{ℕ, _+_, max}
 use mathlib.Core.Bool.{Bool, _&&_}
-use mathlib.Core.Option.{Option, none, some}
 use mathlib.Core.List.{List, [], _∷_, map}
 use lib.Dec.{eqb, ltb}
+use lib.ListN.{length}
 use Rattle.rights.specs.Rights.{READ, WRITE, EXEC, SUPER, UNCACHEABLE}
-use Rattle.model.specs.Lists.{if_then_else_, oneIf, isSome, count, slotOf}
+use Rattle.model.specs.Lists.{if_then_else_, oneIf, isSome, countIf, keep, atSlot, countUp}
 use Rattle.model.specs.Outcome.{Outcome, ok, _>>=_}
-use Rattle.model.specs.State.{State, Domain, Access, Counts, Record, Handle, domainAt}
+use Rattle.model.specs.State.{State, Access, Counts, Record, Handle, domainAt}
 use Rattle.model.specs.Tracker.{meets}
 use Rattle.model.specs.Calls.{liveDomain}
-use Rattle.model.specs.Counts.{countsAt, storedCounts}
+use Rattle.model.specs.Counts.{storedCounts}
 
 -- ---- the permission list
 
@@ -35,10 +35,10 @@ permissions h s = do
 
 -- ---- numbers
 
--- "`get_refcount` takes any two numbers": the largest reach of a record that begins before e and ends after s.
+-- "`get_refcount` takes any two numbers": the largest reach of a record that starts before `to` and ends after `from`.
 abbrev pub largestReach : ℕ → ℕ → List Record → ℕ
-largestReach s e [] = 0
-largestReach s e (q ∷ l) = max (if meets s e q then q .counts .reach else 0) (largestReach s e l)
+largestReach from to [] = 0
+largestReach from to (q ∷ l) = max (if meets from to q then q .counts .reach else 0) (largestReach from to l)
 
 -- for a domain
 unfoldable pub getRefcount : Handle → ℕ → ℕ → State → Outcome ℕ
@@ -56,21 +56,15 @@ coreMap h s = do
 
 -- "live domains with reach above 0 there"
 abbrev pub isHolder : State → ℕ → ℕ → Bool
-isHolder s a d = isSome (slotOf (s .domains) d) && ltb 0 (storedCounts s d a .reach)
+isHolder s a d = isSome (atSlot (s .domains) d) && ltb 0 (storedCounts s d a .reach)
 
 -- The holders' order is left open ("in any order"), so their list is given by its property: "each domain once", and no other.
 abbrev pub IsHolders : ℕ → State → List ℕ → Type 0
-IsHolders a s l = (d : ℕ) → count (eqb d) l ≡ oneIf (isHolder s a d)
+IsHolders a s l = (d : ℕ) → countIf (eqb d) l ≡ oneIf (isHolder s a d)
 
--- One such list, by rising slot; d is the first domain's slot.
-abbrev pub holdersFrom : ℕ → ℕ → List (Option Domain) → List ℕ
-holdersFrom a d [] = []
-holdersFrom a d (none ∷ l) = holdersFrom a (suc d) l
-holdersFrom a d (some x ∷ l) = if ltb 0 (countsAt (x .tracker) a .reach) then d ∷ holdersFrom a (suc d) l else holdersFrom a (suc d) l
-
--- all holders of address a, rising
+-- One such list: all of them, by rising slot.
 unfoldable pub holders : ℕ → State → List ℕ
-holders a s = holdersFrom a 0 (s .domains)
+holders a s = keep (isHolder s a) (countUp 0 (length (s .domains)))
 
 -- ---- a lent run
 

@@ -3,14 +3,15 @@ use Prim.Native.Nat.{ℕ, zero, suc}
 use mathlib.Core.Option.{none, some}
 use mathlib.Core.List.{List, [], _∷_}
 use lib.ListN.{set}
-use Rattle.model.specs.Lists.{if_then_else_, isSome, count}
-use Rattle.model.specs.Outcome.{Outcome, ok, _>>=_, noRegion}
+use Rattle.model.specs.Lists.{if_then_else_, isSome, countIf}
+use Rattle.model.specs.Outcome.{Outcome, ok, _>>=_}
+use Rattle.refusals.specs.Refusals.{noRegion}
 use Rattle.rights.specs.Rights.{has, CLEANUP}
 use Rattle.model.specs.State.{State, Region, Kind, Root, Alias, Carve, Access, cleanup, domainAt, regionAt, putDomain, putRegion, withTracker, withRecordPool, withRegions, withOwner}
 use Rattle.model.specs.Pool.{allocate, free}
 use Rattle.model.specs.Tracker.{Walk, gain, lose}
 use Rattle.model.specs.Updates.{push, pushPermission}
-use Rattle.model.specs.Tree.{Range, accessOf, removeChild, effectiveRegions}
+use Rattle.model.specs.Tree.{Range, accessOf, removeChild, effectiveRanges}
 
 -- A domain's new tracker and the record pool are put back; a change queues the domain (**Update ring**).
 unfoldable pub putWalk : ℕ → Walk → State → Outcome State
@@ -49,7 +50,7 @@ sendRanges old new r (x ∷ xs) s = do
 
 -- Region i becomes domain `new`'s, with its effective ranges.
 unfoldable pub sendRegion : ℕ → ℕ → State → Outcome State
-sendRegion i new s = let g = regionAt s i in sendRanges (g .owner) new (g .rights) (effectiveRegions s g) (putRegion i (withOwner new g) s)
+sendRegion i new s = let g = regionAt s i in sendRanges (g .owner) new (g .rights) (effectiveRanges s g) (putRegion i (withOwner new g) s)
 
 -- "a carve's parent's domain gains it with the parent's rights"
 unfoldable pub giveBack : Region → State → Outcome State
@@ -72,8 +73,8 @@ revokeLeaf i s = do
   s₃ ← freeRegion i s₂
   if has (g .rights) CLEANUP then push (cleanup (g .start) (g .end)) s₃ else ok s₃
 
--- **Revoke**: "Children go first, head child by head child, to any depth." n bounds the calls; as many as there are live regions suffice (`revoke-all`,
--- crate laws), so that the first equation is never reached from a call.
+-- **Revoke**: "Children go first, head child by head child, to any depth." n bounds the depth of the recursion: as many as there are live regions at and
+-- below i suffice. Calls give the number of all live ones, so that the first equation is never reached (`revoke-all`, crate laws).
 unfoldable pub revokeRegion : ℕ → ℕ → State → Outcome State
 revokeRegion zero i s = ok s
 revokeRegion (suc n) i s = elim (regionAt s i .children) [
@@ -81,6 +82,6 @@ revokeRegion (suc n) i s = elim (regionAt s i .children) [
   | c ∷ cs ↦ revokeRegion n c s >>= λ s₁. revokeRegion n i s₁
 ]
 
--- the number of live regions
-abbrev pub liveRegions : State → ℕ
-liveRegions s = count isSome (s .regions)
+-- the number of all live regions
+abbrev pub liveCount : State → ℕ
+liveCount s = countIf isSome (s .regions)

@@ -9,7 +9,7 @@ use mathlib.Core.List.{List, [], _∷_, map}
 use lib.Dec.{T, eqb, ltb}
 use lib.ListN.{length, getD}
 use Rattle.rights.specs.Rights.{allowed}
-use Rattle.model.specs.Lists.{oneIf, isSome, any, count, Each, slotOf, In}
+use Rattle.model.specs.Lists.{oneIf, isSome, exists, countIf, Each, atSlot, In}
 use Rattle.model.specs.State.{Word, Handle, Pool, Capa, noCapa, region, regionRevoke, management, channel, LocalList, Record, Domain, parentOf, Region, Update, permission, cleanup, Queue, State}
 use Rattle.model.specs.Fields.{Field}
 use Rattle.model.specs.Pool.{handleOf, sameHandle, isLive}
@@ -23,17 +23,17 @@ use Rattle.model.specs.Counts.{holds, regionCount, Agree}
 
 -- "in use or free once": of n slots each is used once and not free, or not used and free once; there are no others.
 abbrev pub OnceEach : ℕ → (ℕ → ℕ) → List ℕ → Type 0
-OnceEach n used free = (i : ℕ) → used i + count (eqb i) free ≡ oneIf (ltb i n)
+OnceEach n used free = (i : ℕ) → used i + countIf (eqb i) free ≡ oneIf (ltb i n)
 
 -- 1 where slot i is in use, else 0
-abbrev pub inUse : {A : Type 0} → List (Option A) → ℕ → ℕ
-inUse l i = oneIf (isSome (slotOf l i))
+abbrev pub slotUses : {A : Type 0} → List (Option A) → ℕ → ℕ
+slotUses l i = oneIf (isSome (atSlot l i))
 
 -- how many records of the domains' trackers have slot i
 abbrev pub recordUses : List (Option Domain) → ℕ → ℕ
 recordUses [] i = 0
 recordUses (none ∷ ds) i = recordUses ds i
-recordUses (some x ∷ ds) i = count (λ q. eqb i (q .slot)) (x .tracker) + recordUses ds i
+recordUses (some x ∷ ds) i = countIf (λ q. eqb i (q .slot)) (x .tracker) + recordUses ds i
 
 -- A pool of n slots: "every pool .. slot is in use or free once".
 pub record PoolSound (n : ℕ) (used : ℕ → ℕ) (p : Pool) : Type 0 where
@@ -61,10 +61,10 @@ names (some q) p = eqb q p
 -- Region g in slot i, among the regions.
 pub record RegionSound (regions : List (Option Region)) (i : ℕ) (g : Region) : Type 0 where
   -- "each live non-root is in exactly its parent's list": the parent is live, and has it once; no other list, and a root no list, has it
-  pub parentLive : (p : ℕ) → parentOf (g .kind) ≡ some p → T (isSome (slotOf regions p))
-  pub listed : (p : ℕ) (h : Region) → In regions p h → count (eqb i) (h .children) ≡ oneIf (names (parentOf (g .kind)) p)
+  pub parentLive : (p : ℕ) → parentOf (g .kind) ≡ some p → T (isSome (atSlot regions p))
+  pub listed : (p : ℕ) (h : Region) → In regions p h → countIf (eqb i) (h .children) ≡ oneIf (names (parentOf (g .kind)) p)
   -- nothing but live regions is in its own list
-  pub childrenLive : Each (λ c. T (isSome (slotOf regions c))) (g .children)
+  pub childrenLive : Each (λ c. T (isSome (atSlot regions c))) (g .children)
   -- "without circles"
   pub rooted : Rooted regions i
   -- "lists ordered"
@@ -102,25 +102,25 @@ isManagementOf h (some (channel k)) = false
 
 -- Region g in slot i: "each live region has one Region slot, in its domain".
 pub record OwnerSound (regionPool : Pool) (domains : List (Option Domain)) (i : ℕ) (g : Region) : Type 0 where
-  pub ownerLive : T (isSome (slotOf domains (g .owner)))
-  pub oneSlot : (d : ℕ) (x : Domain) → In domains d x → count (isRegionOf (handleOf regionPool i)) (x .locals .held) ≡ oneIf (eqb (g .owner) d)
+  pub ownerLive : T (isSome (atSlot domains (g .owner)))
+  pub oneSlot : (d : ℕ) (x : Domain) → In domains d x → countIf (isRegionOf (handleOf regionPool i)) (x .locals .held) ≡ oneIf (eqb (g .owner) d)
 
 -- "managers form no circle": from domain d the managers lead to an unmanaged domain.
 pub data Managed (domains : List (Option Domain)) : ℕ → Type 0 where
-  unmanaged : (d : ℕ) (x : Domain) → In domains d x → x .manager ≡ none → Managed domains d
+  noManager : (d : ℕ) (x : Domain) → In domains d x → x .manager ≡ none → Managed domains d
   by : (d m : ℕ) (x : Domain) → In domains d x → x .manager ≡ some m → Managed domains m → Managed domains d
 
 -- Domain x in slot d: "each live managed domain has one Management slot, in its manager's list, an unmanaged one has none".
 pub record ManagerSound (domainPool : Pool) (domains : List (Option Domain)) (d : ℕ) (x : Domain) : Type 0 where
-  pub managerLive : (m : ℕ) → x .manager ≡ some m → T (isSome (slotOf domains m))
-  pub oneManagement : (e : ℕ) (y : Domain) → In domains e y → count (isManagementOf (handleOf domainPool d)) (y .locals .held) ≡ oneIf (names (x .manager) e)
+  pub managerLive : (m : ℕ) → x .manager ≡ some m → T (isSome (atSlot domains m))
+  pub oneManagement : (e : ℕ) (y : Domain) → In domains e y → countIf (isManagementOf (handleOf domainPool d)) (y .locals .held) ≡ oneIf (names (x .manager) e)
   pub managed : Managed domains d
 
 -- "live or older than its slot's generation"
 abbrev pub LiveOrOlder : {A : Type 0} → Pool → List (Option A) → Handle → Type 0
-LiveOrOlder p l h = T (isLive p l h || ltb (h .gen) (getD (p .gens) (h .slot) 0))
+LiveOrOlder p l h = T (isLive p l h || ltb (h .generation) (getD (p .gens) (h .slot) 0))
 
--- "every other handle is live or older than its slot's generation"; those counted above are live
+-- "every other handle is live or older than its slot's generation"; asked of every handle, as those counted above are live
 abbrev pub HandleFit : Pool → List (Option Region) → Pool → List (Option Domain) → Option Capa → Type 0
 HandleFit rp rs dp ds none = Unit {0}
 HandleFit rp rs dp ds (some noCapa) = Unit {0}
@@ -141,7 +141,7 @@ RevokeFit rp rs (some (channel h)) = Unit {0}
 -- A domain's list of n slots: "every .. list slot is in use or free once", and what the slots hold.
 pub record ListSound (n : ℕ) (regionPool : Pool) (regions : List (Option Region)) (domainPool : Pool) (domains : List (Option Domain)) (l : LocalList) : Type 0 where
   pub heldLength : length (l .held) ≡ n
-  pub once : OnceEach n (inUse (l .held)) (l .free)
+  pub once : OnceEach n (slotUses (l .held)) (l .free)
   pub revokesFit : Each (RevokeFit regionPool regions) (l .held)
   pub handlesFit : Each (HandleFit regionPool regions domainPool domains) (l .held)
 
@@ -169,7 +169,7 @@ pub record TrackerSound (regions : List (Option Region)) (d : ℕ) (l : List Rec
   -- "and an uncacheable count of 0 or 1"
   pub uncacheable : Each (λ q. q .counts .uncacheable ≤ 1) l
   -- "each address where a live region counts for a domain lies in a record of that domain"
-  pub covered : (a : ℕ) → 0 < regionCount Field.Reach regions d a → T (any (λ q. holds (q .start) (q .end) a) l)
+  pub covered : (a : ℕ) → 0 < regionCount Field.Reach regions d a → T (exists (λ q. holds (q .start) (q .end) a) l)
 
 -- ---- the update ring
 
@@ -181,18 +181,17 @@ QueuedLive p ds (cleanup a b) = Unit {0}
 -- "and queued singly": none is queued again further on
 abbrev pub Singly : List Update → Type 0
 Singly [] = Unit {0}
-Singly (permission h c ∷ us) = (count (isPermissionOf h) us ≡ 0) × Singly us
+Singly (permission h c ∷ us) = (countIf (isPermissionOf h) us ≡ 0) × Singly us
 Singly (cleanup a b ∷ us) = Singly us
 
 -- what is stored are words
 abbrev pub UpdateWords : Update → Type 0
-UpdateWords (permission h c) = Word (h .slot) × Word (h .gen) × Word c
+UpdateWords (permission h c) = Word (h .slot) × Word (h .generation) × Word c
 UpdateWords (cleanup a b) = Word a × Word b
 
--- The ring for n updates has n + 1 places. "the ring's two places lie inside it": the read place, and so many updates that the write place,
--- which follows the last of them, does not meet it.
+-- The ring for n updates has n + 1 places. "the ring's two places lie inside it": the read place, and at most n updates behind it.
 pub record QueueSound (n : ℕ) (domainPool : Pool) (domains : List (Option Domain)) (q : Queue) : Type 0 where
-  pub readPlace : q .first < n + 1
+  pub readPlace : q .readPlace < n + 1
   pub fits : length (q .items) < n + 1
   pub live : Each (QueuedLive domainPool domains) (q .items)
   pub singly : Singly (q .items)
@@ -207,8 +206,8 @@ pub record OutsideSound (s : State) : Type 0 where
   -- "every pool .. slot is in use or free once"
   pub domainsLength : length (s .domains) ≡ s .sizes .domains
   pub regionsLength : length (s .regions) ≡ s .sizes .regions
-  pub domainPool : PoolSound (s .sizes .domains) (inUse (s .domains)) (s .domainPool)
-  pub regionPool : PoolSound (s .sizes .regions) (inUse (s .regions)) (s .regionPool)
+  pub domainPool : PoolSound (s .sizes .domains) (slotUses (s .domains)) (s .domainPool)
+  pub regionPool : PoolSound (s .sizes .regions) (slotUses (s .regions)) (s .regionPool)
   -- every live region
   pub regions : (i : ℕ) (g : Region) → In (s .regions) i g → RegionSound (s .regions) i g
   pub owners : (i : ℕ) (g : Region) → In (s .regions) i g → OwnerSound (s .regionPool) (s .domains) i g

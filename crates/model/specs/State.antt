@@ -1,10 +1,10 @@
 -- What the tables hold (document 01, "Memory and who can be refused"), as plain lists.
 -- Owner, parent, manager and children are slot numbers; capabilities and queued updates hold handles.
 use Prim.Native.Nat.{ℕ, _^_, _<_}
-use mathlib.Core.Option.{Option, none, some}
+use mathlib.Core.Option.{Option, none, some, Option·getD}
 use mathlib.Core.List.{List, []}
 use lib.ListN.{set}
-use Rattle.model.specs.Lists.{slotOf, orElse}
+use Rattle.model.specs.Lists.{atSlot}
 
 -- Stored numbers are words of 64 bits.
 abbrev pub Word : ℕ → Type 0
@@ -21,7 +21,7 @@ pub record Sizes : Type 0 where
 -- "handle (slot number and 64-bit generation)": the slot's generation when the handle was made (`Handle`).
 pub record Handle : Type 0 where
   pub slot : ℕ
-  pub gen : ℕ
+  pub generation : ℕ
 
 -- **Arenas**: the slots' generations, and the free slots, the one given next first.
 pub record Pool : Type 0 where
@@ -98,7 +98,7 @@ pub data Update : Type 0 where
 
 -- The ring's read place, and what is queued, oldest first (`Buffer`).
 pub record Queue : Type 0 where
-  pub first : ℕ
+  pub readPlace : ℕ
   pub items : List Update
 
 -- All the tables. A slot of `domains` or `regions` is `none` where it is free.
@@ -111,7 +111,7 @@ pub record State : Type 0 where
   pub regions : List (Option Region)
   pub queue : Queue
 
--- ---- a state, a domain or a region with one part changed
+-- ---- a state, a domain or a region with the parts that the name says changed, and all others as they were
 
 abbrev pub withDomains : Pool → List (Option Domain) → State → State
 withDomains p l s = record { sizes = s .sizes; domainPool = p; regionPool = s .regionPool; recordPool = s .recordPool; domains = l; regions = s .regions; queue = s .queue }
@@ -150,10 +150,10 @@ noneRegion = record { owner = 0; kind = Root; start = 0; end = 0; rights = 0; ch
 
 -- the domain, and the region, in a slot
 abbrev pub domainAt : State → ℕ → Domain
-domainAt s d = orElse (slotOf (s .domains) d) noneDomain
+domainAt s d = Option·getD (atSlot (s .domains) d) noneDomain
 
 abbrev pub regionIn : List (Option Region) → ℕ → Region
-regionIn rs i = orElse (slotOf rs i) noneRegion
+regionIn rs i = Option·getD (atSlot rs i) noneRegion
 
 abbrev pub regionAt : State → ℕ → Region
 regionAt s i = regionIn (s .regions) i

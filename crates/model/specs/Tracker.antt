@@ -1,10 +1,12 @@
 -- **Tracker** (document 01; `RegionTracker`). Records rise; both walks go from left to right and take and free record slots on the way.
+-- A range is named by two addresses, from .. up to but not including to, and r is its rights.
 use Prim.Native.Nat.{ℕ, _+_, _-_, min, max}
 use mathlib.Core.Bool.{Bool, false, not, _&&_, _||_}
 use mathlib.Core.List.{List, [], _∷_, _++_}
 use lib.Dec.{eqb, ltb}
-use Rattle.model.specs.Lists.{if_then_else_, oneIf, isEmpty, any, every}
-use Rattle.model.specs.Outcome.{Outcome, ok, _>>=_, noTracker}
+use Rattle.model.specs.Lists.{if_then_else_, oneIf, isEmpty, exists, every}
+use Rattle.model.specs.Outcome.{Outcome, ok, _>>=_}
+use Rattle.refusals.specs.Refusals.{noTracker}
 use Rattle.rights.specs.Rights.{has, UNCACHEABLE}
 use Rattle.model.specs.State.{Counts, Record, Pool}
 use Rattle.model.specs.Fields.{fields, get, counter, each}
@@ -14,7 +16,7 @@ use Rattle.model.specs.Pool.{allocate, free}
 abbrev pub newCounts : ℕ → Counts
 newCounts r = each (λ f. counter f r) (oneIf (has r UNCACHEABLE))
 
--- Gain "adds one", loss "subtracts one" (below 0 never, in sound tables); "later gains and losses don't change" the uncacheable count.
+-- Gain "adds one", loss "subtracts one", in sound tables never from 0; "later gains and losses don't change" the uncacheable count.
 abbrev pub raise : ℕ → Counts → Counts
 raise r k = each (λ f. get f k + counter f r) (k .uncacheable)
 
@@ -27,7 +29,7 @@ crosses a b = if eqb a 0 then not (eqb b 0) else eqb b 0
 
 -- the uncacheable count is never a change
 abbrev pub changes : Counts → Counts → Bool
-changes j k = any (λ f. crosses (get f j) (get f k)) fields
+changes j k = exists (λ f. crosses (get f j) (get f k)) fields
 
 -- "six equal counts" (`same_counts`)
 abbrev pub sameCounts : Counts → Counts → Bool
@@ -52,61 +54,73 @@ splitAt a q p = do
   (i, p₁) ← allocate noTracker p
   ok (withEnd a q, record { slot = i; start = a; end = q .end; counts = q .counts }, p₁)
 
--- "splits at edges": the part of q before s is cut off
+-- "splits at edges": the part of q before `from` is cut off
 unfoldable pub cutBefore : ℕ → Record → Pool → Outcome (List Record × Record × Pool)
-cutBefore s q p = if ltb (q .start) s then (splitAt s q p >>= λ (l, r, p₁). ok (l ∷ [], r, p₁)) else ok ([], q, p)
+cutBefore from q p = if ltb (q .start) from then (splitAt from q p >>= λ (l, r, p₁). ok (l ∷ [], r, p₁)) else ok ([], q, p)
 
--- and the part from e on
+-- and the part from `to` on
 unfoldable pub cutAfter : ℕ → Record → Pool → Outcome (Record × List Record × Pool)
-cutAfter e q p = if ltb e (q .end) then (splitAt e q p >>= λ (l, r, p₁). ok (l, r ∷ [], p₁)) else ok (q, [], p)
+cutAfter to q p = if ltb to (q .end) then (splitAt to q p >>= λ (l, r, p₁). ok (l, r ∷ [], p₁)) else ok (q, [], p)
 
--- Does q end after s and start before e? For a range that is not empty: is there an address that both hold? Touching ranges hold none.
+-- Does q end after `from` and start before `to`? For a range that is not empty: is there an address that both hold? Touching ranges hold none.
 abbrev pub meets : ℕ → ℕ → Record → Bool
-meets s e q = ltb s (q .end) && ltb (q .start) e
+meets from to q = ltb from (q .end) && ltb (q .start) to
 
--- "fills gaps": a new record from s up to e, if that is not empty (`insert_after`, `insert_head`).
+-- "fills gaps": a new record over the range, if that is not empty (`insert_after`, `insert_head`).
 unfoldable pub fillGap : ℕ → ℕ → ℕ → Pool → Outcome (List Record × Pool)
-fillGap r s e p = if ltb s e then (allocate noTracker p >>= λ (i, p₁). ok (record { slot = i; start = s; end = e; counts = newCounts r } ∷ [], p₁)) else ok ([], p)
+fillGap r from to p = if ltb from to then (allocate noTracker p >>= λ (i, p₁). ok (record { slot = i; start = from; end = to; counts = newCounts r } ∷ [], p₁)) else ok ([], p)
 
--- One record gains: cut at the edges, the left one first; the part inside is raised (`partial_add_region_overlapping`).
-unfoldable pub addTo : ℕ → ℕ → ℕ → Record → Pool → Outcome Walk
-addTo r s e q p = if meets s e q then (do
-  (before, q₁, p₁) ← cutBefore s q p
-  (q₂, after, p₂) ← cutAfter e q₁ p₁
+-- q is cut at the edges, the left one first, and the part inside is raised (`partial_add_region_overlapping`).
+abbrev pub raiseInside : ℕ → ℕ → ℕ → Record → Pool → Outcome Walk
+raiseInside r from to q p = do
+  (before, q₁, p₁) ← cutBefore from q p
+  (q₂, after, p₂) ← cutAfter to q₁ p₁
   let k = raise r (q₂ .counts)
-  ok (record { records = before ++ (withCounts k q₂ ∷ after); pool = p₂; changed = changes (q₂ .counts) k })) else ok (record { records = q ∷ []; pool = p; changed = false })
+  ok (record { records = before ++ (withCounts k q₂ ∷ after); pool = p₂; changed = changes (q₂ .counts) k })
 
--- **Tracker**, gain: from s up to e with rights r, from left to right (`add_region`). A gap before a record is filled before the record is cut; behind it
--- the walk goes on from its end, so that nothing is filled twice.
+-- a record outside the range
+abbrev pub asItWas : Record → Pool → Walk
+asItWas q p = record { records = q ∷ []; pool = p; changed = false }
+
+-- One record gains.
+unfoldable pub addTo : ℕ → ℕ → ℕ → Record → Pool → Outcome Walk
+addTo r from to q p = if meets from to q then raiseInside r from to q p else ok (asItWas q p)
+
+-- **Tracker**, gain: the range with rights r, from left to right (`add_region`). The gap before a record is filled, up to `to` at most, before the record
+-- is cut. Behind the record the walk goes on from its end: so nothing is filled twice, and nothing behind a record that ends past `to`.
 unfoldable pub addRegion : ℕ → ℕ → ℕ → List Record → Pool → Outcome Walk
-addRegion r s e [] p = do
-  (new, p₁) ← fillGap r s e p
+addRegion r from to [] p = do
+  (new, p₁) ← fillGap r from to p
   ok (record { records = new; pool = p₁; changed = not (isEmpty new) })
-addRegion r s e (q ∷ l) p = do
-  (new, p₁) ← fillGap r s (min e (q .start)) p
-  here ← addTo r s e q p₁
-  rest ← addRegion r (max s (q .end)) e l (here .pool)
+addRegion r from to (q ∷ l) p = do
+  (new, p₁) ← fillGap r from (min to (q .start)) p
+  here ← addTo r from to q p₁
+  rest ← addRegion r (max from (q .end)) to l (here .pool)
   ok (record { records = new ++ here .records ++ rest .records; pool = rest .pool; changed = not (isEmpty new) || here .changed || rest .changed })
 
 -- A record "at reach 0" is dropped, and its slot freed (16).
 unfoldable pub keepOrDrop : Record → Pool → Outcome (List Record × Pool)
 keepOrDrop q p = if eqb (q .counts .reach) 0 then (free (q .slot) p >>= λ p₁. ok ([], p₁)) else ok (q ∷ [], p)
 
--- One record loses: cut as above; the part inside is lowered, and dropped before the walk goes on.
-unfoldable pub removeFrom : ℕ → ℕ → ℕ → Record → Pool → Outcome Walk
-removeFrom r s e q p = if meets s e q then (do
-  (before, q₁, p₁) ← cutBefore s q p
-  (q₂, after, p₂) ← cutAfter e q₁ p₁
+-- q is cut as above; the part inside is lowered, and may be dropped.
+abbrev pub lowerInside : ℕ → ℕ → ℕ → Record → Pool → Outcome Walk
+lowerInside r from to q p = do
+  (before, q₁, p₁) ← cutBefore from q p
+  (q₂, after, p₂) ← cutAfter to q₁ p₁
   let k = lower r (q₂ .counts)
   (kept, p₃) ← keepOrDrop (withCounts k q₂) p₂
-  ok (record { records = before ++ kept ++ after; pool = p₃; changed = changes (q₂ .counts) k })) else ok (record { records = q ∷ []; pool = p; changed = false })
+  ok (record { records = before ++ kept ++ after; pool = p₃; changed = changes (q₂ .counts) k })
 
--- **Tracker**, loss: from s up to e with rights r, from left to right (`remove_region`). A gap in the range is passed over; in sound tables there is none.
+-- One record loses.
+unfoldable pub removeFrom : ℕ → ℕ → ℕ → Record → Pool → Outcome Walk
+removeFrom r from to q p = if meets from to q then lowerInside r from to q p else ok (asItWas q p)
+
+-- **Tracker**, loss: the range with rights r, from left to right (`remove_region`). A gap in the range is passed over; in sound tables there is none.
 unfoldable pub removeRegion : ℕ → ℕ → ℕ → List Record → Pool → Outcome Walk
-removeRegion r s e [] p = ok (record { records = []; pool = p; changed = false })
-removeRegion r s e (q ∷ l) p = do
-  here ← removeFrom r s e q p
-  rest ← removeRegion r s e l (here .pool)
+removeRegion r from to [] p = ok (record { records = []; pool = p; changed = false })
+removeRegion r from to (q ∷ l) p = do
+  here ← removeFrom r from to q p
+  rest ← removeRegion r from to l (here .pool)
   ok (record { records = here .records ++ rest .records; pool = rest .pool; changed = here .changed || rest .changed })
 
 -- May q and its right neighbour n be one record? "touching neighbours with six equal counts"
@@ -132,7 +146,7 @@ merged m = do
 
 -- The whole gain and the whole loss of a range.
 unfoldable pub gain : ℕ → ℕ → ℕ → List Record → Pool → Outcome Walk
-gain r s e l p = merged (addRegion r s e l p)
+gain r from to l p = merged (addRegion r from to l p)
 
 unfoldable pub lose : ℕ → ℕ → ℕ → List Record → Pool → Outcome Walk
-lose r s e l p = merged (removeRegion r s e l p)
+lose r from to l p = merged (removeRegion r from to l p)

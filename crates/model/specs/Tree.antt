@@ -4,7 +4,7 @@ use mathlib.Core.Bool.{Bool, true, false, not, _&&_}
 use mathlib.Core.Option.{Option}
 use mathlib.Core.List.{List, [], _∷_, _++_, map}
 use lib.Dec.{ltb, leb}
-use Rattle.model.specs.Lists.{if_then_else_, any, without}
+use Rattle.model.specs.Lists.{if_then_else_, exists, without}
 use Rattle.rights.specs.Rights.{allowed}
 use Rattle.model.specs.State.{State, Region, Kind, Root, Alias, Carve, Access, regionIn, regionAt, putRegion, withChildren}
 
@@ -23,7 +23,7 @@ isRootKind (Carve p) = false
 abbrev pub accessOf : Region → Access
 accessOf g = record { start = g .start; end = g .end; rights = g .rights }
 
--- Touching ranges do not overlap (`AccessRights::overlap`).
+-- Touching ranges do not overlap (`AccessRights::overlap`). The test is that of the tracker's `meets`.
 abbrev pub overlaps : Access → Region → Bool
 overlaps a g = ltb (a .start) (g .end) && ltb (g .start) (a .end)
 
@@ -37,11 +37,11 @@ fits a g = leb (g .start) (a .start) && leb (a .end) (g .end) && allowed (g .rig
 
 -- **Alias**: "overlaps no carved child" (`check_alias`).
 abbrev pub checkAlias : State → Region → Access → Bool
-checkAlias s g a = fits a g && not (any (λ c. isCarve (c .kind) && overlaps a c) (childrenOf (s .regions) g))
+checkAlias s g a = fits a g && not (exists (λ c. isCarve (c .kind) && overlaps a c) (childrenOf (s .regions) g))
 
 -- **Carve**: "As alias, but it overlaps no child of either kind" (`check_carve`).
 abbrev pub checkCarve : State → Region → Access → Bool
-checkCarve s g a = fits a g && not (any (overlaps a) (childrenOf (s .regions) g))
+checkCarve s g a = fits a g && not (exists (overlaps a) (childrenOf (s .regions) g))
 
 -- **Child lists** "rise by start; a newcomer goes after equals": i, which starts at a, into a child list.
 abbrev pub insertSorted : List (Option Region) → ℕ → ℕ → List ℕ → List ℕ
@@ -69,5 +69,5 @@ effectiveFrom a e [] = piece a e
 effectiveFrom a e (c ∷ cs) = if isCarve (c .kind) then piece a (c .start) ++ effectiveFrom (c .end) e cs else effectiveFrom a e cs
 
 -- all effective ranges of a region
-abbrev pub effectiveRegions : State → Region → List Range
-effectiveRegions s g = effectiveFrom (g .start) (g .end) (childrenOf (s .regions) g)
+abbrev pub effectiveRanges : State → Region → List Range
+effectiveRanges s g = effectiveFrom (g .start) (g .end) (childrenOf (s .regions) g)

@@ -5,8 +5,9 @@ use mathlib.Core.Option.{Option, none, some}
 use mathlib.Core.List.{[], _∷_, _++_}
 use lib.Dec.{ltb}
 use lib.ListN.{length}
-use Rattle.model.specs.Lists.{if_then_else_, any}
-use Rattle.model.specs.Outcome.{Outcome, ok, _>>_, require, ringFull}
+use Rattle.model.specs.Lists.{if_then_else_, exists}
+use Rattle.model.specs.Outcome.{Outcome, ok, _>>_, require}
+use Rattle.refusals.specs.Refusals.{ringFull}
 use Rattle.model.specs.State.{State, Handle, Update, permission, cleanup, withQueue, domainAt}
 use Rattle.model.specs.Pool.{handleOf, sameHandle}
 
@@ -14,7 +15,7 @@ use Rattle.model.specs.Pool.{handleOf, sameHandle}
 unfoldable pub push : Update → State → Outcome State
 push u s = do
   require (ltb (length (s .queue .items)) (s .sizes .updates)) ringFull
-  ok (withQueue (record { first = s .queue .first; items = s .queue .items ++ (u ∷ []) }) s)
+  ok (withQueue (record { readPlace = s .queue .readPlace; items = s .queue .items ++ (u ∷ []) }) s)
 
 -- Is this the queued domain with that handle?
 abbrev pub isPermissionOf : Handle → Update → Bool
@@ -23,11 +24,11 @@ isPermissionOf h (cleanup a b) = false
 
 -- "A change queues the domain with its core map unless it is queued already."
 unfoldable pub pushPermission : ℕ → State → Outcome State
-pushPermission d s = let h = handleOf (s .domainPool) d in if any (isPermissionOf h) (s .queue .items) then ok s else push (permission h (domainAt s d .cores)) s
+pushPermission d s = let h = handleOf (s .domainPool) d in if exists (isPermissionOf h) (s .queue .items) then ok s else push (permission h (domainAt s d .cores)) s
 
 -- The oldest update leaves; "Pop of an empty ring answers none."
 unfoldable pub pop : State → Option Update × State
 pop s = elim (s .queue .items) [
   | [] ↦ (none, s)
-  | u ∷ us ↦ (some u, withQueue (record { first = (s .queue .first + 1) % (s .sizes .updates + 1); items = us }) s)
+  | u ∷ us ↦ (some u, withQueue (record { readPlace = (s .queue .readPlace + 1) % (s .sizes .updates + 1); items = us }) s)
 ]

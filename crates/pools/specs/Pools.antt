@@ -8,7 +8,7 @@ use lib.ListN.{length, getD, set, take, drop}
 use Rattle.words.specs.Cuts.{cuts, offset}
 use Rattle.sizes.specs.declared.Sizes.{Sizes}
 use Rattle.tables.specs.Tables.{Tables, Arena, withDomainPool, withRegionPool, withRecordPool}
-use Rattle.sizes.specs.Sizes.{sizesOf, widths, poolWidth, sections}
+use Rattle.sizes.specs.Sizes.{sizesOf, widths, poolWidth, sections, domainPoolSection, regionPoolSection, recordPoolSection}
 use Rattle.tables.specs.View.{view, ofParts, Sized, Left, arenaOf}
 use Rattle.tables.specs.Sections.{section, section-inside, section-lent, section-back, only-left}
 use Rattle.pools.specs.declared.Pool.{Pool}
@@ -16,9 +16,9 @@ use Rattle.pools.specs.declared.Pool.the-variants.{Domains, Regions, Rec
 use Rattle.pools.specs.declared.Span.{Span}
 
 abbrev pub poolSection : Pool → ℕ
-poolSection Domains = 1
-poolSection Regions = 2
-poolSection Records = 3
+poolSection Domains = domainPoolSection
+poolSection Regions = regionPoolSection
+poolSection Records = recordPoolSection
 
 abbrev pub poolSlots : Sizes → Pool → ℕ
 poolSlots z Domains = z .domains

@@ -3,7 +3,8 @@ use mathlib.Core.Path.{_≡_, refl, sym, ap, _∙_}
 use mathlib.Core.Bool.{Bool, true, false}
 use mathlib.Core.List.{List}
 use Prim.Native.Nat.{ℕ}
-use Rattle.words.specs.Cases.{pick, both}
+use Rattle.base.specs.Cases.{pick}
+use Rattle.base.specs.Tests.{both}
 use Rattle.tables.specs.Tables.{Tables, noRegion, noRecord, withDomainPool, withRegionPool, withRecordPool, withRegion, withRecord}
 use Rattle.tables.specs.View.{view, Left}
 use Rattle.arena.specs.declared.Freed.{Freed}

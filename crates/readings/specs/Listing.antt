@@ -8,14 +8,14 @@ use native.Mathlib.Omega.{arith}
 use borrow.Author.Tests.{lt-ltb, le-ltb, ltb-true}
 use lib.Dec.{ltb, eqb, leb·suc-suc}
 use lib.ListN.{length, set, length-set}
-use Rattle.words.specs.Cases.{pick}
+use Rattle.base.specs.Cases.{pick}
 use Rattle.tables.specs.Tables.{Tables, recordAt}
 use Rattle.readings.specs.declared.Permission.{Permission}
 use Rattle.tables.specs.Links.{slotTo}
 use Rattle.tracker_records.specs.Links.{firstLink}
 use Rattle.readings.specs.Readings.{recordsFrom, recordsOf, permissionOf, permissionList, foundAt, planOf, fillRun}
 
-abbrev listFrom : Tables → ℕ → ℕ → List Permission
+abbrev pub listFrom : Tables → ℕ → ℕ → List Permission
 listFrom s n k = map permissionOf (recordsFrom n s k)
 
 -- the run after j more turns, from place i and link k on

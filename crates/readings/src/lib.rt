@@ -1,11 +1,12 @@
 // The readings (document 01, **Reading**). Each follows as many links as there are records at most.
 ghost use mathlib.Core.Path.{_≡_};
-ghost use Prim.Native.Nat.{_+_, _≤_, max};
+ghost use Prim.Native.Nat.{_+_, max};
 ghost use lib.ListN.{length};
-ghost use Rattle.words.specs.Cases.{pick};
+ghost use Rattle.base.specs.Cases.{pick};
 ghost use Rattle.tables.specs.View.{view, Sized};
 ghost use Rattle.arena.specs.Arena.{isFreeB};
 ghost use Rattle.readings.specs.Readings.{recordsOf, flagIf, rightsOf, meets, largestReach, permissionList, foundAt, planOf, isHolder, holdersOf, fillRun};
+use rights::Rights;
 use tables::Region;
 use tracker_records::counts;
 use tracker_records::links;
@@ -40,20 +41,22 @@ fn larger(a: u64, b: u64) -> u64
 }
 
 // The flag where its count is above 0, else none.
-fn flag_if(flag: u64, n: u64) -> u64
-    ensures { λ r. ⌜ r ≡ flagIf flag n ⌝ }
-    ensures { λ r. ⌜ r ≤ flag ⌝ }
+fn flag_if(flag: Rights, n: u64) -> Rights
+    ensures { λ r. ⌜ r .0 ≡ flagIf (flag .0) n ⌝ }
 {
-    if 0 < n { flag } else { 0 }
+    if 0 < n { flag } else { Rights::NONE }
 }
 
 // The rights whose count is above 0.
 pub fn get_ops(q: Region) -> u64
     ensures { λ r. ⌜ r ≡ rightsOf q ⌝ }
 {
-    let rw = flag_if(1, q.read_count) + flag_if(2, q.write_count);
-    let rwx = rw + flag_if(4, q.exec_count) + flag_if(8, q.super_count);
-    rwx + flag_if(128, q.uncache_count)
+    let ops = flag_if(Rights::READ, q.read_count)
+        .union(flag_if(Rights::WRITE, q.write_count))
+        .union(flag_if(Rights::EXEC, q.exec_count))
+        .union(flag_if(Rights::SUPER, q.super_count))
+        .union(flag_if(Rights::UNCACHEABLE, q.uncache_count));
+    ops.0 as u64
 }
 
 // The reach of a record that begins at `last` or before and ends after `start`, else 0.

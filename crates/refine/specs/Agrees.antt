@@ -5,99 +5,56 @@ use mathlib.Core.Path.{_≡_, refl, sym, ap, subst, _∙_}
 use Prim.Native.Nat.{ℕ}
 use mathlib.Core.Bool.{Bool, true, false}
 use Rattle.model.specs.Lists.{if_then_else_}
-use Rattle.model.specs.Outcome as outcome
 use Rattle.model.specs.Outcome.{Outcome, ok, refuse, _>>=_, _>>_, require}
 use Rattle.model.specs.State.{State}
-use Rattle.words.specs.Cases.{pick}
 use Rattle.tables.specs.Tables.{Tables}
-use Rattle.answers.specs.declared.Refusal.{Refusal}
-use Rattle.answers.specs.declared.Refusal.the-variants.{Memory, Sizes, NoDomain, NoSlot, WrongKind, Stale, BadRange, Beyond, Root, NotCarried, NoRegion, NoLocal, NoTracker, RingFull, NoDomainRoom, Spent, BadRecord}
+use Rattle.refusals.specs.declared.Refusal.{Refusal}
 use Rattle.answers.specs.declared.Answer.the-variants.{Done, Refused}
-use Rattle.answers.specs.Answers.{Step, numberOf, done, refused, andThen, then-done, then-refused}
+use Rattle.answers.specs.Answers.{Effect, done, refused, andThen, then-done, then-refused}
 use Rattle.decoded.specs.Tables.{tablesOf}
-
--- ---- refusals
-
-abbrev pub refusalFor : outcome.Refusal → Refusal
-refusalFor outcome.memory = Memory
-refusalFor outcome.sizes = Sizes
-refusalFor outcome.noDomain = NoDomain
-refusalFor outcome.noSlot = NoSlot
-refusalFor outcome.wrongKind = WrongKind
-refusalFor outcome.stale = Stale
-refusalFor outcome.badRange = BadRange
-refusalFor outcome.beyond = Beyond
-refusalFor outcome.isRoot = Root
-refusalFor outcome.notCarried = NotCarried
-refusalFor outcome.noRegion = NoRegion
-refusalFor outcome.noLocal = NoLocal
-refusalFor outcome.noTracker = NoTracker
-refusalFor outcome.ringFull = RingFull
-refusalFor outcome.noDomainRoom = NoDomainRoom
-refusalFor outcome.spent = Spent
-refusalFor outcome.badRecord = BadRecord
-
-pub same-number : (r : outcome.Refusal) → numberOf (refusalFor r) ≡ outcome.number r
-same-number outcome.memory = refl
-same-number outcome.sizes = refl
-same-number outcome.noDomain = refl
-same-number outcome.noSlot = refl
-same-number outcome.wrongKind = refl
-same-number outcome.stale = refl
-same-number outcome.badRange = refl
-same-number outcome.beyond = refl
-same-number outcome.isRoot = refl
-same-number outcome.notCarried = refl
-same-number outcome.noRegion = refl
-same-number outcome.noLocal = refl
-same-number outcome.noTracker = refl
-same-number outcome.ringFull = refl
-same-number outcome.noDomainRoom = refl
-same-number outcome.spent = refl
-same-number outcome.badRecord = refl
 
 -- ---- a step and a call
 
-abbrev pub Agrees : Step → Outcome (ℕ × State) → Type 0
+abbrev pub Agrees : Effect → Outcome (ℕ × State) → Type 0
 Agrees x (ok y) = (x .answer ≡ Done (y .0)) × (x .tables ≡ tablesOf (y .1))
-Agrees x (refuse r) = x .answer ≡ Refused (refusalFor r)
+Agrees x (refuse r) = x .answer ≡ Refused r
 
 pub agrees-done : (v : ℕ) (t : Tables) (s : State) → t ≡ tablesOf s → Agrees (done v t) (ok (v, s))
 agrees-done v t s e = (refl, e)
 
-pub agrees-refused : (r : outcome.Refusal) (t : Tables) → Agrees (refused (refusalFor r) t) (refuse r)
+pub agrees-refused : (r : Refusal) (t : Tables) → Agrees (refused r t) (refuse r)
 agrees-refused r t = refl
 
 -- another step, or another call, that is the same
-pub agrees-step : (x y : Step) (m : Outcome (ℕ × State)) → x ≡ y → Agrees y m → Agrees x m
-agrees-step x y m e h = subst (λ (z : Step). Agrees z m) (sym e) h
+pub agrees-step : (x y : Effect) (m : Outcome (ℕ × State)) → x ≡ y → Agrees y m → Agrees x m
+agrees-step x y m e h = subst (λ (z : Effect). Agrees z m) (sym e) h
 
-pub agrees-call : (x : Step) (m n : Outcome (ℕ × State)) → m ≡ n → Agrees x n → Agrees x m
+pub agrees-call : (x : Effect) (m n : Outcome (ℕ × State)) → m ≡ n → Agrees x n → Agrees x m
 agrees-call x m n e h = subst (Agrees x) (sym e) h
 
 -- ---- one after another
 
-go-on : (x : Step) (f : ℕ → Tables → Step) (v : ℕ) (s : State) (m : Outcome (ℕ × State)) → Agrees x (ok (v, s)) → Agrees (f v (tablesOf s)) m → Agrees (andThen x f) m
+go-on : (x : Effect) (f : ℕ → Tables → Effect) (v : ℕ) (s : State) (m : Outcome (ℕ × State)) → Agrees x (ok (v, s)) → Agrees (f v (tablesOf s)) m → Agrees (andThen x f) m
 go-on x f v s m h k = agrees-step (andThen x f) (f v (tablesOf s)) m (then-done x f v (h .0) ∙ ap (f v) (h .1)) k
 
-stop : (x : Step) (f : ℕ → Tables → Step) (r : outcome.Refusal) → x .answer ≡ Refused (refusalFor r) → andThen x f .answer ≡ Refused (refusalFor r)
-stop x f r h = ap (λ (z : Step). z .answer) (then-refused x f (refusalFor r) h)
+stop : (x : Effect) (f : ℕ → Tables → Effect) (r : Refusal) → x .answer ≡ Refused r → andThen x f .answer ≡ Refused r
+stop x f r h = ap (λ (z : Effect). z .answer) (then-refused x f r h)
 
 -- the first call gives some y, from which its number and its state are known
-pub agrees-from : {A : Type 0} (x : Step) (f : ℕ → Tables → Step) (m : Outcome A) (g : A → ℕ × State) (k : A → Outcome (ℕ × State))
+pub agrees-from : {A : Type 0} (x : Effect) (f : ℕ → Tables → Effect) (m : Outcome A) (g : A → ℕ × State) (k : A → Outcome (ℕ × State))
     → Agrees x (m >>= λ y. ok (g y)) → ((y : A) → m ≡ ok y → Agrees (f (g y .0) (tablesOf (g y .1))) (k y)) → Agrees (andThen x f) (m >>= k)
 unfolding _>>=_
 agrees-from x f (ok y) g k h j = go-on x f (g y .0) (g y .1) (k y) h (j y refl)
 agrees-from x f (refuse r) g k h j = stop x f r h
 
-pub agrees-then : (x : Step) (f : ℕ → Tables → Step) (m : Outcome (ℕ × State)) (k : ℕ × State → Outcome (ℕ × State))
+pub agrees-then : (x : Effect) (f : ℕ → Tables → Effect) (m : Outcome (ℕ × State)) (k : ℕ × State → Outcome (ℕ × State))
     → Agrees x m → ((v : ℕ) (s : State) → m ≡ ok (v, s) → Agrees (f v (tablesOf s)) (k (v, s))) → Agrees (andThen x f) (m >>= k)
 unfolding _>>=_
 agrees-then x f (ok y) k h j = go-on x f (y .0) (y .1) (k y) h (j (y .0) (y .1) refl)
 agrees-then x f (refuse r) k h j = stop x f r h
 
 -- the first call has no number: the step answers 0
-pub agrees-state : (x : Step) (f : Tables → Step) (m : Outcome State) (k : State → Outcome (ℕ × State))
+pub agrees-state : (x : Effect) (f : Tables → Effect) (m : Outcome State) (k : State → Outcome (ℕ × State))
     → Agrees x (m >>= λ s. ok (0, s)) → ((s : State) → m ≡ ok s → Agrees (f (tablesOf s)) (k s)) → Agrees (andThen x (λ v. f)) (m >>= k)
 agrees-state x f m k h j = agrees-from x (λ v. f) m (λ s. (0, s)) k h j
 

@@ -5,15 +5,14 @@ use mathlib.Core.Option.{none}
 use mathlib.Core.List.{List, [], _∷_, map}
 use native.Mathlib.Omega.{arith}
 use native.Mathlib.Nat.{mod-eq-of-lt, add-mod-right}
-use lib.Dec.{eqb}
 use lib.ListN.{length, replicate}
-use Rattle.model.specs.Lists.{any, slotOf, countUp, firstOf, afterIn}
+use Rattle.model.specs.Lists.{atSlot, countUp, firstOf, exists, afterIn}
+use Rattle.base.specs.Cases.{lt, ge, cmp, holds, fails, test}
 use Rattle.model.specs.Locals.{freshLocals}
 use Rattle.model.specs.State as state
 use Rattle.model.specs.Layout.{words, slotOr0, freeLink}
 use Rattle.model.specs.Pool.{freshPool}
 use Rattle.model.specs.Making.{emptyTables}
-use Rattle.laws.specs.Cases.{lt, ge, cmp, holds, fails, test}
 use Rattle.laws.specs.Parts.{up-length}
 use Rattle.tables.specs.Tables.{noRegion, noRecord, noUpdate}
 use Rattle.tables.specs.View.{layout}
@@ -22,7 +21,7 @@ use Rattle.making.specs.Empty.{empty, emptyDomain}
 use Rattle.decoded.specs.Rows.{same-up, replicate-up}
 use Rattle.laws.specs.Empty.{free-slot}
 use Rattle.decoded.specs.Links.{up-link, up-last}
-use Rattle.decoded.specs.Tables.{sizesFor, poolOf, freeSlot, slotFor, slotsFor, domainFor, regionFor, recordIn, placeFor, domainsFor, regionsFor, recordsFor, ringFor, tablesOf}
+use Rattle.decoded.specs.Tables.{sizesFor, poolOf, domainFor, regionFor, recordIn, placeFor, domainsFor, regionsFor, recordsFor, ringFor, tablesOf}
 use Rattle.decoded.specs.Words.{layout-tables}
 
 -- ---- a pool with every slot free
@@ -31,10 +30,6 @@ links-up : (n k m : ℕ) → map (freshLink n) (countUp k m) ≡ linksFrom n k m
 unfolding linksFrom
 links-up n k zero = refl
 links-up n k (suc m) = ap (λ (l : List ℕ). freshLink n k ∷ l) (links-up n (suc k) m)
-
-fresh-suc : (n i : ℕ) → freshLink n i ≡ suc ((i + 1) % n)
-unfolding freshLink
-fresh-suc n i = omega arith
 
 fresh-link : (n i : ℕ) → i < n → freeLink (countUp 0 n) i ≡ freshLink n i
 unfolding freshLink
@@ -47,18 +42,7 @@ fresh-link n i h = elim (cmp (suc i) n) [
       up-last i 0 n (omega arith) (omega arith) ∙ omega (arith, m)
 ]
 
--- a free slot's link names the slot after it
-after-link : (l : List ℕ) (i k : ℕ) → freeLink l i ≡ suc k → slotOr0 (afterIn l i) ≡ k
-after-link l i k e = elim (test (any (eqb i) l)) [ holds t ↦ omega (arith, rw t at e) | fails t ↦ absurd (omega (arith, rw t at e)) ]
-
--- the list of a new domain: each slot has the next one after it, the last slot 0
-pub fresh-slots : (n : ℕ) → slotsFor n (freshLocals n) ≡ map (λ i. freeSlot ((i + 1) % n)) (countUp 0 n)
-fresh-slots n =
-    same-up (λ i. slotFor (countUp 0 n) i (slotOf (replicate n none) i)) (λ i. freeSlot ((i + 1) % n)) n (λ i h.
-    ap (slotFor (countUp 0 n) i) (free-slot n i)
-    ∙ ap freeSlot (after-link (countUp 0 n) i ((i + 1) % n) (fresh-link n i h ∙ fresh-suc n i)))
-
-fresh-head : (n : ℕ) → slotOr0 (firstOf (countUp 0 n)) ≡ 0
+pub fresh-head : (n : ℕ) → slotOr0 (firstOf (countUp 0 n)) ≡ 0
 fresh-head zero = refl
 fresh-head (suc n) = refl
 
@@ -82,10 +66,10 @@ empty-tables z =
     let p₁ = fresh-pool (z .domains) in
     let p₂ = fresh-pool (z .regions) in
     let p₃ = fresh-pool (z .records) in
-    let p₄ = replicate-up (λ i. domainFor (z .slots) (slotOf (replicate (z .domains) none) i)) (emptyDomain (sizesFor z)) (z .domains) (λ i h. ap (domainFor (z .slots)) (free-slot (z .domains) i)) in
-    let p₅ = replicate-up (λ i. regionFor (replicate (z .regions) none) i (slotOf (replicate (z .regions) none) i)) noRegion (z .regions) (λ i h. ap (regionFor (replicate (z .regions) none) i) (free-slot (z .regions) i)) in
+    let p₄ = replicate-up (λ i. domainFor (z .slots) (atSlot (replicate (z .domains) none) i)) (emptyDomain (sizesFor z)) (z .domains) (λ i h. ap (domainFor (z .slots)) (free-slot (z .domains) i)) in
+    let p₅ = replicate-up (λ i. regionFor (replicate (z .regions) none) i (atSlot (replicate (z .regions) none) i)) noRegion (z .regions) (λ i h. ap (regionFor (replicate (z .regions) none) i) (free-slot (z .regions) i)) in
     let p₆ = replicate-up (recordIn (replicate (z .domains) none)) noRecord (z .records) (λ i h. no-record (z .domains) i) in
-    let p₇ = replicate-up (placeFor (z .updates) (record { first = 0; items = [] })) noUpdate (z .updates + 1) (λ i h. refl) in
+    let p₇ = replicate-up (placeFor (z .updates) (record { readPlace = 0; items = [] })) noUpdate (z .updates + 1) (λ i h. refl) in
     λ i. record { sizes = sizesFor z; read = 0; write = w i; domainPool = p₁ i; regionPool = p₂ i; recordPool = p₃ i; domains = p₄ i; regions = p₅ i; records = p₆ i; ring = p₇ i }
 
 -- what `make_empty` leaves

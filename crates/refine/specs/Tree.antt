@@ -1,6 +1,6 @@
 -- The region tree in the tables.
 pub mod Search
-pub mod Joins
-pub mod Comes
+pub mod ChildLists
+pub mod NewChild
 pub mod ChildChecks
 pub mod RegionSteps

@@ -12,9 +12,9 @@ use Rattle.sizes.specs.Sizes.{sizesOf}
 use Rattle.tables.specs.View.{view, ofParts, Sized, Left}
 use Rattle.answers.specs.declared.Answer.{Answer}
 use Rattle.answers.specs.declared.Answer.the-variants.{Done, Refused}
-use Rattle.answers.specs.declared.Refusal.{Refusal}
-use Rattle.answers.specs.declared.Refusal.the-variants.{Memory}
-use Rattle.answers.specs.Answers.{Step, andThen, then-done, then-refused}
+use Rattle.refusals.specs.declared.Refusal.{Refusal}
+use Rattle.refusals.specs.Refusals.{memory}
+use Rattle.answers.specs.Answers.{Effect, andThen, then-done, then-refused}
 use Rattle.region.specs.declared.AccessRights.{AccessRights}
 use Rattle.region.specs.declared.Cursor.{Cursor}
 use Rattle.region.specs.declared.Progress.{Progress}
@@ -23,15 +23,12 @@ use Rattle.region.specs.declared.Way.{Way}
 use Rattle.region.specs.declared.Way.the-variants.{Merge}
 use Rattle.tracker_records.specs.Counts.{lowered, changesB}
 use Rattle.tables.specs.Links.{slotTo}
+use Rattle.answers.specs.Then.{stays}
 use Rattle.tracker_records.specs.Links.{withNext, firstLink, freedRecord}
 use Rattle.region.specs.Turns.{onward, nextOf, droppedOf, lowerTurn, turn, walk, walked}
 
--- the memory as it was found
-pub kept : (t : List ℕ) → Sized t → Left t (view t)
-kept t s = record { seen = refl; sized = s }
-
 -- a step that is done goes onward with its value; one that is refused ends the walk
-module _ (x : Step) (f : ℕ → Cursor) (r : Answer) (u : List ℕ) (h : (r ≡ x .answer) × Left u (x .tables)) where
+module _ (x : Effect) (f : ℕ → Cursor) (r : Answer) (u : List ℕ) (h : (r ≡ x .answer) × Left u (x .tables)) where
   pub onward-done : (v : ℕ) → r ≡ Done v → (Going (f v) ≡ onward x f .answer) × Left u (onward x f .tables)
   onward-done v e = rw (← (h .0), e) (refl, h .1)
 
@@ -58,9 +55,9 @@ module _ (w : Way) (d : ℕ) (a : AccessRights) (t : List ℕ) where
   unfolding walked view ofParts sizesOf
   walk-start n k changed en ek = rw (en, ek)
 
-  pub walk-end : (c : Cursor) (n : ℕ) → n ≤ 0 → Sized t → (Refused Memory ≡ walk w d a n c (view t) .answer) × Left t (walk w d a n c (view t) .tables)
+  pub walk-end : (c : Cursor) (n : ℕ) → n ≤ 0 → Sized t → (Refused memory ≡ walk w d a n c (view t) .answer) × Left t (walk w d a n c (view t) .tables)
   unfolding walk
-  walk-end c n h s = let e : n ≡ 0 = omega arith in rw e (refl, kept t s)
+  walk-end c n h s = let e : n ≡ 0 = omega arith in rw e (refl, stays t s)
 
   -- one turn
   module _ (c : Cursor) (n : ℕ) (h : 0 < n) (r : Progress) (u : List ℕ) (er : (r ≡ turn w (view t) d a c .answer) × Left u (turn w (view t) d a c .tables)) where

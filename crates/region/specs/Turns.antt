@@ -2,13 +2,13 @@
 use mathlib.Core.Bool.{Bool, true, false}
 use Prim.Native.Nat.{ℕ, zero, suc, _+_, _*_}
 use lib.Dec.{eqb, ltb, leb}
-use Rattle.words.specs.Cases.{pick}
+use Rattle.base.specs.Cases.{pick}
 use Rattle.tables.specs.declared.Region.{Region}
 use Rattle.tables.specs.Tables.{Tables, recordAt, withRecord}
 use Rattle.answers.specs.declared.Answer.{Answer}
 use Rattle.answers.specs.declared.Answer.the-variants.{Done, Refused}
-use Rattle.answers.specs.declared.Refusal.the-variants.{Memory}
-use Rattle.answers.specs.Answers.{Step, refused, andThen}
+use Rattle.refusals.specs.Refusals.{memory}
+use Rattle.answers.specs.Answers.{Effect, refused, andThen}
 use Rattle.region.specs.declared.AccessRights.{AccessRights}
 use Rattle.region.specs.declared.Cursor.{Cursor}
 use Rattle.region.specs.declared.Progress.{Progress}
@@ -32,7 +32,7 @@ afterStep (Done v) f = Going (f v)
 afterStep (Refused r) f = Over (Refused r)
 
 -- a step, and the cursor that its value gives
-abbrev pub onward : Step → (ℕ → Cursor) → Turn
+abbrev pub onward : Effect → (ℕ → Cursor) → Turn
 onward x f = record { answer = afterStep (x .answer) f; tables = x .tables }
 
 abbrev pub over : Cursor → Tables → Turn
@@ -121,8 +121,8 @@ turn Merge s d a c = mergeTurn s c
 -- ---- walks
 
 -- n turns at most. A walk over linked records needs fewer; 1 where the links go round.
-unfoldable pub walk : Way → ℕ → AccessRights → ℕ → Cursor → Tables → Step
-walk w d a zero c s = refused Memory s
+unfoldable pub walk : Way → ℕ → AccessRights → ℕ → Cursor → Tables → Effect
+walk w d a zero c s = refused memory s
 walk w d a (suc n) c s = elim (turn w s d a c .answer) [ Going k ↦ walk w d a n k (turn w s d a c .tables) | Over x ↦ record { answer = x; tables = turn w s d a c .tables } ]
 
 -- enough for each way: a record has three turns at most
@@ -130,13 +130,13 @@ abbrev pub turns : Tables → ℕ
 turns s = 3 * s .sizes .records + 3
 
 -- from domain d's first record
-unfoldable pub walked : Way → ℕ → AccessRights → ℕ → Tables → Step
+unfoldable pub walked : Way → ℕ → AccessRights → ℕ → Tables → Effect
 walked w d a changed s = walk w d a (turns s) (record { prev = 0; at = firstLink s d; start = a .start; changed = changed }) s
 
 -- ---- the whole gain and the whole loss of a range (the model's gain and lose); the answer is 1 where a count left or came to 0, else 0
 
-unfoldable pub addRegion : ℕ → AccessRights → Tables → Step
+unfoldable pub addRegion : ℕ → AccessRights → Tables → Effect
 addRegion d a s = andThen (walked Add d a 0 s) (walked Merge d a)
 
-unfoldable pub removeRegion : ℕ → AccessRights → Tables → Step
+unfoldable pub removeRegion : ℕ → AccessRights → Tables → Effect
 removeRegion d a s = andThen (walked Remove d a 0 s) (walked Merge d a)

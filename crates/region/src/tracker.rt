@@ -8,7 +8,7 @@ use crate::Progress;
 use crate::Way;
 use crate::turns;
 use answers::Answer;
-use answers::Refusal;
+use refusals::Refusal;
 use tracker_records::links;
 
 // A walk from the first record on. The bound on its turns is met only where links go round.
@@ -33,7 +33,7 @@ fn walk(t: &mut [u64], d: usize, way: Way, a: AccessRights, changed: u64) -> Ans
         }
         left -= 1;
     }
-    Answer::Refused(Refusal::Memory)
+    Answer::Refused(Refusal::MEMORY)
 }
 
 // Domain d gains the range; answers 1 where a count left or came to 0, else 0.

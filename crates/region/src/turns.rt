@@ -8,7 +8,6 @@ use crate::Cursor;
 use crate::Progress;
 use crate::Way;
 use answers::Answer;
-use answers::Refusal;
 use tables::Region;
 use tracker_records::counts;
 use tracker_records::links;

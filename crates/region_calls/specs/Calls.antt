@@ -2,12 +2,12 @@
 use mathlib.Core.Bool.{true, false}
 use Prim.Native.Nat.{ℕ}
 use lib.Dec.{eqb}
-use Rattle.words.specs.Cases.{pick}
+use Rattle.base.specs.Cases.{pick}
 use Rattle.tables.specs.declared.Handle.{Handle}
 use Rattle.tables.specs.Kinds.{REGION, ROOT, ALIAS, CARVE}
 use Rattle.tables.specs.Tables.{Tables, regionAt}
-use Rattle.answers.specs.declared.Refusal.the-variants.{Beyond}
-use Rattle.answers.specs.Answers.{Step, done, refused, andThen}
+use Rattle.refusals.specs.Refusals.{beyond}
+use Rattle.answers.specs.Answers.{Effect, done, refused, andThen}
 use Rattle.region.specs.declared.AccessRights.{AccessRights}
 use Rattle.tables.specs.Links.{linkTo}
 use Rattle.domain.specs.Activate.{insert, activate, deactivate}
@@ -16,10 +16,10 @@ use Rattle.segment.specs.Regions.{access, capaFor, newRegion}
 use Rattle.checks.specs.Checks.{liveDomain, regionHeld, roomForRegion, capaOf}
 
 -- region i in domain d's list
-unfoldable pub heldRegion : ℕ → ℕ → Tables → Step
+unfoldable pub heldRegion : ℕ → ℕ → Tables → Effect
 heldRegion d i s = insert d (capaOf REGION (s .regionPool) i) s
 
-unfoldable pub createRootRegion : Handle → AccessRights → Tables → Step
+unfoldable pub createRootRegion : Handle → AccessRights → Tables → Effect
 createRootRegion h a s =
     andThen (liveDomain h s) (λ d s₁.
     andThen (roomForRegion d a s₁) (λ u s₂.
@@ -28,25 +28,25 @@ createRootRegion h a s =
     andThen (activate d a s₄) (λ v. done l)))))
 
 -- a child of region p, an alias or a carve by that kind
-unfoldable pub addChild : ℕ → ℕ → ℕ → AccessRights → Tables → Step
+unfoldable pub addChild : ℕ → ℕ → ℕ → AccessRights → Tables → Effect
 addChild d p kind a s = andThen (newRegion (capaFor d kind (linkTo p) a) s) (λ i s₁. heldRegion d i (insertChild s₁ p i))
 
-unfoldable pub aliasRegion : Handle → ℕ → AccessRights → Tables → Step
+unfoldable pub aliasRegion : Handle → ℕ → AccessRights → Tables → Effect
 aliasRegion h l a s =
     andThen (liveDomain h s) (λ d s₁.
     andThen (regionHeld d l s₁) (λ p s₂.
     andThen (roomForRegion d a s₂) (λ u s₃.
-    pick (checkChild true s₃ p a) (andThen (addChild d p ALIAS a s₃) (λ n s₄. andThen (activate d a s₄) (λ v. done n))) (refused Beyond s₃))))
+    pick (checkChild true s₃ p a) (andThen (addChild d p ALIAS a s₃) (λ n s₄. andThen (activate d a s₄) (λ v. done n))) (refused beyond s₃))))
 
 -- the range is lost with the parent's rights and gained with its own, where these differ
-unfoldable pub exchangeRights : ℕ → ℕ → AccessRights → Tables → Step
+unfoldable pub exchangeRights : ℕ → ℕ → AccessRights → Tables → Effect
 exchangeRights d old a s =
     pick (eqb old (a .ops .0)) (done 0 s) (andThen (deactivate d (access (a .start) (a .end) old) s) (λ v. activate d a))
 
-unfoldable pub carveRegion : Handle → ℕ → AccessRights → Tables → Step
+unfoldable pub carveRegion : Handle → ℕ → AccessRights → Tables → Effect
 carveRegion h l a s =
     andThen (liveDomain h s) (λ d s₁.
     andThen (regionHeld d l s₁) (λ p s₂.
     andThen (roomForRegion d a s₂) (λ u s₃.
     pick (checkChild false s₃ p a)
-    (andThen (addChild d p CARVE a s₃) (λ n s₄. andThen (exchangeRights d (regionAt s₃ p .rights) a s₄) (λ v. done n))) (refused Beyond s₃))))
+    (andThen (addChild d p CARVE a s₃) (λ n s₄. andThen (exchangeRights d (regionAt s₃ p .rights) a s₄) (λ v. done n))) (refused beyond s₃))))

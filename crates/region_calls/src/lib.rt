@@ -4,7 +4,7 @@ ghost use Rattle.tables.specs.View.{view, Sized, Left};
 ghost use Rattle.region_calls.specs.Calls.{heldRegion, createRootRegion, addChild, aliasRegion, exchangeRights, carveRegion};
 ghost use Rattle.region_calls.specs.Parts.{rooted, aliased, carved};
 use answers::Answer;
-use answers::Refusal;
+use refusals::Refusal;
 use region::AccessRights;
 use tables::Handle;
 use tables::RegionCapa;
@@ -84,7 +84,7 @@ fn alias(t: &mut [u64], d: usize, p: usize, a: AccessRights) -> Answer
     ensures { λ _. ⌜ Left (now (t .exit)) (aliased d p a (view (now (t .entry))) .tables) ⌝ }
 {
     if !segment::check_alias(t, p, a) {
-        return Answer::Refused(Refusal::Beyond);
+        return Answer::Refused(Refusal::BEYOND);
     }
     match add_child(t, d, p, RegionCapa::ALIAS, a) {
         Answer::Done(n) => match domain::activate_region(t, d, a) {
@@ -137,7 +137,7 @@ fn carve(t: &mut [u64], d: usize, p: usize, a: AccessRights) -> Answer
     ensures { λ _. ⌜ Left (now (t .exit)) (carved d p a (view (now (t .entry))) .tables) ⌝ }
 {
     if !segment::check_carve(t, p, a) {
-        return Answer::Refused(Refusal::Beyond);
+        return Answer::Refused(Refusal::BEYOND);
     }
     let parent = tables::load_region(t, p);
     match add_child(t, d, p, RegionCapa::CARVE, a) {

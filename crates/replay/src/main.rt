@@ -2,7 +2,6 @@
 // for each (oracle/README.md, "Replay"). A call is eight 64-bit words, little-endian: its kind, and its arguments.
 ghost use Rattle.tables.specs.View.{Sized};
 use answers::Answer;
-use answers::Refusal;
 use calls::Call;
 use calls::Child;
 use region::AccessRights;
@@ -59,32 +58,9 @@ fn call_of(c: Request) -> Call {
         4 => Call::Carve(child(h, c)),
         5 => Call::Send(h, c.c as usize, c.d as usize),
         6 => Call::Revoke(h, c.c as usize),
-        7 => Call::MakeRevoke(h, c.c as usize),
+        7 => Call::CreateRevokeCapa(h, c.c as usize),
         8 => Call::Channel(h, handle(c.c, c.d)),
-        _ => Call::SetCores(h, c.c),
-    }
-}
-
-// Document 01's number of each refusal.
-fn number_of(r: Refusal) -> u64 {
-    match r {
-        Refusal::Memory => 1,
-        Refusal::Sizes => 2,
-        Refusal::NoDomain => 3,
-        Refusal::NoSlot => 4,
-        Refusal::WrongKind => 5,
-        Refusal::Stale => 6,
-        Refusal::BadRange => 7,
-        Refusal::Beyond => 8,
-        Refusal::Root => 9,
-        Refusal::NotCarried => 10,
-        Refusal::NoRegion => 11,
-        Refusal::NoLocal => 12,
-        Refusal::NoTracker => 13,
-        Refusal::RingFull => 14,
-        Refusal::NoDomainRoom => 15,
-        Refusal::Spent => 16,
-        Refusal::BadRecord => 17,
+        _ => Call::SetCoreMap(h, c.c),
     }
 }
 
@@ -112,7 +88,7 @@ fn run_change(t: &mut [u64], w: &mut [u64], c: Request)
         }
         Answer::Refused(r) => {
             words::copy(w, t);
-            output::number(number_of(r));
+            output::number(r.0);
         }
     }
 }

@@ -11,16 +11,16 @@ use Rattle.tables.specs.declared.RegionCapa.{RegionCapa}
 use Rattle.tables.specs.Links.{slotTo}
 use Rattle.tables.specs.Tables.{Tables, regionAt}
 use Rattle.tables.specs.View.{view, Sized}
-use Rattle.answers.specs.declared.Refusal.{Refusal}
-use Rattle.answers.specs.declared.Refusal.the-variants.{Memory}
+use Rattle.refusals.specs.declared.Refusal.{Refusal}
+use Rattle.refusals.specs.Refusals.{memory}
 use Rattle.answers.specs.declared.Answer.{Answer}
 use Rattle.answers.specs.declared.Answer.the-variants.{Done, Refused}
 use Rattle.answers.specs.Answers.{andThen}
-use Rattle.answers.specs.Then.{Ran, stays, step-done, on-refused}
+use Rattle.answers.specs.Then.{Realizes, stays, step-done, on-refused}
 use Rattle.revocation.specs.Revoke.{revokeLeaf, revokeRegion}
 
 module _ (n i : ℕ) where
-  pub revoke-out : (u : List ℕ) → Sized u → n ≡ 0 → Ran u (Refused Memory) (revokeRegion n i (view u))
+  pub revoke-out : (u : List ℕ) → Sized u → n ≡ 0 → Realizes u (Refused memory) (revokeRegion n i (view u))
   unfolding revokeRegion
   revoke-out u s z = rw z (refl, stays u s)
 
@@ -42,11 +42,11 @@ module _ (n i : ℕ) where
           go zero h = absurd (omega arith)
           go (suc n) h = let z : suc n - 1 ≡ n = omega arith in rw (← eg, ne-eqb (g .child) 0 nk, z)
 
-      module _ (u : List ℕ) (a : Answer) (ran : Ran u a (revokeRegion (n - 1) (slotTo (g .child)) s)) where
+      module _ (u : List ℕ) (a : Answer) (ran : Realizes u a (revokeRegion (n - 1) (slotTo (g .child)) s)) where
         pub revoke-on : (v : ℕ) → a ≡ Done v → revokeRegion (n - 1) i (view u) ≡ revokeRegion n i s
         revoke-on v d = sym (step-done _ _ u a ran v d) ∙ below
 
-        pub revoke-refused : (q : Refusal) → a ≡ Refused q → Ran u (Refused q) (revokeRegion n i s)
+        pub revoke-refused : (q : Refusal) → a ≡ Refused q → Realizes u (Refused q) (revokeRegion n i s)
         revoke-refused q d = rw (← below) (on-refused _ _ u a ran q d)
 
 -- ---- the flag that asks for cleanup

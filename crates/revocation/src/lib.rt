@@ -3,7 +3,7 @@ ghost use mathlib.Core.Path.{_≡_};
 ghost use Rattle.tables.specs.View.{view, Sized, Left};
 ghost use Rattle.revocation.specs.Revoke.{leaveParent, giveBack, cleanupIf, revokeLeaf, revokeRegion, revoke};
 use answers::Answer;
-use answers::Refusal;
+use refusals::Refusal;
 use rights::Rights;
 use tables::RegionCapa;
 
@@ -84,7 +84,7 @@ fn revoke_region(t: &mut [u64], i: usize, left: u64) -> Answer
             Answer::Refused(r) => return Answer::Refused(r),
         }
     }
-    Answer::Refused(Refusal::Memory)
+    Answer::Refused(Refusal::MEMORY)
 }
 
 // There are no more regions to free than are live.

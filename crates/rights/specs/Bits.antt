@@ -1,7 +1,7 @@
 -- The bits of a number: what the laws of the rights word rest on.
 use Prim.Native.Nat.{ℕ, zero, suc, _+_, _/_, _%_, _^_, _≤_, _<_}
 use mathlib.Core.Path.{_≡_, refl, sym, ap, _∙_, subst}
-use mathlib.Core.Bool.{true, false, not, _&&_, _||_}
+use mathlib.Core.Bool.{Bool, true, false, not, _&&_, _||_}
 use mathlib.Core.Logic.{_↔_}
 use native.Mathlib.Nat.{pow-suc, zero-div}
 use native.Mathlib.Numerals.{one-add}
@@ -11,7 +11,12 @@ use lib.Bits.{bitAnd, bitOr, and-shr, and-mod, or-shr, or-mod}
 use lib.Dec.{T, eqb, eqb·zero-suc, eqb·suc-zero, eqb·suc-suc}
 use lib.Ieee.Fits.{eq→eqb}
 use lib.Pow.{shr-shr}
-use Rattle.rights.specs.Rights.{bit, count}
+use Rattle.rights.specs.Rights.{has}
+use Rattle.rights.specs.Counters.{oneIf}
+
+-- Is bit k set?
+abbrev pub bit : ℕ → ℕ → Bool
+bit k rights = has rights (2 ^ k)
 
 -- What holds of 0 and of 1 holds of each number's lowest digit.
 digit : (P : ℕ → Type 0) → P 0 → P 1 → (x : ℕ) → x < 2 → P x
@@ -37,8 +42,8 @@ pub bit-and : (k a b : ℕ) → bit k (bitAnd a b) ≡ (bit k a && bit k b)
 bit-and k a b = rw (and-shr a b k, and-mod (a / 2 ^ k) (b / 2 ^ k) 1) (and-lowest (a / 2 ^ k) (b / 2 ^ k))
 
 -- A bit as a number is the binary digit.
-pub bit-digit : (k a : ℕ) → count (bit k a) ≡ a / 2 ^ k % 2
-bit-digit k a = lowest (λ x. count (eqb x 1) ≡ x) refl refl (a / 2 ^ k)
+pub bit-digit : (k a : ℕ) → oneIf (bit k a) ≡ a / 2 ^ k % 2
+bit-digit k a = lowest (λ x. oneIf (eqb x 1) ≡ x) refl refl (a / 2 ^ k)
 
 bit-suc : (k a : ℕ) → bit (suc k) a ≡ bit k (a / 2)
 bit-suc k a = rw (← one-add k, ← shr-shr a 1 k)
@@ -62,7 +67,7 @@ same-below : (n a b : ℕ) → a ≤ n → b ≤ n → ((k : ℕ) → bit k a �
 same-below zero a b p q h = omega arith
 same-below (suc n) a b p q h =
     let halves = same-below n (a / 2) (b / 2) (half-le p) (half-le q) (λ k. sym (bit-suc k a) ∙ h (suc k) ∙ bit-suc k b) in
-    let lows : a / 1 % 2 ≡ b / 1 % 2 = sym (bit-digit 0 a) ∙ ap count (h 0) ∙ bit-digit 0 b in
+    let lows : a / 1 % 2 ≡ b / 1 % 2 = sym (bit-digit 0 a) ∙ ap oneIf (h 0) ∙ bit-digit 0 b in
     omega arith
 
 pub same-bits : (a b : ℕ) → ((k : ℕ) → bit k a ≡ bit k b) → a ≡ b

@@ -7,8 +7,9 @@ use mathlib.Core.List.{[], _∷_, map}
 use lib.Bits.{bitAnd}
 use lib.Dec.{T, eqb, eqb→eq, eqb-refl}
 use lib.Ieee.Fits.{and-l, eq→eqb}
-use Rattle.rights.specs.Rights.{READ, WRITE, EXEC, SUPER, HASH, CLEANUP, VITAL, UNCACHEABLE, bit, union, contains, intersects, most, allowed, count}
-use Rattle.rights.specs.Bits.{bit-or, bit-and, bit-digit, bit-power, same-bits, some-bit}
+use Rattle.rights.specs.Rights.{READ, WRITE, EXEC, SUPER, HASH, CLEANUP, VITAL, UNCACHEABLE, union, contains, withExtras, allowed}
+use Rattle.rights.specs.Counters.{intersects, oneIf}
+use Rattle.rights.specs.Bits.{bit-or, bit-and, bit-digit, bit-power, same-bits, some-bit, bit}
 
 -- The flags are the bits 0 to 7.
 pub flag-bits : map (λ k. 2 ^ k) (0 ∷ 1 ∷ 2 ∷ 3 ∷ 4 ∷ 5 ∷ 6 ∷ 7 ∷ [])
@@ -38,14 +39,14 @@ intersects-bits a b = (
   λ w. some-bit (bitAnd a b) .1 (w .0, subst T (sym (bit-and (w .0) a b)) (w .1)),
 )
 
-most-bits : (k p : ℕ) → bit k (most p) ≡ (bit k p || eqb k 4 || eqb k 5 || eqb k 6)
-most-bits k p = simp (bit-union, bit-power k 4, bit-power k 5, bit-power k 6)
+extras-bits : (k p : ℕ) → bit k (withExtras p) ≡ (bit k p || eqb k 4 || eqb k 5 || eqb k 6)
+extras-bits k p = simp (bit-union, bit-power k 4, bit-power k 5, bit-power k 6)
 
 -- A child's rights are allowed exactly if each bit is the parent's, or is bit 4, 5 or 6: HASH, CLEANUP or VITAL.
 pub allowed-bits : (p c : ℕ) → T (allowed p c) ↔ ((k : ℕ) → T (bit k c) → T (bit k p || eqb k 4 || eqb k 5 || eqb k 6))
 allowed-bits p c = (
-  λ t k u. subst T (most-bits k p) (contains-bits (most p) c .0 t k u),
-  λ h. contains-bits (most p) c .1 (λ k u. subst T (sym (most-bits k p)) (h k u)),
+  λ t k u. subst T (extras-bits k p) (contains-bits (withExtras p) c .0 t k u),
+  λ h. contains-bits (withExtras p) c .1 (λ k u. subst T (sym (extras-bits k p)) (h k u)),
 )
 
 same-test : (x y : Bool) → (T x → T y) → (T y → T x) → x ≡ y
@@ -62,5 +63,5 @@ contains-flag k word =
     (λ t. contains-bits word (2 ^ k) .1 (λ j u. rw (eqb→eq j k (subst T (bit-power j k) u)) t))
 
 -- A counter is its flag's binary digit.
-pub count-flag : (k word : ℕ) → count (contains word (2 ^ k)) ≡ word / 2 ^ k % 2
-count-flag k word = ap count (contains-flag k word) ∙ bit-digit k word
+pub count-flag : (k word : ℕ) → oneIf (contains word (2 ^ k)) ≡ word / 2 ^ k % 2
+count-flag k word = ap oneIf (contains-flag k word) ∙ bit-digit k word

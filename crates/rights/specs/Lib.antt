@@ -1,3 +1,4 @@
 pub mod Rights
+pub mod Counters
 pub mod Bits
 pub mod Laws

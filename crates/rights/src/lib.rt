@@ -1,6 +1,7 @@
 // The rights word (document 01, "The call, from the entry down"): eight flags in eight bits, and their tests.
 ghost use mathlib.Core.Path.{_≡_};
-ghost use Rattle.rights.specs.Rights.{union, contains, intersects, allowed, count, countersOf};
+ghost use Rattle.rights.specs.Rights.{union, contains, allowed};
+ghost use Rattle.rights.specs.Counters.{intersects, oneIf, countersOf};
 
 pub struct Rights(pub u8);
 
@@ -55,7 +56,7 @@ impl Rights {
 
     // 1 if this word contains the flag, else 0.
     fn count(self, flag: Rights) -> u64
-        ensures { λ r. ⌜ r ≡ count (contains (self .0) (flag .0)) ⌝ }
+        ensures { λ r. ⌜ r ≡ oneIf (contains (self .0) (flag .0)) ⌝ }
     {
         if self.contains(flag) { 1 } else { 0 }
     }

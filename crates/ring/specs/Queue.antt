@@ -10,11 +10,12 @@ use native.Mathlib.Omega.{arith}
 use borrow.Author.Tests.{lt-ltb, eq-eqb, ne-eqb}
 use lib.ListN.{length, getD, length-set, length-append, List·getD-eq-default}
 use lib.Seq.{getD-set-same, getD-set-other}
+use Rattle.base.specs.Rounds.{along-at, next-along, next-last}
 use Rattle.tables.specs.declared.Update.{Update}
 use Rattle.tables.specs.Tables.{noUpdate}
 use Rattle.ring.specs.declared.Ring.{Ring}
 use Rattle.ring.specs.Ring.{cap, afterOf, roomB, putIn, pushOf, someB, takeOut, popOf}
-use Rattle.ring.specs.Turns.{after-is, away, turn-none, turn-back, turn-there, turn-next, turn-last}
+use Rattle.ring.specs.Turns.{after-is, away, turn-none, turn-there}
 
 -- place k has the update that is as far on in the queue as k is from the first place; every other place is nothing
 pub record Queues (r : Ring) (first : ℕ) (items : List Update) : Type 0 where
@@ -52,7 +53,7 @@ module _ (r : Ring) (f : ℕ) (items : List Update) (q : Queues r f items) where
   put-queues u h =
       let w = write-inside in
       let here : r .write < length (r .places) = omega (arith, q .high, q .long) in
-      let back : (r .write + r .size - f) % r .size ≡ length items = rw (q .write) (turn-back (r .size) f (q .inside) (length items) (q .few)) in
+      let back : (r .write + r .size - f) % r .size ≡ length items = rw (q .write) (along-at (r .size) f (q .inside) (length items) (q .few)) in
       let more : length (items ++ (u ∷ [])) ≡ length items + 1 = length-append items (u ∷ []) in
       record {
         inside = q .inside;
@@ -105,7 +106,7 @@ module _ (r : Ring) (f : ℕ) (u : Update) (us : List Update) (q : Queues r f (u
 
   oldest : getD (r .places) (r .read) noUpdate ≡ u
   oldest =
-      let e : (f + r .size - f) % r .size ≡ 0 = rw (turn-none (r .size) f (q .inside)) at (turn-back (r .size) f (q .inside) 0 (omega (arith, q .inside))) in
+      let e : (f + r .size - f) % r .size ≡ 0 = rw (turn-none (r .size) f (q .inside)) at (along-at (r .size) f (q .inside) 0 (omega (arith, q .inside))) in
       rw (q .read) (q .place f (q .inside) ∙ rw e)
 
   take-queues : Queues (takeOut r) ((f + 1) % r .size) us
@@ -121,8 +122,8 @@ module _ (r : Ring) (f : ℕ) (u : Update) (us : List Update) (q : Queues r f (u
         write = q .write ∙ ap (λ (x : ℕ). x % r .size) next ∙ sym (mod-add-mod (f + 1) (r .size) (length us));
         place = λ k hk.
             elim (ℕ-discrete k f) [
-              | yes e ↦ rw (e, q .read, turn-last (r .size) f (q .inside)) (getD-set-same (r .places) f noUpdate noUpdate here ∙ sym (List·getD-eq-default us noUpdate {n = r .size - 1} (omega (arith, q .few))))
-              | no d ↦ rw (q .read) (getD-set-other (r .places) f k noUpdate noUpdate d ∙ q .place k hk ∙ ap (λ (x : ℕ). getD (u ∷ us) x noUpdate) (turn-next (r .size) f (q .inside) k hk d))
+              | yes e ↦ rw (e, q .read, next-last (r .size) f (q .inside)) (getD-set-same (r .places) f noUpdate noUpdate here ∙ sym (List·getD-eq-default us noUpdate {n = r .size - 1} (omega (arith, q .few))))
+              | no d ↦ rw (q .read) (getD-set-other (r .places) f k noUpdate noUpdate d ∙ q .place k hk ∙ ap (λ (x : ℕ). getD (u ∷ us) x noUpdate) (next-along (r .size) f (q .inside) k hk d))
             ];
         past = λ k hk. getD-set-other (r .places) (r .read) k noUpdate noUpdate (λ e. omega (arith, q .inside, q .read)) ∙ q .past k hk;
       }

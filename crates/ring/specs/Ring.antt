@@ -6,7 +6,9 @@ use native.Mathlib.Omega.{arith}
 use borrow.Author.Tests.{ltb-true}
 use lib.ListN.{getD, set}
 use lib.Dec.{ltb, eqb}
-use Rattle.words.specs.Cases.{pick, both, both-true}
+use Rattle.sizes.specs.Limits.{mostUpdates}
+use Rattle.base.specs.Cases.{pick}
+use Rattle.base.specs.Tests.{both, both-true}
 use Rattle.tables.specs.declared.Update.{Update}
 use Rattle.tables.specs.Kinds.{PERMISSION, CLEANUP}
 use Rattle.tables.specs.Tables.{noUpdate}
@@ -16,7 +18,7 @@ use Rattle.ring.specs.declared.PopOut.{PopOut}
 
 -- the places of the largest ring
 abbrev pub cap : ℕ
-cap = 129
+cap = mostUpdates + 1
 
 abbrev pub permissionOf : ℕ → ℕ → ℕ → Update
 permissionOf d g m = record { kind = PERMISSION; a = d; b = g; c = m }

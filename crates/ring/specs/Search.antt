@@ -8,12 +8,13 @@ use native.Mathlib.Nat.{mod-lt, mod-add-mod}
 use native.Mathlib.Omega.{arith}
 use borrow.Author.Tests.{lt-ltb, eq-eqb, ne-eqb}
 use lib.ListN.{length, getD}
-use Rattle.words.specs.Cases.{pick}
+use Rattle.base.specs.Cases.{pick}
+use Rattle.base.specs.Rounds.{along-at}
 use Rattle.tables.specs.declared.Update.{Update}
 use Rattle.tables.specs.Tables.{noUpdate}
 use Rattle.ring.specs.declared.Ring.{Ring}
 use Rattle.ring.specs.Ring.{cap, afterOf, permissionOf, namesOf, queuedFrom, queuedOf, pushOf, markOf}
-use Rattle.ring.specs.Turns.{after-is, away, turn-none, turn-back}
+use Rattle.ring.specs.Turns.{after-is, away, turn-none}
 use Rattle.ring.specs.Queue.{Queues}
 
 -- whether a permission update of the domain is among the updates
@@ -53,7 +54,7 @@ module _ (r : Ring) (f : ℕ) (items : List Update) (q : Queues r f items) where
   stands : (k : ℕ) → k < length items → getD (r .places) ((f + k) % r .size) noUpdate ≡ getD items k noUpdate
   stands k h =
       q .place ((f + k) % r .size) (mod-lt (f + k) {m = r .size} (omega (arith, q .inside)))
-      ∙ ap (λ (x : ℕ). getD items x noUpdate) (turn-back (r .size) f (q .inside) k (omega (arith, q .few)))
+      ∙ ap (λ (x : ℕ). getD items x noUpdate) (along-at (r .size) f (q .inside) k (omega (arith, q .few)))
 
   pub queued-any : (d g : ℕ) → queuedOf r d g ≡ anyNames d g items
   unfolding queuedOf

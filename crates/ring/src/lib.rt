@@ -1,6 +1,7 @@
 // The update ring (document 01, "Update ring"), by value: each function gives the ring that it leaves.
 ghost use mathlib.Core.Path.{_≡_};
 ghost use Rattle.ring.specs.Ring.{permissionOf, cleanupOf, afterOf, pushOf, popOf, namesOf, queuedOf, markOf};
+use sizes::MOST_UPDATES;
 use tables::Update;
 
 pub mod lent;
@@ -13,7 +14,7 @@ pub use lent::push;
 pub use lent::push_lent;
 
 // The places of the largest ring.
-pub const PLACES: usize = 129;
+pub const PLACES: usize = MOST_UPDATES + 1;
 
 // `size` places are in use, one more than the ring can hold; those past them are nothing.
 pub struct Ring {

@@ -4,10 +4,10 @@ use mathlib.Core.Path.{_≡_, subst}
 use Prim.Native.Nat.{ℕ, _+_, _-_, _≤_, _<_}
 use mathlib.Core.List.{List}
 use native.Mathlib.Omega.{arith}
-use borrow.Author.Tests.{ltb-false}
+use borrow.Author.Tests.{ltb-false, ne-eqb}
 use lib.Dec.{eqb, ltb}
 use lib.ListN.{length, take, drop}
-use Rattle.laws.specs.Cases.{lt, ge, cmp, eqb-f, holds, fails, test}
+use Rattle.base.specs.Cases.{lt, ge, cmp, holds, fails, test}
 use Rattle.script_records.specs.declared.Record.{Record}
 use Rattle.script_records.specs.declared.Parsed.{Parsed}
 use Rattle.script_records.specs.declared.Parsed.the-variants.{Short, Bad, Call as Whole}
@@ -47,13 +47,13 @@ no-size : (k : ℕ) → (1 ≤ k → k ≤ 7 → ⊥) → sizeOf k ≡ 0
 unfolding sizeOf kindOf
 no-size k h =
     rw (
-      eqb-f k 1 (λ e. h (omega arith) (omega arith)),
-      eqb-f k 2 (λ e. h (omega arith) (omega arith)),
-      eqb-f k 3 (λ e. h (omega arith) (omega arith)),
-      eqb-f k 4 (λ e. h (omega arith) (omega arith)),
-      eqb-f k 5 (λ e. h (omega arith) (omega arith)),
-      eqb-f k 6 (λ e. h (omega arith) (omega arith)),
-      eqb-f k 7 (λ e. h (omega arith) (omega arith)),
+      ne-eqb k 1 (λ e. h (omega arith) (omega arith)),
+      ne-eqb k 2 (λ e. h (omega arith) (omega arith)),
+      ne-eqb k 3 (λ e. h (omega arith) (omega arith)),
+      ne-eqb k 4 (λ e. h (omega arith) (omega arith)),
+      ne-eqb k 5 (λ e. h (omega arith) (omega arith)),
+      ne-eqb k 6 (λ e. h (omega arith) (omega arith)),
+      ne-eqb k 7 (λ e. h (omega arith) (omega arith)),
     )
 
 kind-range : (k : ℕ) → 0 < sizeOf k → (1 ≤ k) × (k ≤ 7)

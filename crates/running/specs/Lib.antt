@@ -7,3 +7,4 @@ pub mod RunScript
 pub mod BetweenRecords
 pub mod Steps
 pub mod Made
+pub mod Reached

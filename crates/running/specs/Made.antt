@@ -1,18 +1,17 @@
 -- A script's tables are made, or both are as found; then the whole script's promise.
 use mathlib.Core.Path.{_≡_, refl, sym, ap, _∙_}
 use Prim.Native.Nat.{ℕ}
-use mathlib.Core.Bool.{Bool, true, false, not}
 use mathlib.Core.List.{List}
 use native.Mathlib.Omega.{arith}
-use lib.Dec.{T}
+use lib.Dec.{T, T-not}
+use Rattle.refusals.specs.Refusals.{memory}
 use Rattle.model.specs.Outcome as outcome
 use Rattle.model.specs.State.{Sizes}
-use Rattle.model.specs.Making.{goodSizes, emptyTables}
+use Rattle.model.specs.Making.{goodSizes, emptyTables, scriptSizes}
 use Rattle.model.specs.Layout.{words}
 use Rattle.model.specs.Perform.{Call, Answer}
 use Rattle.model.specs.Perform as model
 use Rattle.model.specs.Memory.{Fit, After, badSizes, badLengths, made, notSound, performed, zeroed}
-use Rattle.model.specs.Checked.Script.{scriptSizes}
 use Rattle.book.specs.Lent.{demand3-lent}
 use Rattle.script_records.specs.Script.{scriptCalls}
 use Rattle.frame.specs.declared.replies.Reply.{Reply}
@@ -25,15 +24,11 @@ use Rattle.running.specs.BetweenRecords.{RunsAll}
 
 -- Sizes within their limits: the two ways that making ends.
 pub data Makes (t w : List ℕ) (z : Sizes) : Answer → List ℕ → List ℕ → Type 0 where
-  fits : Fit t w z → Makes t w z (Answer.yes model.Reply.done) (words (emptyTables z)) (zeroed w)
-  unfit : ¬ Fit t w z → Makes t w z (Answer.no outcome.memory) t (zeroed w)
+  fits : Fit t w z → Makes t w z (Answer.yes model.Value.done) (words (emptyTables z)) (zeroed w)
+  unfit : ¬ Fit t w z → Makes t w z (Answer.no memory) t (zeroed w)
 
-both-ways : (b : Bool) → T b → T (not b) → ⊥
-both-ways true p q = q
-both-ways false p q = p
-
-makes : (t w : List ℕ) (z : Sizes) (y : Answer) (t₁ w₁ : List ℕ) → T (goodSizes z) → After t w (Call.Make z) y t₁ w₁ → Makes t w z y t₁ w₁
-makes t w z y t₁ w₁ g (badSizes v p) = absurd (both-ways (goodSizes z) g p)
+pub makes : (t w : List ℕ) (z : Sizes) (y : Answer) (t₁ w₁ : List ℕ) → T (goodSizes z) → After t w (Call.Make z) y t₁ w₁ → Makes t w z y t₁ w₁
+makes t w z y t₁ w₁ g (badSizes v p) = absurd (T-not (goodSizes z) p g)
 makes t w z y t₁ w₁ g (badLengths v p f) = Makes.unfit f
 makes t w z y t₁ w₁ g (made v p f) = Makes.fits f
 makes t w z y t₁ w₁ g (notSound d q n) = absurd q

@@ -3,9 +3,9 @@ use mathlib.Core.Path.{_≡_, sym, ap, subst, _∙_}
 use Prim.Native.Nat.{ℕ, _-_, _^_, _<_}
 use mathlib.Core.Option.{none, some}
 use mathlib.Core.List.{List}
+use borrow.Author.Tests.{eq-eqb, ne-eqb}
 use Rattle.model.specs.Perform.{Step, Call}
 use Rattle.model.specs.CallWords.{StepWords}
-use Rattle.laws.specs.Cases.{eqb-t, eqb-f}
 use Rattle.region.specs.declared.AccessRights.{AccessRights}
 use Rattle.calls.specs.declared.Call as calls
 use Rattle.frame.specs.declared.replies.Reply.{Reply}
@@ -38,10 +38,10 @@ module _ (k : ℕ) (r : Record) (e : r .kind ≡ k) where
 
 -- "slot 2^64 − 1 is no manager"
 pub alone-is : (slot gen cores : ℕ) → slot ≡ 2 ^ 64 - 1 → Step.Open none cores ≡ Step.Open (managerOf slot gen) cores
-alone-is slot gen cores e = rw (eqb-t slot (2 ^ 64 - 1) e)
+alone-is slot gen cores e = rw (eq-eqb slot (2 ^ 64 - 1) e)
 
 pub under-is : (slot gen cores : ℕ) → (slot ≡ 2 ^ 64 - 1 → ⊥) → Step.Open (some (handle slot gen)) cores ≡ Step.Open (managerOf slot gen) cores
-under-is slot gen cores n = rw (eqb-f slot (2 ^ 64 - 1) n)
+under-is slot gen cores n = rw (ne-eqb slot (2 ^ 64 - 1) n)
 
 -- what the call named returns, the record's call returns
 pub names-returns : (r : Record) (x : calls.Call) → Names r x → (t w : List ℕ) (y : Reply) (t₂ w₂ : List ℕ) → Returns replyOf t w (Call.Do (stepNamed x)) y t₂ w₂ → Returns replyOf t w (callIn r) y t₂ w₂

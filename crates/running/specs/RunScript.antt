@@ -4,21 +4,26 @@ use Prim.Native.Nat.{ℕ}
 use mathlib.Core.Bool.{Bool}
 use mathlib.Core.List.{List}
 use lib.ListN.{length}
+use Rattle.refusals.specs.Refusals.{number, memory, badRecord}
 use Rattle.model.specs.Lists.{if_then_else_}
-use Rattle.model.specs.Making.{emptyTables}
+use Rattle.model.specs.Making.{emptyTables, scriptSizes}
 use Rattle.model.specs.Layout.{words}
 use Rattle.model.specs.Perform.{Call, Answer}
 use Rattle.model.specs.Memory.{Fit, zeroed}
-use Rattle.model.specs.Checked.Script.{scriptSizes}
 use Rattle.book.specs.Book.{blank}
 use Rattle.book.specs.Demand3.{noteAll}
 use Rattle.book.specs.Lent.{Chain, ClaimsOf}
+use Rattle.promise.specs.Reached.{Reached}
 use Rattle.script_records.specs.Script.{scriptCalls}
 use Rattle.frame.specs.declared.replies.Reply.{Reply}
 
+-- The tables are what an accepted making of a script's tables and then some calls of the exported functions left; so `everything` speaks of them.
+abbrev pub ScriptTables : List ℕ → Type 0
+ScriptTables t = Reached scriptSizes t
+
 -- The reply to a script: 17 where a bad record "ends reading", else 0, and the number of calls that were run.
 abbrev pub scriptReply : List Call × Bool → Reply
-scriptReply (cs, bad) = record { refusal = if bad then 17 else 0; value = length cs }
+scriptReply (cs, bad) = record { refusal = if bad then number badRecord else 0; value = length cs }
 
 -- What the calls cs leave in the tables t.
 pub record Ended (cs : List Call) (t : List ℕ) : Type 0 where
@@ -36,7 +41,7 @@ pub record Ended (cs : List Call) (t : List ℕ) : Type 0 where
 -- The script b run in tables t and a work area w: the reply x, and what is left in both.
 pub record RanScript (b t w : List ℕ) (x : Reply) (t′ w′ : List ℕ) : Type 0 where
   -- "1 Memory, either length wrong": nothing is run, and the tables are as found
-  pub unfit : ¬ Fit t w scriptSizes → (x ≡ record { refusal = 1; value = 0 }) × (t′ ≡ t)
+  pub unfit : ¬ Fit t w scriptSizes → (x ≡ record { refusal = number memory; value = 0 }) × (t′ ≡ t)
   -- both lengths are right: all calls of the script are run, up to its end or to the first bad record, whatever t held before
   pub reply : Fit t w scriptSizes → x ≡ scriptReply (scriptCalls b)
   pub ended : Fit t w scriptSizes → Ended (scriptCalls b .0) t′

@@ -6,6 +6,7 @@ use mathlib.Core.List.{List, [], _∷_, _++_, append-nil, append-assoc}
 use native.Mathlib.Omega.{arith}
 use lib.ListN.{length, take, drop, replicate, length-append, length-drop, length-replicate, drop-of-length-le}
 use lib.Seq.{take-all, drop-drop, getD-drop}
+use Rattle.refusals.specs.Refusals.{number, badRecord}
 use Rattle.model.specs.Lists.{Each, if_then_else_}
 use Rattle.model.specs.Perform.{Call, Answer}
 use Rattle.model.specs.CallWords.{CallWords}
@@ -16,7 +17,7 @@ use Rattle.script_records.specs.declared.Parsed.the-variants as found
 use Rattle.script_records.specs.Script.{ahead, scriptCalls}
 use Rattle.script_records.specs.Parsed.{sizeOf, callIn, parsed}
 use Rattle.script_records.specs.Numbers.{Bytes}
-use Rattle.script_records.specs.Words.{call-size, call-words}
+use Rattle.script_records.specs.Words.{call-size, call-words, bytes-drop}
 use Rattle.script_records.specs.Scripts.{script-ended}
 use Rattle.script_records.specs.Streams.{stream-call, stream-bad, stream-cut}
 use Rattle.frame.specs.declared.replies.Reply.{Reply}
@@ -28,9 +29,6 @@ use Rattle.running.specs.RunScript.{scriptReply}
 use Rattle.running.specs.BetweenRecords.{followed, BetweenRecords, RunsAll}
 
 -- ---- bytes, and the work area
-
-bytes-drop : (at : ℕ) (b : List ℕ) → Bytes b → Bytes (drop at b)
-bytes-drop at b h = λ i. subst (λ (n : ℕ). n < 256) (sym (getD-drop at b i 0)) (h (at + i))
 
 -- the part from `at` on
 pub part-rest : (b : List ℕ) (at : ℕ) → take (length b - at) (drop at b) ≡ drop at b
@@ -70,14 +68,14 @@ module _ (b t₀ w₀ : List ℕ) where
 
   module _ (n at : ℕ) (t w : List ℕ) (h : BetweenRecords b t₀ w₀ n at t w) where
     -- what follows is the end, or a bad record
-    ended : (bad : Bool) → scriptCalls (drop at b) ≡ ([], bad) → RunsAll b t₀ w₀ (record { refusal = if bad then 17 else 0; value = n }) t w
+    ended : (bad : Bool) → scriptCalls (drop at b) ≡ ([], bad) → RunsAll b t₀ w₀ (record { refusal = if bad then number badRecord else 0; value = n }) t w
     ended bad e =
         let q : scriptCalls b ≡ (h .calls, bad) = h .rest ∙ ap (followed (h .calls)) e ∙ ap (λ (l : List Call). (l, bad)) (append-nil (h .calls)) in
         record {
           answers = h .answers;
           chain = subst (λ (r : List Call × Bool). Chain t₀ (r .0) (h .answers) t) (sym q) (h .chain);
           words = subst (λ (r : List Call × Bool). Each CallWords (r .0)) (sym q) (h .words);
-          reply = ap (λ (m : ℕ). record { refusal = if bad then 17 else 0; value = m }) (h .count) ∙ ap scriptReply (sym q);
+          reply = ap (λ (m : ℕ). record { refusal = if bad then number badRecord else 0; value = m }) (h .count) ∙ ap scriptReply (sym q);
           work = h .work;
         }
 
@@ -86,12 +84,12 @@ module _ (b t₀ w₀ : List ℕ) where
 
     -- p is at hand
     module _ (p : List ℕ) (e : p ≡ drop at b) (t₂ w₂ : List ℕ) where
-      pub half-short : at < length b → NotRun found.Short p t w t₂ w₂ → (r : Reply) → r ≡ record { refusal = 17; value = n } → RunsAll b t₀ w₀ r t₂ w₂
+      pub half-short : at < length b → NotRun found.Short p t w t₂ w₂ → (r : Reply) → r ≡ record { refusal = number badRecord; value = n } → RunsAll b t₀ w₀ r t₂ w₂
       half-short k x r d =
           let m : 0 < length p = omega (arith, ap length e, length-drop at b) in
           rw (d, x .tables, x .work) (ended true (ap scriptCalls (sym e) ∙ stream-cut p m (x .stood)))
 
-      pub half-bad : NotRun found.Bad p t w t₂ w₂ → (r : Reply) → r ≡ record { refusal = 17; value = n } → RunsAll b t₀ w₀ r t₂ w₂
+      pub half-bad : NotRun found.Bad p t w t₂ w₂ → (r : Reply) → r ≡ record { refusal = number badRecord; value = n } → RunsAll b t₀ w₀ r t₂ w₂
       half-bad x r d = rw (d, x .tables, x .work) (ended true (ap scriptCalls (sym e) ∙ bad-first p (x .stood)))
 
       half-next : Bytes b → (y : Ran) → WasRun p t w y t₂ w₂ → BetweenRecords b t₀ w₀ (n + 1) (at + y .size) t₂ w₂

@@ -67,7 +67,7 @@ fn call_of(r: Record) -> calls::Call
         }),
         5 => calls::Call::Send(domain, local, r.d as usize),
         6 => calls::Call::Revoke(domain, local),
-        _ => calls::Call::MakeRevoke(domain, local),
+        _ => calls::Call::CreateRevokeCapa(domain, local),
     }
 }
 

@@ -1,6 +1,7 @@
 // Records taken from the bytes at hand, one by one.
 ghost use mathlib.Core.Path.{_≡_};
 ghost use Prim.Native.Nat.{_+_, _<_, _^_};
+ghost use Rattle.refusals.specs.Refusals.{number, badRecord};
 ghost use Rattle.script_records.specs.Parsed.{parsed};
 ghost use Rattle.running.specs.Takes.{Takes};
 ghost use Rattle.running.specs.BetweenRecords.{RunsAll};
@@ -8,6 +9,7 @@ ghost use Rattle.running.specs.RunScript.{RanScript};
 use crate::perform;
 use engine::make;
 use frame::Reply;
+use refusals::Refusal;
 use script_records::Parsed;
 
 // A record that was run: what its call replied, and the bytes that it took.
@@ -57,10 +59,10 @@ fn behind(p: Place, x: Ran) -> Place
 }
 
 fn bad_record(calls: u64) -> Reply
-    ensures { λ r. ⌜ r ≡ record { refusal = 17; value = calls } ⌝ }
+    ensures { λ r. ⌜ r ≡ record { refusal = number badRecord; value = calls } ⌝ }
 {
     Reply {
-        refusal: 17,
+        refusal: Refusal::BAD_RECORD.0,
         value: calls,
     }
 }

@@ -1,19 +1,40 @@
 // The script program (document 01, "The script program"): runs the records of standard input on tables of its own and prints a line for
-// each, then what the domains reach, and then the queue. No contract can say what is read or printed: the calls' contracts are those of crate
-// running, the lists' of crates listing and engine. That every byte of a line has its place, and that reading on loses none, is proved in crate byte_io.
+// each, then what the domains reach, and then the queue. Both lists are of `ScriptTables`: tables that an accepted making and calls of the exported
+// functions left, of which demand 3 holds (`everything`, crate promise). No contract can say what is read or printed: that the calls are those of the
+// bytes at hand is the contract of `take` (crate running), that the lists are the tables' those of crates listing and engine. That every byte of a
+// line has its place, and that reading on loses none, is proved in crate byte_io.
 ghost use Prim.Native.Nat.{_+_, _≤_};
 ghost use lib.ListN.{length};
 ghost use Rattle.tables.specs.View.{Sized};
+ghost use Rattle.promise.specs.Reached.{Leads};
+ghost use Rattle.running.specs.RunScript.{ScriptTables};
 use byte_io::input;
 use byte_io::input::Buffered;
 use byte_io::output;
 use engine::make;
 use engine::queue;
 use frame::Reply;
+use refusals::Refusal;
 use running::Taken;
 
-// The words of tables of 8 domains, 16 slots, 128 regions, 128 records and 32 updates.
-const WORDS: usize = 3273;
+// The sizes of a script's tables, and how many words these are.
+const DOMAINS: usize = 8;
+
+const SLOTS: usize = 16;
+
+const REGIONS: usize = 128;
+
+const RECORDS: usize = 128;
+
+const UPDATES: usize = 32;
+
+const WORDS: usize = sizes::HEADER_WIDTH
+    + 3 * sizes::POOL_HEAD
+    + 2 * (DOMAINS + REGIONS + RECORDS)
+    + DOMAINS * (sizes::HEAD_WIDTH + SLOTS * sizes::SLOT_WIDTH)
+    + REGIONS * sizes::REGION_WIDTH
+    + RECORDS * sizes::RECORD_WIDTH
+    + (UPDATES + 1) * sizes::UPDATE_WIDTH;
 
 // Bytes of input, and of output, that are held at a time.
 const BYTES: usize = 16384;
@@ -30,7 +51,7 @@ fn bad(text: &mut [u8], n: usize, k: u64) -> Step
     ensures { λ x. ⌜ (x .n ≤ n + 128) × (x .size ≤ 0) ⌝ }
 {
     let y = Reply {
-        refusal: 17,
+        refusal: Refusal::BAD_RECORD.0,
         value: 0,
     };
     Step {
@@ -43,6 +64,7 @@ fn bad(text: &mut [u8], n: usize, k: u64) -> Step
 fn turn(b: &[u8], text: &mut [u8], n: usize, k: u64, t: &mut [u64], w: &mut [u64]) -> Step
     requires { ⌜ n + 128 ≤ length (now text) ⌝ }
     ensures { λ x. ⌜ (x .n ≤ n + 128) × (x .size ≤ length (now (b .entry))) ⌝ }
+    ensures { λ _. ⌜ Leads (now (t .entry)) (now (t .exit)) ⌝ }
 {
     match running::take(b, t, w) {
         Taken::Short => bad(text, n, k),
@@ -61,6 +83,7 @@ fn turn(b: &[u8], text: &mut [u8], n: usize, k: u64, t: &mut [u64], w: &mut [u64
 fn run_records(b: &mut [u8], text: &mut [u8], t: &mut [u64], w: &mut [u64]) -> usize
     requires { ⌜ 128 ≤ length (now text) ⌝ }
     ensures { λ r. ⌜ r ≤ length (now (text .entry)) ⌝ }
+    ensures { λ _. ⌜ Leads (now (t .entry)) (now (t .exit)) ⌝ }
 {
     let mut h = Buffered {
         at: 0,
@@ -95,7 +118,7 @@ fn list_domain(text: &mut [u8], n: usize, t: &[u64], d: usize) -> usize
     requires { ⌜ Sized (now t) ⌝ }
     ensures { λ r. ⌜ r ≤ length (now (text .entry)) ⌝ }
 {
-    let mut run = [0u64; 640];
+    let mut run = [0u64; 5 * RECORDS];
     let lines = listing::fill_lines(t, d, &mut run);
     let mut m = n;
     let mut i = 0;
@@ -111,15 +134,14 @@ fn list_domain(text: &mut [u8], n: usize, t: &[u64], d: usize) -> usize
 fn list_domains(text: &mut [u8], n: usize, t: &[u64]) -> usize
     requires { ⌜ n ≤ length (now text) ⌝ }
     requires { ⌜ 128 ≤ length (now text) ⌝ }
+    requires { ⌜ ScriptTables (now t) ⌝ }
     ensures { λ r. ⌜ r ≤ length (now (text .entry)) ⌝ }
 {
     let mut m = n;
-    if sizes::is_sized(t) {
-        let mut d = 0;
-        while d < 8 {
-            m = list_domain(text, m, t, d);
-            d += 1;
-        }
+    let mut d = 0;
+    while d < DOMAINS {
+        m = list_domain(text, m, t, d);
+        d += 1;
     }
     m
 }
@@ -128,10 +150,12 @@ fn list_domains(text: &mut [u8], n: usize, t: &[u64]) -> usize
 fn list_queue(text: &mut [u8], n: usize, t: &mut [u64], w: &mut [u64]) -> usize
     requires { ⌜ n ≤ length (now text) ⌝ }
     requires { ⌜ 128 ≤ length (now text) ⌝ }
+    requires { ⌜ ScriptTables (now t) ⌝ }
     ensures { λ r. ⌜ r ≤ length (now (text .entry)) ⌝ }
+    ensures { λ _. ⌜ ScriptTables (now (t .exit)) ⌝ }
 {
     let mut m = n;
-    let mut left: usize = 32;
+    let mut left: usize = UPDATES;
     while 0 < left {
         let u = queue::mityvurno_pop(t, w);
         if u.kind == 0 {
@@ -149,7 +173,15 @@ fn main() {
     let mut w = [0u64; WORDS];
     let mut b = [0u8; BYTES];
     let mut text = [0u8; BYTES];
-    make::mityvurno_make_tables(&mut t, &mut w, 8, 16, 128, 128, 32);
+    make::mityvurno_make_tables(
+        &mut t,
+        &mut w,
+        DOMAINS as u64,
+        SLOTS as u64,
+        REGIONS as u64,
+        RECORDS as u64,
+        UPDATES as u64,
+    );
     let n = run_records(&mut b, &mut text, &mut t, &mut w);
     let m = list_domains(&mut text, n, &t);
     let r = list_queue(&mut text, m, &mut t, &mut w);

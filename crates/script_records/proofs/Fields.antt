@@ -5,7 +5,7 @@ use Prim.Native.Nat.{ℕ, _≤_, _<_}
 use native.Mathlib.Omega.{arith}
 use borrow.Author.Tests.{ne-eqb}
 use lib.Dec.{eqb}
-use Rattle.laws.specs.Cases.{holds, fails, test}
+use Rattle.base.specs.Cases.{holds, fails, test}
 use Rattle.script_records.specs.declared.Record.{Record}
 use Rattle.script_records.specs.Script.{Kind, kindOf}
 use Rattle.script_records.specs.Parsed.{sizeFor, sizeOf, rightsFor, rightsIn}

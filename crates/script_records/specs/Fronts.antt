@@ -5,13 +5,13 @@ use Prim.Native.Nat.{ℕ, zero, suc, _+_, _*_, _-_, _≤_, _<_}
 use mathlib.Core.Option.{Option, none, some}
 use mathlib.Core.List.{List, [], _∷_, _++_}
 use native.Mathlib.Omega.{arith}
-use borrow.Author.Tests.{eqb-true, eqb-false}
+use borrow.Author.Tests.{eqb-true, eqb-false, lt-ltb, le-ltb, eq-eqb, ne-eqb}
 use lib.Dec.{eqb, ltb}
 use lib.ListN.{length, take, drop, length-append, length-take}
 use lib.Seq.{take-append-le, drop-append-le}
+use Rattle.base.specs.Cases.{lt, ge, cmp, holds, fails, test}
 use Rattle.model.specs.Lists.{if_then_else_}
 use Rattle.model.specs.Perform.{Call}
-use Rattle.laws.specs.Cases.{lt, ge, cmp, ltb-t, ltb-f, eqb-t, eqb-f, holds, fails, test}
 use Rattle.script_records.specs.declared.Record.{Record}
 use Rattle.script_records.specs.declared.Parsed.{Parsed}
 use Rattle.script_records.specs.declared.Parsed.the-variants.{Short, Bad, Call as Whole}
@@ -27,17 +27,17 @@ behind n w = if ltb (length w) n then bad else frontFor (bodyCall (take n w)) (d
 -- no call where the length does not fit the kind
 misfit-none : (o : Option Kind) (body : List ℕ) → (length body + 2 ≡ sizeFor o → ⊥) → callWith o body ≡ none
 misfit-none none body d = refl
-misfit-none (some k) body d = rw (eqb-f (length body) (2 + 8 * fieldCount k) (λ e. d (omega arith)))
+misfit-none (some k) body d = rw (ne-eqb (length body) (2 + 8 * fieldCount k) (λ e. d (omega arith)))
 
 short-none : (o : Option Kind) (body : List ℕ) → length body < 2 → callWith o body ≡ none
 short-none none body h = refl
-short-none (some k) body h = rw (eqb-f (length body) (2 + 8 * fieldCount k) (λ e. omega arith))
+short-none (some k) body h = rw (ne-eqb (length body) (2 + 8 * fieldCount k) (λ e. omega arith))
 
 -- cut, or with no call in it
 by-body : (n : ℕ) (w : List ℕ) → (n ≤ length w → bodyCall (take n w) ≡ none) → behind n w ≡ bad
 by-body n w h = elim (cmp (length w) n) [
-  | lt c ↦ rw (ltb-t (length w) n c)
-  | ge c ↦ rw (ltb-f (length w) n c) (ap (λ (o : Option Call). frontFor o (drop n w)) (h c))
+  | lt c ↦ rw (lt-ltb (length w) n c)
+  | ge c ↦ rw (le-ltb (length w) n c) (ap (λ (o : Option Call). frontFor o (drop n w)) (h c))
 ]
 
 -- fewer than two bytes have no kind
@@ -56,17 +56,17 @@ module _ (u v : ℕ) (w : List ℕ) where
 
   -- a record that fits is cut, or its fields are there
   cut-bad : (n : ℕ) → length (u ∷ v ∷ w) < n → behind n (u ∷ v ∷ w) ≡ bad
-  cut-bad n h = rw (ltb-t (length (u ∷ v ∷ w)) n h)
+  cut-bad n h = rw (lt-ltb (length (u ∷ v ∷ w)) n h)
 
   fits-call : (k : Kind) (m : ℕ) → m ≡ 8 * fieldCount k → kindOf (number (u ∷ v ∷ [])) ≡ some k → m ≤ length w → bodyCall (u ∷ v ∷ take m w) ≡ callOf k (fieldAt (take m w))
   fits-call k m e c h =
       ap (λ (o : Option Kind). callWith o (u ∷ v ∷ take m w)) c
-      ∙ rw (eqb-t (length (u ∷ v ∷ take m w)) (2 + 8 * fieldCount k) (omega (arith, length-take m w)))
+      ∙ rw (eq-eqb (length (u ∷ v ∷ take m w)) (2 + 8 * fieldCount k) (omega (arith, length-take m w)))
 
   fits-front : (k : Kind) (m : ℕ) → m ≡ 8 * fieldCount k → kindOf (number (u ∷ v ∷ [])) ≡ some k → m ≤ length w
       → behind (suc (suc m)) (u ∷ v ∷ w) ≡ frontFor (callOf k (fieldAt (take m w))) (drop m w)
   fits-front k m e c h =
-      rw (ltb-f (length (u ∷ v ∷ w)) (suc (suc m)) (omega arith)) (ap (λ (o : Option Call). frontFor o (drop m w)) (fits-call k m e c h))
+      rw (le-ltb (length (u ∷ v ∷ w)) (suc (suc m)) (omega arith)) (ap (λ (o : Option Call). frontFor o (drop m w)) (fits-call k m e c h))
 
 -- ---- a whole record
 
@@ -133,12 +133,12 @@ module _ (x y u v : ℕ) (l more : List ℕ) where
     agrees-whole : Agrees b more (whole kind b)
     agrees-whole =
         let z : suc (suc (suc (suc m))) - 4 ≡ m = omega arith in
-        rw (size-is, ltb-f (length b) (suc (suc (suc (suc m)))) (omega arith), z) agrees-judged
+        rw (size-is, le-ltb (length b) (suc (suc (suc (suc m)))) (omega arith), z) agrees-judged
 
   agrees-some : (k : Kind) → kindOf kind ≡ some k → n + 2 ≡ sizeFor (some k) → Agrees b more (whole kind b)
   unfolding sizeOf
   agrees-some k c e = elim (cmp (length b) (sizeFor (some k))) [
-    | lt h ↦ rw (c, ltb-t (length b) (sizeFor (some k)) h) (agrees-cut (omega arith))
+    | lt h ↦ rw (c, lt-ltb (length b) (sizeFor (some k)) h) (agrees-cut (omega arith))
     | ge h ↦ agrees-whole k c (8 * fieldCount k) refl (omega arith) (omega arith)
   ]
 
@@ -155,7 +155,7 @@ module _ (x y u v : ℕ) (l more : List ℕ) where
 
   agrees-four : Agrees b more (parsed b)
   unfolding parsed
-  agrees-four = rw (ltb-f (length b) 4 (omega arith)) agrees-kind
+  agrees-four = rw (le-ltb (length b) 4 (omega arith)) agrees-kind
 
 agrees : (b more : List ℕ) → Agrees b more (parsed b)
 unfolding parsed frontOf

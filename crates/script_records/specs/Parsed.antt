@@ -57,7 +57,7 @@ callFor (some alias) r = Call.Do (Step.Alias (handleIn r) (r .c) (accessIn (r .d
 callFor (some carve) r = Call.Do (Step.Carve (handleIn r) (r .c) (accessIn (r .d) (r .e) (r .f)))
 callFor (some send) r = Call.Do (Step.Send (handleIn r) (r .c) (r .d))
 callFor (some revoke) r = Call.Do (Step.Revoke (handleIn r) (r .c))
-callFor (some makeRevoke) r = Call.Do (Step.MakeRevoke (handleIn r) (r .c))
+callFor (some makeRevoke) r = Call.Do (Step.CreateRevokeCapa (handleIn r) (r .c))
 
 unfoldable pub callIn : Record → Call
 callIn r = callFor (kindOf (r .kind)) r

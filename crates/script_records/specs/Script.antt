@@ -54,7 +54,7 @@ fieldCount makeRevoke = 3
 
 -- a handle from its two fields
 abbrev pub handle : ℕ → ℕ → Handle
-handle slot gen = record { slot = slot; gen = gen }
+handle slot gen = record { slot = slot; generation = gen }
 
 -- "slot 2^64 − 1 is no manager"
 abbrev pub managerOf : ℕ → ℕ → Option Handle
@@ -74,7 +74,7 @@ callOf alias f = withRights (Step.Alias (handle (f 0) (f 1)) (f 2)) (f 3) (f 4) 
 callOf carve f = withRights (Step.Carve (handle (f 0) (f 1)) (f 2)) (f 3) (f 4) (f 5)
 callOf send f = some (Call.Do (Step.Send (handle (f 0) (f 1)) (f 2) (f 3)))
 callOf revoke f = some (Call.Do (Step.Revoke (handle (f 0) (f 1)) (f 2)))
-callOf makeRevoke f = some (Call.Do (Step.MakeRevoke (handle (f 0) (f 1)) (f 2)))
+callOf makeRevoke f = some (Call.Do (Step.CreateRevokeCapa (handle (f 0) (f 1)) (f 2)))
 
 -- ---- one record
 

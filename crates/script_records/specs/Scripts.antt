@@ -8,8 +8,8 @@ use mathlib.Core.List.{List, [], _∷_}
 use native.Mathlib.Omega.{arith}
 use lib.Dec.{ltb}
 use lib.ListN.{length, take, drop, length-drop}
+use Rattle.base.specs.Cases.{holds, fails, test}
 use Rattle.model.specs.Perform.{Call}
-use Rattle.laws.specs.Cases.{holds, fails, test}
 use Rattle.script_records.specs.Script.{number, bodyCall, Front, ended, bad, call, frontFor, frontOf, ahead, callsAt, callsFrom, scriptCalls}
 
 -- ---- fewer bytes

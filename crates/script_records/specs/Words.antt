@@ -4,12 +4,12 @@ use Prim.Native.Nat.{ℕ, zero, suc, _+_, _-_, _≤_, _<_, _^_}
 use mathlib.Core.Option.{Option, none, some}
 use mathlib.Core.List.{List, [], _∷_}
 use native.Mathlib.Omega.{arith}
-use borrow.Author.Tests.{ltb-false, eqb-true}
+use borrow.Author.Tests.{ltb-false, eqb-true, lt-ltb, le-ltb}
 use lib.Dec.{eqb, ltb}
 use lib.ListN.{length, take, drop}
+use Rattle.base.specs.Cases.{lt, ge, cmp, holds, fails, test}
 use Rattle.model.specs.State.{Word}
 use Rattle.model.specs.CallWords.{CallWords}
-use Rattle.laws.specs.Cases.{lt, ge, cmp, ltb-t, ltb-f, holds, fails, test}
 use Rattle.script_records.specs.declared.Record.{Record}
 use Rattle.script_records.specs.declared.Parsed.{Parsed}
 use Rattle.script_records.specs.declared.Parsed.the-variants.{Short, Bad, Call as Whole}
@@ -19,7 +19,7 @@ use Rattle.script_records.specs.Numbers.{Bytes, eight-fits}
 
 -- ---- a part of bytes
 
-bytes-drop : (n : ℕ) (l : List ℕ) → Bytes l → Bytes (drop n l)
+pub bytes-drop : (n : ℕ) (l : List ℕ) → Bytes l → Bytes (drop n l)
 bytes-drop zero l h = h
 bytes-drop (suc n) [] h = h
 bytes-drop (suc n) (x ∷ l) h = bytes-drop n l (λ i. h (suc i))
@@ -85,8 +85,8 @@ module _ (b : List ℕ) (k : ℕ) where
 
   says-whole : 4 ≤ sizeOf k → sizeOf k ≤ 52 → Says b (whole k b)
   says-whole h m = elim (cmp (length b) (sizeOf k)) [
-    | lt c ↦ rw (ltb-t (length b) (sizeOf k) c) (omega arith)
-    | ge c ↦ rw (ltb-f (length b) (sizeOf k) c) (says-judged (take (sizeOf k - 4) (drop 4 b)) (λ y. bytes-take (sizeOf k - 4) (drop 4 b) (bytes-drop 4 b y)) h c)
+    | lt c ↦ rw (lt-ltb (length b) (sizeOf k) c) (omega arith)
+    | ge c ↦ rw (le-ltb (length b) (sizeOf k) c) (says-judged (take (sizeOf k - 4) (drop 4 b)) (λ y. bytes-take (sizeOf k - 4) (drop 4 b) (bytes-drop 4 b y)) h c)
   ]
 
   says-kind : Says b (ofKind k b)
@@ -104,8 +104,8 @@ module _ (b : List ℕ) (k : ℕ) where
 says : (b : List ℕ) → Says b (parsed b)
 unfolding parsed
 says b = elim (cmp (length b) 4) [
-  | lt h ↦ rw (ltb-t (length b) 4 h) (omega arith)
-  | ge h ↦ rw (ltb-f (length b) 4 h) (says-kind b (number (take 2 (drop 2 b))))
+  | lt h ↦ rw (lt-ltb (length b) 4 h) (omega arith)
+  | ge h ↦ rw (le-ltb (length b) 4 h) (says-kind b (number (take 2 (drop 2 b))))
 ]
 
 -- ---- the laws

@@ -2,10 +2,11 @@
 use mathlib.Core.Bool.{Bool, true}
 use Prim.Native.Nat.{ℕ, zero, suc, _%_}
 use lib.Dec.{eqb, ltb, leb}
-use Rattle.words.specs.Cases.{pick, both}
+use Rattle.base.specs.Cases.{pick}
+use Rattle.base.specs.Tests.{both}
 use Rattle.tables.specs.declared.RegionCapa.{RegionCapa}
 use Rattle.tables.specs.Kinds.{CARVE}
-use Rattle.tables.specs.Tables.{Tables, regionAt, withRegion}
+use Rattle.tables.specs.Tables.{Tables, regionAt, withRegion, withNext, withChild}
 use Rattle.rights.specs.Rights.{allowed}
 use Rattle.region.specs.declared.AccessRights.{AccessRights}
 use Rattle.tables.specs.Links.{linkTo, slotTo}
@@ -13,17 +14,6 @@ use Rattle.segment.specs.declared.Place.{Place}
 use Rattle.segment.specs.declared.Overlap.{Overlap}
 use Rattle.segment.specs.declared.Search.{Search}
 use Rattle.segment.specs.declared.Search.the-variants as search
-
--- ---- a region with one link changed
-
-abbrev pub withNext : RegionCapa → ℕ → RegionCapa
-withNext r k = record { kind = r .kind; owner = r .owner; parent = r .parent; start = r .start; end = r .end; rights = r .rights; child = r .child; next = k }
-
-abbrev pub withChild : RegionCapa → ℕ → RegionCapa
-withChild r k = record { kind = r .kind; owner = r .owner; parent = r .parent; start = r .start; end = r .end; rights = r .rights; child = k; next = r .next }
-
-abbrev pub withOwner : RegionCapa → ℕ → RegionCapa
-withOwner r k = record { kind = r .kind; owner = k; parent = r .parent; start = r .start; end = r .end; rights = r .rights; child = r .child; next = r .next }
 
 -- ---- searches
 

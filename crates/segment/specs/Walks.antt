@@ -10,13 +10,13 @@ use Rattle.tables.specs.declared.RegionCapa.{RegionCapa}
 use Rattle.tables.specs.Tables.{Tables, regionAt}
 use Rattle.sizes.specs.Sizes.{sizesOf}
 use Rattle.tables.specs.View.{view, ofParts, Sized}
-use Rattle.answers.specs.declared.Refusal.{Refusal}
-use Rattle.answers.specs.declared.Refusal.the-variants.{Memory}
+use Rattle.refusals.specs.declared.Refusal.{Refusal}
+use Rattle.refusals.specs.Refusals.{memory}
 use Rattle.answers.specs.declared.Answer.{Answer}
 use Rattle.answers.specs.declared.Answer.the-variants.{Done, Refused}
 use Rattle.answers.specs.Answers.{andThen}
 use Rattle.tables.specs.Links.{slotTo}
-use Rattle.answers.specs.Then.{Ran, stays, step-done, on-refused}
+use Rattle.answers.specs.Then.{Realizes, stays, step-done, on-refused}
 use Rattle.segment.specs.declared.Place.{Place}
 use Rattle.segment.specs.declared.Search.{Search}
 use Rattle.segment.specs.Children.{endsB, findFrom}
@@ -61,7 +61,7 @@ module _ (w : Search) (s : Tables) (r : RegionCapa) (b : Bool) (n p k : ℕ) (h 
 -- ---- a send
 
 module _ (old new r e n x k : ℕ) where
-  pub send-out : (u : List ℕ) → Sized u → n ≡ 0 → Ran u (Refused Memory) (sendFrom old new r e n x k (view u))
+  pub send-out : (u : List ℕ) → Sized u → n ≡ 0 → Realizes u (Refused memory) (sendFrom old new r e n x k (view u))
   unfolding sendFrom
   send-out u s z = rw z (refl, stays u s)
 
@@ -92,9 +92,9 @@ module _ (old new r e n x k : ℕ) where
           piece zero h = absurd (omega arith)
           piece (suc n) h = let z : suc n - 1 ≡ n = omega arith in rw (ne-eqb k 0 nk, ← ec, eq-eqb (c .kind) 3 y, z)
 
-      module _ (y : c .kind ≡ 3) (u : List ℕ) (a : Answer) (ran : Ran u a (movePiece old new r x (c .start) s)) where
+      module _ (y : c .kind ≡ 3) (u : List ℕ) (a : Answer) (ran : Realizes u a (movePiece old new r x (c .start) s)) where
         pub send-on : (v : ℕ) → a ≡ Done v → sendFrom old new r e (n - 1) (c .end) (c .next) (view u) ≡ sendFrom old new r e n x k s
         send-on v d = sym (step-done _ _ u a ran v d) ∙ carve y
 
-        pub send-refused : (q : Refusal) → a ≡ Refused q → Ran u (Refused q) (sendFrom old new r e n x k s)
+        pub send-refused : (q : Refusal) → a ≡ Refused q → Realizes u (Refused q) (sendFrom old new r e n x k s)
         send-refused q d = rw (← carve y) (on-refused _ _ u a ran q d)

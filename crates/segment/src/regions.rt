@@ -4,9 +4,9 @@ ghost use Rattle.tables.specs.View.{view, Sized, Left};
 ghost use Rattle.segment.specs.Regions.{access, capaFor, newRegion, freedRegion, movePiece};
 use crate::children;
 use answers::Answer;
-use answers::Refusal;
 use arena::Freed;
 use arena::Given;
+use refusals::Refusal;
 use region::AccessRights;
 use tables::RegionCapa;
 
@@ -46,7 +46,7 @@ pub fn new_region(t: &mut [u64], r: RegionCapa) -> Answer
             tables::store_region(t, h.slot as usize, r);
             Answer::Done(h.slot)
         }
-        Given::Full => Answer::Refused(Refusal::NoRegion),
+        Given::Full => Answer::Refused(Refusal::NO_REGION),
     }
 }
 
@@ -58,8 +58,8 @@ pub fn free_region(t: &mut [u64], i: usize) -> Answer
 {
     match pools::free_region(t, i) {
         Freed::Done => Answer::Done(0),
-        Freed::Spent => Answer::Refused(Refusal::Spent),
-        Freed::NotHeld => Answer::Refused(Refusal::Memory),
+        Freed::Spent => Answer::Refused(Refusal::SPENT),
+        Freed::NotHeld => Answer::Refused(Refusal::MEMORY),
     }
 }
 

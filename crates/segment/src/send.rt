@@ -4,7 +4,7 @@ ghost use Rattle.tables.specs.View.{view, Sized, Left};
 ghost use Rattle.segment.specs.Regions.{sendFrom, sendRegion};
 use crate::regions;
 use answers::Answer;
-use answers::Refusal;
+use refusals::Refusal;
 use tables::RegionCapa;
 
 // The range from `start` up to `end` less the carved children from `first` on; at most `limit` children.
@@ -42,7 +42,7 @@ fn send_from(
             Answer::Refused(r) => return Answer::Refused(r),
         }
     }
-    Answer::Refused(Refusal::Memory)
+    Answer::Refused(Refusal::MEMORY)
 }
 
 // Region i becomes domain `new`'s. Its children stay where they are.

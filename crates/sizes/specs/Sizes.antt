@@ -39,7 +39,32 @@ poolWidth n = 2 + (n + n)
 abbrev pub sections : ℕ
 sections = 8
 
--- the widths of the sections: header, three pools, domains, regions, tracker records, ring
+-- the place of each in their order
+abbrev pub headerSection : ℕ
+headerSection = 0
+
+abbrev pub domainPoolSection : ℕ
+domainPoolSection = 1
+
+abbrev pub regionPoolSection : ℕ
+regionPoolSection = 2
+
+abbrev pub recordPoolSection : ℕ
+recordPoolSection = 3
+
+abbrev pub domainsSection : ℕ
+domainsSection = 4
+
+abbrev pub regionsSection : ℕ
+regionsSection = 5
+
+abbrev pub recordsSection : ℕ
+recordsSection = 6
+
+abbrev pub ringSection : ℕ
+ringSection = 7
+
+-- their widths
 abbrev pub widths : Sizes → List ℕ
 widths z =
     headerWidth ∷ poolWidth (z .domains) ∷ poolWidth (z .regions) ∷ poolWidth (z .records) ∷ (z .domains * stride z) ∷ (z .regions * regionWidth) ∷ (z .records * recordWidth) ∷ ((z .updates + 1) * updateWidth) ∷ []

@@ -3,7 +3,7 @@ ghost use mathlib.Core.Path.{_≡_};
 ghost use Rattle.words.specs.Cuts.{offset};
 ghost use Rattle.sizes.specs.Limits.{Limits, withinB, limitsB};
 ghost use Rattle.sizes.specs.Tests.{sizedB};
-ghost use Rattle.sizes.specs.Sizes.{sizesOf, stride, widths, total};
+ghost use Rattle.sizes.specs.Sizes.{sizesOf, stride, regionPoolSection, recordPoolSection, domainsSection, regionsSection, recordsSection, ringSection, widths, total};
 
 // ---- The header's words: five sizes, and the ring's two places
 
@@ -109,42 +109,42 @@ pub fn domain_width(z: Sizes) -> usize
 
 pub fn region_pool_at(z: Sizes) -> usize
     requires { ⌜ Limits z ⌝ }
-    ensures { λ r. ⌜ r ≡ offset (widths z) 2 ⌝ }
+    ensures { λ r. ⌜ r ≡ offset (widths z) regionPoolSection ⌝ }
 {
     HEADER_WIDTH + (POOL_HEAD + 2 * z.domains)
 }
 
 pub fn record_pool_at(z: Sizes) -> usize
     requires { ⌜ Limits z ⌝ }
-    ensures { λ r. ⌜ r ≡ offset (widths z) 3 ⌝ }
+    ensures { λ r. ⌜ r ≡ offset (widths z) recordPoolSection ⌝ }
 {
     region_pool_at(z) + (POOL_HEAD + 2 * z.regions)
 }
 
 pub fn domains_at(z: Sizes) -> usize
     requires { ⌜ Limits z ⌝ }
-    ensures { λ r. ⌜ r ≡ offset (widths z) 4 ⌝ }
+    ensures { λ r. ⌜ r ≡ offset (widths z) domainsSection ⌝ }
 {
     record_pool_at(z) + (POOL_HEAD + 2 * z.records)
 }
 
 pub fn regions_at(z: Sizes) -> usize
     requires { ⌜ Limits z ⌝ }
-    ensures { λ r. ⌜ r ≡ offset (widths z) 5 ⌝ }
+    ensures { λ r. ⌜ r ≡ offset (widths z) regionsSection ⌝ }
 {
     domains_at(z) + z.domains * domain_width(z)
 }
 
 pub fn records_at(z: Sizes) -> usize
     requires { ⌜ Limits z ⌝ }
-    ensures { λ r. ⌜ r ≡ offset (widths z) 6 ⌝ }
+    ensures { λ r. ⌜ r ≡ offset (widths z) recordsSection ⌝ }
 {
     regions_at(z) + z.regions * REGION_WIDTH
 }
 
 pub fn ring_at(z: Sizes) -> usize
     requires { ⌜ Limits z ⌝ }
-    ensures { λ r. ⌜ r ≡ offset (widths z) 7 ⌝ }
+    ensures { λ r. ⌜ r ≡ offset (widths z) ringSection ⌝ }
 {
     records_at(z) + z.records * RECORD_WIDTH
 }

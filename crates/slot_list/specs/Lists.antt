@@ -3,7 +3,9 @@ use mathlib.Core.Bool.{Bool}
 use Prim.Native.Nat.{ℕ, _+_, _-_}
 use lib.Dec.{ltb, eqb}
 use lib.ListN.{getD, set, take, replicate}
-use Rattle.words.specs.Cases.{pick, both}
+use Rattle.sizes.specs.Limits.{mostSlots}
+use Rattle.base.specs.Cases.{pick}
+use Rattle.base.specs.Tests.{both}
 use Rattle.tables.specs.declared.Slot.{Slot}
 use Rattle.tables.specs.Kinds.{FREE}
 use Rattle.tables.specs.Tables.{noSlot}
@@ -13,7 +15,7 @@ use Rattle.slot_list.specs.declared.Inserted.the-variants.{At, Full}
 
 -- the list of what is no domain
 abbrev pub noList : SlotList
-noList = record { slots = replicate 128 noSlot; head = 0; count = 0; size = 0 }
+noList = record { slots = replicate mostSlots noSlot; head = 0; count = 0; size = 0 }
 
 abbrev pub freeSlot : ℕ → Slot
 freeSlot next = record { kind = FREE; handle = record { slot = next; generation = 0 } }

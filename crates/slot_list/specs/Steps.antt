@@ -1,25 +1,18 @@
 -- The steps of the functions: what the values that they read make of their tests and their answers.
-use mathlib.Core.Path.{_≡_, refl, sym, _∙_}
+use mathlib.Core.Path.{_≡_, sym, _∙_}
 use mathlib.Core.Bool.{Bool, true, false}
-use mathlib.Core.List.{List, [], _∷_}
-use Prim.Native.Nat.{ℕ, zero, suc, _+_, _≤_, _<_}
-use native.Mathlib.Omega.{arith}
+use Prim.Native.Nat.{ℕ, _+_, _≤_, _<_}
 use borrow.Author.Tests.{ltb-true}
 use lib.Dec.{ltb}
 use lib.ListN.{length, getD, take, List·getD-eq-default}
 use lib.Seq.{getD-take}
-use Rattle.words.specs.Cases.{both, both-true}
+use Rattle.base.specs.Tests.{both, both-true}
+use Rattle.base.specs.Lists.{getD-any}
 use Rattle.tables.specs.declared.Slot.{Slot}
 use Rattle.tables.specs.Tables.{noSlot}
 use Rattle.slot_list.specs.declared.SlotList.{SlotList}
 use Rattle.slot_list.specs.declared.Inserted.the-variants.{At, Full}
 use Rattle.slot_list.specs.Lists.{freeSlot, isFreeB, slotIn, putIn, givesB, giveSlot}
-
--- inside a list the default does not matter
-pub getD-any : {A : Type 0} (l : List A) (i : ℕ) (d e : A) → i < length l → getD l i d ≡ getD l i e
-getD-any [] i d e h = absurd (omega arith)
-getD-any (x ∷ l) zero d e h = refl
-getD-any (x ∷ l) (suc i) d e h = getD-any l i d e (omega arith)
 
 -- ---- a list by value
 

@@ -2,13 +2,14 @@
 ghost use mathlib.Core.Path.{_≡_};
 ghost use Prim.Native.Nat.{_-_};
 ghost use Rattle.slot_list.specs.Lists.{freeSlot, isFreeB, slotIn, putIn, emptySlot, giveSlot, takeSlot};
+use sizes::MOST_SLOTS;
 use tables::Handle;
 use tables::Slot;
 
 // The list with its free list: `head` is the free slot that is given next, `count` the slots in use.
 // The places past `size` hold the slot that is all zero.
 pub struct SlotList {
-    pub slots: [Slot; 128],
+    pub slots: [Slot; MOST_SLOTS],
     pub head: u64,
     pub count: u64,
     pub size: usize,
@@ -57,7 +58,7 @@ pub fn slot_of(list: SlotList, i: usize) -> Slot
     ensures { λ r. ⌜ r ≡ slotIn list i ⌝ }
 {
     if i < list.size {
-        if i < 128 {
+        if i < MOST_SLOTS {
             return list.slots[i];
         }
     }
@@ -69,7 +70,7 @@ pub fn put(list: SlotList, i: usize, x: Slot) -> SlotList
     ensures { λ r. ⌜ r ≡ putIn list i x ⌝ }
 {
     let mut out = list;
-    if i < 128 {
+    if i < MOST_SLOTS {
         out.slots[i] = x;
     }
     out

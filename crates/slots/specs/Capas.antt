@@ -4,7 +4,7 @@ use mathlib.Core.List.{[], _∷_}
 use Prim.Native.Nat.{ℕ}
 use lib.Dec.{ltb}
 use lib.ListN.{getD}
-use Rattle.words.specs.Cases.{pick}
+use Rattle.base.specs.Cases.{pick}
 use Rattle.tables.specs.declared.Slot.{Slot}
 use Rattle.tables.specs.Tables.{Tables}
 use Rattle.arena.specs.Arena.{liveB}

@@ -8,7 +8,10 @@ use native.Mathlib.Omega.{arith}
 use borrow.Author.Tests.{lt-ltb, le-ltb, ltb-true}
 use lib.Dec.{ltb}
 use lib.ListN.{getD, List·getD-eq-default}
-use Rattle.words.specs.Cases.{both, both-true, cmp, lt, ge}
+use Rattle.sizes.specs.Limits.{mostSlots}
+use Rattle.base.specs.Cases.{cmp, lt, ge}
+use Rattle.base.specs.Tests.{both, both-true}
+use Rattle.base.specs.Lists.{getD-any}
 use Rattle.tables.specs.declared.Slot.{Slot}
 use Rattle.tables.specs.Tables.{noSlot, headAt, slotAt}
 use Rattle.sizes.specs.Sizes.{sizesOf}
@@ -17,7 +20,6 @@ use Rattle.slot_list.specs.declared.SlotList.{SlotList}
 use Rattle.slot_list.specs.declared.Given.{Given}
 use Rattle.slot_list.specs.declared.Inserted.the-variants.{At, Full}
 use Rattle.slot_list.specs.Lists.{freeSlot, putIn, giveSlot, freed}
-use Rattle.slot_list.specs.Steps.{getD-any}
 use Rattle.slots.specs.Sweep.{sweepSlot, sweepFrom}
 use Rattle.stored_slots.specs.Record.{domainOr, listOf, listAt, withList}
 use Rattle.stored_slots.specs.Rows.{domain-slots, no-domain}
@@ -26,13 +28,13 @@ use Rattle.slots.specs.Capas.{byKind, roomB, swept, withCapacity, withCa
 -- ---- a turn of the sweep
 
 module _ (bad : Slot → Bool) (l : SlotList) (i : ℕ) where
-  pub sweep-turn : (m : SlotList) → i < 128 → m ≡ sweepSlot bad l i → sweepFrom bad (128 - (i + 1)) (i + 1) m ≡ sweepFrom bad (128 - i) i l
+  pub sweep-turn : (m : SlotList) → i < mostSlots → m ≡ sweepSlot bad l i → sweepFrom bad (mostSlots - (i + 1)) (i + 1) m ≡ sweepFrom bad (mostSlots - i) i l
   unfolding sweepFrom
-  sweep-turn m h e = let n : 128 - i ≡ suc (128 - suc i) = omega arith in rw (n, add-one, e)
+  sweep-turn m h e = let n : mostSlots - i ≡ suc (mostSlots - suc i) = omega arith in rw (n, add-one, e)
 
-  pub sweep-end : 128 ≤ i → sweepFrom bad (128 - i) i l ≡ l
+  pub sweep-end : mostSlots ≤ i → sweepFrom bad (mostSlots - i) i l ≡ l
   unfolding sweepFrom
-  sweep-end h = let n : 128 - i ≡ 0 = omega arith in rw n
+  sweep-end h = let n : mostSlots - i ≡ 0 = omega arith in rw n
 
   module _ (b c : Bool) (x : Slot) (ex : x ≡ getD (l .slots) i noSlot) (ec : c ≡ bad x) (eb : b ≡ both (ltb i (l .size)) c) where
     pub sweep-freed : b ≡ true → freed l i ≡ sweepSlot bad l i

@@ -2,6 +2,7 @@
 ghost use mathlib.Core.Path.{_≡_};
 ghost use Rattle.tables.specs.View.{view, Sized};
 ghost use Rattle.slots.specs.Capas.{isInvalidB, swept};
+use sizes::MOST_SLOTS;
 use slot_list::SlotList;
 use tables::Slot;
 
@@ -30,7 +31,7 @@ pub fn free_invalid_capas(t: &[u64], list: SlotList) -> SlotList
     let mut head = list.head;
     let mut count = list.count;
     let mut i = 0;
-    while i < 128 {
+    while i < MOST_SLOTS {
         let x = slots[i];
         if words::both(i < size, is_invalid(t, x)) {
             slots[i] = slot_list::free_slot(head);

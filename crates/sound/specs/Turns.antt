@@ -5,7 +5,7 @@ use mathlib.Core.List.{List}
 use Prim.Native.Nat.{ℕ}
 use borrow.Author.Tests.{not-true, not-false}
 use lib.ListN.{length, replicate}
-use Rattle.words.specs.Cases.{both}
+use Rattle.base.specs.Tests.{both}
 
 -- where the test x holds, the answer s is what the rest r says; where it fails, s is false
 module _ (b x r s : Bool) (e : b ≡ x) (h : both x r ≡ s) where

@@ -9,7 +9,9 @@ use borrow.Author.Tests.{eq-eqb, ne-eqb, le-leb, lt-leb}
 use lib.Dec.{eqb, leb}
 use lib.ListN.{length, getD, set, replicate, length-set}
 use lib.Seq.{getD-set-same, getD-set-other}
-use Rattle.words.specs.Cases.{pick, both, cmp, lt, ge}
+use Rattle.base.specs.Cases.{pick, cmp, lt, ge}
+use Rattle.base.specs.Tests.{both}
+use Rattle.base.specs.Lists.{getD-zeros}
 use Rattle.sound_capas.specs.Claims.{either, claimed, claimsFit, claimCount, claimsHold}
 
 -- nothing, or a number that has a mark to set
@@ -160,14 +162,9 @@ scan-whole f (suc n) = scan-suc f n (scan-whole f n)
 
 -- ---- no marks at first
 
-zero-at : (n i : ℕ) → _≡_ {A = ℕ} (getD (replicate n 0) i 0) 0
-zero-at zero i = refl
-zero-at (suc n) zero = refl
-zero-at (suc n) (suc i) = zero-at n i
-
 none-marked : (f : ℕ → ℕ) (j k n : ℕ) → allFresh f (replicate j 0) k n ≡ true
 none-marked f j k zero = refl
-none-marked f j k (suc n) = rw (zero-at j (f k - 1)) (yes (eqb (f k) 0) ∙ none-marked f j (suc k) n)
+none-marked f j k (suc n) = rw (getD-zeros j (f k - 1)) (yes (eqb (f k) 0) ∙ none-marked f j (suc k) n)
   where
     yes : (a : Bool) → both (either a true) (allFresh f (replicate j 0) (suc k) n) ≡ allFresh f (replicate j 0) (suc k) n
     yes true = refl

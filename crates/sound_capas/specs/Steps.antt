@@ -6,12 +6,13 @@ use mathlib.Core.List.{List}
 use native.Mathlib.Nat.{mul-le-mul}
 use native.Mathlib.Omega.{arith}
 use borrow.Rule.Slice.PartMut.{putMid, put-same}
-use lib.ListN.{length, getD, take, drop, replicate, length-take, length-drop}
+use lib.ListN.{length, take, drop, replicate}
+use Rattle.base.specs.Lists.{length-first}
 use Rattle.words.specs.Cuts.{offset}
 use Rattle.words.specs.Zeros.{take-zeros}
 use Rattle.tables.specs.Tables.{Tables}
 use Rattle.sizes.specs.declared.Sizes.{Sizes}
-use Rattle.sizes.specs.Limits.{Limits}
+use Rattle.sizes.specs.Limits.{mostDomains, mostSlots, Limits}
 use Rattle.tables.specs.View.{view, ofParts, Sized}
 use Rattle.sizes.specs.Sizes.{sizesOf, total}
 use Rattle.arena.specs.Arena.{capacityOf}
@@ -23,10 +24,6 @@ use Rattle.sound_capas.specs.Capas.{above, climbed, capaClaim, capasHold
 pub sizes-seen : (t : List ℕ) → sizesOf t ≡ view t .sizes
 unfolding view ofParts
 sizes-seen t = refl
-
-pub slots-seen : (t : List ℕ) → getD t 1 0 ≡ view t .sizes .slots
-unfolding view ofParts sizesOf
-slots-seen t = refl
 
 -- ---- climbing
 
@@ -43,14 +40,11 @@ climb-end v n i l h = let e : n - i ≡ 0 = omega arith in ap (λ k. climbed v k
 
 -- ---- the marks are a part of the work area
 
-pub lent-long : (w : List ℕ) (m : ℕ) → m ≤ length w → length (take (m - 0) (drop 0 w)) ≡ m
-lent-long w m h = simp (length-take, length-drop) (omega arith)
-
 pub lent-clear : (w : List ℕ) (m : ℕ) → w ≡ replicate (length w) 0 → m ≤ length w → take (m - 0) (drop 0 w) ≡ replicate (length (take (m - 0) (drop 0 w))) 0
 lent-clear w m e h =
     let n = length w in
     let s : n ≡ m - 0 + (n - m) = omega arith in
-    let l : m - 0 ≡ length (take (m - 0) (drop 0 w)) = omega (arith, lent-long w m h) in
+    let l : m - 0 ≡ length (take (m - 0) (drop 0 w)) = omega (arith, length-first w m h) in
     ap (λ (l : List ℕ). take (m - 0) l) (e ∙ ap (λ k. replicate k 0) s)
     ∙ take-zeros (m - 0) (n - m)
     ∙ ap (λ k. replicate k 0) l
@@ -58,8 +52,8 @@ lent-clear w m e h =
 pub lent-same : (w p : List ℕ) (m : ℕ) → p ≡ take (m - 0) (drop 0 w) → putMid 0 (m - 0) w p ≡ w
 lent-same w p m e = ap (putMid 0 (m - 0) w) e ∙ put-same 0 (m - 0) w
 
-pub rows-fit : (z : Sizes) → Limits z → z .domains * (z .slots + 1) ≤ 4128
-rows-fit z h = let e : z .slots + 1 ≤ 129 = omega (arith, h .slots-high) in mul-le-mul (h .domains-high) e
+pub rows-fit : (z : Sizes) → Limits z → z .domains * (z .slots + 1) ≤ mostDomains * (mostSlots + 1)
+rows-fit z h = let e : z .slots + 1 ≤ mostSlots + 1 = omega (arith, h .slots-high) in mul-le-mul (h .domains-high) e
 
 pub marks-fit : (t : List ℕ) → Sized t → sizesOf t .regions + sizesOf t .domains ≤ length t
 unfolding total offset

@@ -1,7 +1,7 @@
 // Tests and numbers as values, with no branch for the caller.
 ghost use mathlib.Core.Path.{_≡_};
 ghost use Prim.Native.Nat.{_+_, _-_, _≤_};
-ghost use Rattle.words.specs.Cases.{pick};
+ghost use Rattle.base.specs.Cases.{pick};
 ghost use Rattle.sound_capas.specs.Capas.{number, namesB};
 
 pub fn select(b: bool, x: usize, y: usize) -> usize

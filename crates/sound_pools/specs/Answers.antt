@@ -5,8 +5,8 @@ use mathlib.Core.Bool.{Bool, true, false, not}
 use mathlib.Core.List.{List, []}
 use native.Mathlib.Omega.{arith}
 use borrow.Author.Tests.{le-leb, lt-leb, not-true, not-false}
-use lib.ListN.{length, getD, take, drop, replicate, length-take, length-drop}
-use Rattle.words.specs.Cases.{both}
+use lib.ListN.{length, getD, replicate}
+use Rattle.base.specs.Tests.{both}
 use Rattle.tables.specs.declared.DomainHead.{DomainHead}
 use Rattle.tables.specs.Tables.{Tables, headAt}
 use Rattle.tables.specs.View.{view, ofParts}
@@ -17,16 +17,12 @@ use Rattle.sound_pools.specs.declared.links.Top.{Top}
 use Rattle.sound_pools.specs.Walk.{linkTo}
 use Rattle.sound_pools.specs.Hold.{slotsOf, topOf, mayMeet, metIn, coveredIn, stackHolds, trackersMet, trackersHold, headClear, slotsHold, domainHolds}
 use Rattle.sound_pools.specs.Marks.{Clean, marks-none, pick-then, pick-else}
-use Rattle.sound_pools.specs.Loops.{Marked, TrackersMarked, Settled, Beyond}
+use Rattle.sound_pools.specs.Loops.{Marked, TrackersMarked, MarksCompared, Beyond}
 use Rattle.sound_pools.specs.Turns.{Along, along-go, along-skip, along-stop}
 
 pub slots-seen : (t : List ℕ) → view t .sizes .slots ≡ getD t 1 0
 unfolding view ofParts sizesOf
 slots-seen t = refl
-
--- the part that is cleared
-pub part-many : (w : List ℕ) (n : ℕ) → n ≤ length w → length (take (n - 0) (drop 0 w)) ≡ n
-part-many w n h = simp (length-take, length-drop) (omega arith)
 
 pub clean-same : (t w w′ : List ℕ) → w′ ≡ w → Clean t w → Clean t w′
 clean-same t w w′ e c = subst (Clean t) (sym e) c
@@ -49,7 +45,7 @@ module _ (t w : List ℕ) (cl : Clean t w) where
         let a = er ∙ ap (walked n top) el ∙ ap (λ k. walked k top (linkTo k (top .head))) en ∙ ap (λ (p : Top). walked (slotsOf (view t) s) p (linkTo (slotsOf (view t) s) (p .head))) et in
         a ∙ sym (ap (λ b. both b (walked (slotsOf (view t) s) (topOf (view t) s) (linkTo (slotsOf (view t) s) (topOf (view t) s .head)))) (le-leb _ _ c))
 
-    pub stack-is : (l : ℕ) (m r : Bool) (w₁ w₂ : List ℕ) → top .count ≤ n → l ≡ linkTo n (top .head) → Marked (view t) s 1 (n - top .count) l w m w₁ → length w₁ ≡ length w → Settled (view t) s m w₁ r w₂ → (r ≡ stackHolds (view t) s) × (w₂ ≡ w)
+    pub stack-is : (l : ℕ) (m r : Bool) (w₁ w₂ : List ℕ) → top .count ≤ n → l ≡ linkTo n (top .head) → Marked (view t) s 1 (n - top .count) l w m w₁ → length w₁ ≡ length w → MarksCompared (view t) s m w₁ r w₂ → (r ≡ stackHolds (view t) s) × (w₂ ≡ w)
     stack-is l m r w₁ w₂ h el g e q = (
       stack-then l r h el (q .answer (metIn (view t) s 1 (n - top .count) l []) (g .goes [] (marks-none t w cl))),
       back (slotsOf (view t) s) w₁ w₂ (g .beyond) e (q .clean),
@@ -61,7 +57,7 @@ module _ (t w : List ℕ) (cl : Clean t w) where
         let c : slotsOf (view t) s < topOf (view t) s .count = omega (arith, ap (λ (p : Top). p .count) et) in
         sym (ap (λ b. both b (walked (slotsOf (view t) s) (topOf (view t) s) (linkTo (slotsOf (view t) s) (topOf (view t) s .head)))) (lt-leb _ _ c))
 
-  pub trackers-is : (m r : Bool) (w₁ w₂ : List ℕ) → TrackersMarked (view t) w m w₁ → length w₁ ≡ length w → Settled (view t) Trackers m w₁ r w₂ → (r ≡ trackersHold (view t)) × (w₂ ≡ w)
+  pub trackers-is : (m r : Bool) (w₁ w₂ : List ℕ) → TrackersMarked (view t) w m w₁ → length w₁ ≡ length w → MarksCompared (view t) Trackers m w₁ r w₂ → (r ≡ trackersHold (view t)) × (w₂ ≡ w)
   unfolding trackersHold
   trackers-is m r w₁ w₂ g e q = (
     q .answer (trackersMet (view t) (view t .sizes .domains) 0 []) (g .goes [] (marks-none t w cl)),

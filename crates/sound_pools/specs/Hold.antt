@@ -6,7 +6,8 @@ use mathlib.Core.Option.{Option, none, some}
 use mathlib.Core.List.{List, []}
 use lib.Dec.{eqb, ltb, leb}
 use lib.ListN.{getD}
-use Rattle.words.specs.Cases.{pick, both}
+use Rattle.base.specs.Cases.{pick}
+use Rattle.base.specs.Tests.{both, allFrom}
 use Rattle.tables.specs.declared.DomainHead.{DomainHead}
 use Rattle.tables.specs.declared.Slot.{Slot}
 use Rattle.tables.specs.declared.RegionCapa.{RegionCapa}
@@ -16,7 +17,7 @@ use Rattle.tables.specs.Tables.{Tables, headAt, slotAt, regionAt, recordAt}
 use Rattle.sound_pools.specs.declared.links.Stack.{Stack}
 use Rattle.sound_pools.specs.declared.links.Stack.the-variants.{Domains, Regions, Records, Slots, Trackers}
 use Rattle.sound_pools.specs.declared.links.Top.{Top}
-use Rattle.sound_pools.specs.Walk.{linkTo, met, covered, allFrom}
+use Rattle.sound_pools.specs.Walk.{linkTo, met, covered}
 
 -- ---- the free stacks of the three pools and of each domain's list; `Trackers` are the records in use, along all trackers
 
@@ -94,8 +95,8 @@ unfoldable pub slotClear : Slot → Bool
 slotClear x = both (eqb (x .kind) 0) (both (eqb (x .handle .slot) 0) (eqb (x .handle .generation) 0))
 
 -- the kind is known; no slot word where it is `Capa::None`, no generation where it is that or free
-unfoldable pub slotTidy : Slot → Bool
-slotTidy x = pick (leb (x .kind) FREE) (pick (eqb (x .kind) NONE) (both (eqb (x .handle .generation) 0) (eqb (x .handle .slot) 0)) (eqb (x .handle .generation) 0)) (leb (x .kind) CHANNEL)
+unfoldable pub slotWellFormed : Slot → Bool
+slotWellFormed x = pick (leb (x .kind) FREE) (pick (eqb (x .kind) NONE) (both (eqb (x .handle .generation) 0) (eqb (x .handle .slot) 0)) (eqb (x .handle .generation) 0)) (leb (x .kind) CHANNEL)
 
 unfoldable pub regionClear : RegionCapa → Bool
 regionClear r =
@@ -109,7 +110,7 @@ recordClear r =
 
 -- a slot of a domain in use, or of one that is free
 abbrev pub slotFits : Bool → Slot → Bool
-slotFits free x = pick free (slotClear x) (slotTidy x)
+slotFits free x = pick free (slotClear x) (slotWellFormed x)
 
 unfoldable pub slotsHold : Tables → ℕ → Bool → Bool
 slotsHold v d free = allFrom (λ j. slotFits free (slotAt v d j)) 0 (v .sizes .slots)

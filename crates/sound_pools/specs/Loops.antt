@@ -10,7 +10,8 @@ use borrow.Author.Tests.{ltb-true, lt-ltb}
 use lib.Dec.{eqb, ltb}
 use lib.ListN.{length, getD, set, take, drop, replicate}
 use lib.Seq.{getD-set-other}
-use Rattle.words.specs.Cases.{pick, both, both-true}
+use Rattle.base.specs.Cases.{pick}
+use Rattle.base.specs.Tests.{both, both-true}
 use Rattle.tables.specs.Tables.{Tables, Arena}
 use Rattle.words.specs.Cuts.{offset}
 use Rattle.sizes.specs.Sizes.{sizesOf, total, stride}
@@ -68,7 +69,7 @@ pub record TrackersMarked (v : Tables) (w : List ℕ) (r : Bool) (w′ : List �
   pub beyond : Beyond (v .sizes .records) w w′
   pub goes : (vs : List ℕ) → Marks w vs → Gone (trackersMet v (v .sizes .domains) 0 vs) r w′
 
-pub record Settled (v : Tables) (s : Stack) (m : Bool) (w : List ℕ) (r : Bool) (w′ : List ℕ) : Type 0 where
+pub record MarksCompared (v : Tables) (s : Stack) (m : Bool) (w : List ℕ) (r : Bool) (w′ : List ℕ) : Type 0 where
   pub answer : (o : Option (List ℕ)) → Gone o m w → r ≡ coveredIn v s o
   pub clean : ((j : ℕ) → slotsOf v s ≤ j → getD w j 0 ≡ 0) → w′ ≡ replicate (length w) 0
 

@@ -8,10 +8,12 @@ use native.Mathlib.Numerals.{add-one}
 use native.Mathlib.Decide.{ℕ-discrete}
 use borrow.Author.Tests.{eq-eqb, ne-eqb}
 use lib.Dec.{eqb}
-use lib.ListN.{length, getD, set, replicate, length-replicate, getD-replicate, List·getD-eq-default}
+use lib.ListN.{length, getD, set, replicate, length-replicate}
 use lib.Seq.{getD-set-same, getD-set-other, ext-getD}
-use Rattle.words.specs.Cases.{pick, cmp, lt, ge}
-use Rattle.sound_pools.specs.Walk.{seen, mark, allFrom, covers}
+use Rattle.base.specs.Cases.{pick}
+use Rattle.base.specs.Tests.{allFrom}
+use Rattle.base.specs.Lists.{getD-zeros}
+use Rattle.sound_pools.specs.Walk.{seen, mark, covers}
 
 -- what the work area is before and after: as long as the tables, and all zero
 pub record Clean (t w : List ℕ) : Type 0 where
@@ -30,14 +32,8 @@ pub covers-marks : (ok : ℕ → Bool) (n : ℕ) (w vs : List ℕ) → Marks w v
 unfolding coversMarks covers
 covers-marks ok n w vs m = λ k. allFrom (λ i. eqb (m i k) (mark (ok i))) 0 n
 
-zero-at : (n j : ℕ) → _≡_ {A = ℕ} (getD (replicate n 0) j 0) 0
-zero-at n j = elim (cmp j n) [
-  | lt h ↦ getD-replicate n j 0 0 h
-  | ge h ↦ List·getD-eq-default (replicate n 0) 0 {n = j} (omega (arith, length-replicate {A = ℕ} n 0))
-]
-
 pub marks-none : (t w : List ℕ) → Clean t w → Marks w []
-marks-none t w c j = ap (λ (l : List ℕ). getD l j 0) (c .zero) ∙ zero-at (length w) j
+marks-none t w c j = ap (λ (l : List ℕ). getD l j 0) (c .zero) ∙ getD-zeros (length w) j
 
 pub marks-more : (w vs : List ℕ) (i : ℕ) → i < length w → Marks w vs → Marks (set w i 1) (i ∷ vs)
 marks-more w vs i h m j = elim (ℕ-discrete j i) [
@@ -55,7 +51,7 @@ unmarked w vs i m = ap (λ k. eqb k 0) (m i) ∙ clear (seen i vs)
 
 -- words that are all 0
 pub all-zero : (w : List ℕ) → ((j : ℕ) → getD w j 0 ≡ 0) → w ≡ replicate (length w) 0
-all-zero w h = ext-getD 0 w (replicate (length w) 0) (sym (length-replicate (length w) 0)) (λ i b. h i ∙ sym (zero-at (length w) i))
+all-zero w h = ext-getD 0 w (replicate (length w) 0) (sym (length-replicate (length w) 0)) (λ i b. h i ∙ sym (getD-zeros (length w) i))
 
 -- ---- every slot
 

@@ -9,13 +9,14 @@ use native.Mathlib.Omega.{arith}
 use borrow.Rule.Slice.PartMut.{putMid}
 use lib.ListN.{length, getD, drop, replicate, length-drop, replicate-append-replicate}
 use lib.Seq.{getD-drop}
-use Rattle.words.specs.Cases.{pick, both}
+use Rattle.base.specs.Cases.{pick}
+use Rattle.base.specs.Tests.{both}
 use Rattle.tables.specs.Tables.{Tables, headAt}
 use Rattle.sound_pools.specs.declared.links.Stack.{Stack}
 use Rattle.sound_pools.specs.declared.links.Stack.the-variants.{Domains, Trackers}
 use Rattle.sound_pools.specs.Hold.{slotsOf, mayMeet, metIn, coveredIn, onward, trackersMet}
 use Rattle.sound_pools.specs.Marks.{Marks, coversMarks, covers-marks, all-zero}
-use Rattle.sound_pools.specs.Loops.{found, Gone, Beyond, Marked, TrackersMarked, Settled, Rest}
+use Rattle.sound_pools.specs.Loops.{found, Gone, Beyond, Marked, TrackersMarked, MarksCompared, Rest}
 
 -- ---- compared and cleared
 
@@ -30,8 +31,8 @@ module _ (v : Tables) (s : Stack) (m all r : Bool) (w : List ℕ) (ea : all ≡ 
       let d : drop n w ≡ replicate (length w - n) 0 = all-zero (drop n w) (λ j. getD-drop n w j 0 ∙ h (n + j) (omega arith)) ∙ ap (λ k. replicate k 0) (length-drop n w) in
       ap (λ l. replicate n 0 ++ l) d ∙ replicate-append-replicate n (length w - n) 0 ∙ ap (λ k. replicate k 0) e
 
-  pub settled : (n k : ℕ) (p : List ℕ) → n ≡ slotsOf v s → k ≡ n → n ≤ length w → p ≡ replicate n 0 → Settled v s m w r (putMid 0 k w p)
-  settled n k p en ek b ep = record {
+  pub marks-compared : (n k : ℕ) (p : List ℕ) → n ≡ slotsOf v s → k ≡ n → n ≤ length w → p ≡ replicate n 0 → MarksCompared v s m w r (putMid 0 k w p)
+  marks-compared n k p en ek b ep = record {
     answer = answer-is;
     clean = λ h. ap (λ x. putMid 0 x w p) ek ∙ ap (putMid 0 n w) ep ∙ zeros-after n b (λ j q. h j (omega arith));
   }

@@ -4,7 +4,8 @@ use mathlib.Core.Bool.{Bool, true, false, not}
 use mathlib.Core.Option.{Option, none, some}
 use mathlib.Core.List.{List, [], _∷_}
 use lib.Dec.{eqb, ltb}
-use Rattle.words.specs.Cases.{pick, both}
+use Rattle.base.specs.Cases.{pick}
+use Rattle.base.specs.Tests.{both, allFrom}
 
 -- Is slot i among those that were met?
 abbrev pub seen : ℕ → List ℕ → Bool
@@ -28,11 +29,6 @@ unfoldable pub met : (ℕ → ℕ) → (ℕ → Bool) → ℕ → ℕ → ℕ �
 met next ok e zero l vs = ended e l vs
 met next ok e (suc k) zero vs = ended e 0 vs
 met next ok e (suc k) (suc i) vs = pick (fresh ok i vs) (met next ok e k (next i) (i ∷ vs)) none
-
--- k slots from slot i on pass the test
-unfoldable pub allFrom : (ℕ → Bool) → ℕ → ℕ → Bool
-allFrom p i zero = true
-allFrom p i (suc k) = both (p i) (allFrom p (suc i) k)
 
 -- a mark for what a test says
 abbrev pub mark : Bool → ℕ

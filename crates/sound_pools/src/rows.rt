@@ -1,7 +1,7 @@
 // Rows: what is free is all zero, and a domain in use has a list that holds.
 ghost use mathlib.Core.Path.{_≡_};
 ghost use Rattle.tables.specs.View.{view, Sized};
-ghost use Rattle.sound_pools.specs.Hold.{headClear, slotClear, slotTidy, slotFits, regionClear, recordClear, slotsHold, domainHolds, rowHolds, rowsHold};
+ghost use Rattle.sound_pools.specs.Hold.{headClear, slotClear, slotWellFormed, slotFits, regionClear, recordClear, slotsHold, domainHolds, rowHolds, rowsHold};
 ghost use Rattle.sound_pools.specs.Marks.{Clean};
 use crate::links;
 use crate::links::Stack;
@@ -30,8 +30,8 @@ fn slot_clear(x: Slot) -> bool
     )
 }
 
-fn slot_tidy(x: Slot) -> bool
-    ensures { λ r. ⌜ r ≡ slotTidy x ⌝ }
+fn slot_well_formed(x: Slot) -> bool
+    ensures { λ r. ⌜ r ≡ slotWellFormed x ⌝ }
 {
     if x.kind <= Slot::FREE {
         if x.kind == Slot::NONE {
@@ -47,7 +47,11 @@ fn slot_tidy(x: Slot) -> bool
 fn slot_fits(free: bool, x: Slot) -> bool
     ensures { λ r. ⌜ r ≡ slotFits free x ⌝ }
 {
-    if free { slot_clear(x) } else { slot_tidy(x) }
+    if free {
+        slot_clear(x)
+    } else {
+        slot_well_formed(x)
+    }
 }
 
 fn region_clear(r: RegionCapa) -> bool

@@ -5,7 +5,7 @@ ghost use lib.ListN.{length};
 ghost use Rattle.tables.specs.View.{view, Sized};
 ghost use Rattle.sound_pools.specs.Hold.{slotsOf, mayMeet, stackHolds, trackersHold};
 ghost use Rattle.sound_pools.specs.Marks.{Clean, coversMarks};
-ghost use Rattle.sound_pools.specs.Loops.{Marked, TrackersMarked, Settled};
+ghost use Rattle.sound_pools.specs.Loops.{Marked, TrackersMarked, MarksCompared};
 use crate::links;
 use crate::links::Stack;
 
@@ -49,10 +49,10 @@ fn covers(t: &[u64], s: Stack, w: &[u64]) -> bool
 }
 
 // The marks compared, where the walk went well, and cleared.
-fn settle(t: &[u64], s: Stack, met: bool, w: &mut [u64]) -> bool
+fn compare_marks(t: &[u64], s: Stack, met: bool, w: &mut [u64]) -> bool
     requires { ⌜ Sized (now t) ⌝ }
     requires { ⌜ length (now w) ≡ length (now t) ⌝ }
-    ensures { λ r. ⌜ Settled (view (now (t .entry))) s met (now (w .entry)) r (now (w .exit)) ⌝ }
+    ensures { λ r. ⌜ MarksCompared (view (now (t .entry))) s met (now (w .entry)) r (now (w .exit)) ⌝ }
 {
     let all = covers(t, s, w);
     let n = links::slots_of(t, s);
@@ -72,7 +72,7 @@ pub fn stack_holds(t: &[u64], s: Stack, w: &mut [u64]) -> bool
     let count = top.count as usize;
     if count <= n {
         let met = mark(t, s, 1, n - count, links::link_to(n, top.head), w);
-        return settle(t, s, met, w);
+        return compare_marks(t, s, met, w);
     }
     false
 }
@@ -107,5 +107,5 @@ pub fn trackers_hold(t: &[u64], w: &mut [u64]) -> bool
     ensures { λ _. ⌜ now (w .exit) ≡ now (w .entry) ⌝ }
 {
     let met = trackers_mark(t, w);
-    settle(t, Stack::Trackers, met, w)
+    compare_marks(t, Stack::Trackers, met, w)
 }

@@ -1,9 +1,10 @@
 -- The clauses about the ring (document 01, **Sound**): the ring's two places lie inside it; queued domains are live and queued singly. Places where
 -- nothing is queued are all zero. Of n places, with read place r, update number j is the one j places behind r, going round.
-use Prim.Native.Nat.{ℕ, zero, suc, _+_, _-_, _%_}
+use Prim.Native.Nat.{ℕ, _+_, _-_, _%_}
 use mathlib.Core.Bool.{Bool, true, not}
 use lib.Dec.{eqb, ltb}
-use Rattle.words.specs.Cases.{pick, both}
+use Rattle.base.specs.Cases.{pick}
+use Rattle.base.specs.Tests.{both, allFrom}
 use Rattle.tables.specs.declared.Update.{Update}
 use Rattle.tables.specs.declared.Handle.{Handle}
 use Rattle.tables.specs.Tables.{Tables, updateAt}
@@ -16,8 +17,8 @@ abbrev pub clearB : Update → Bool
 clearB u = both (both (eqb (u .kind) NOTHING) (eqb (u .a) 0)) (both (eqb (u .b) 0) (eqb (u .c) 0))
 
 -- a permission update, or a cleanup, which has two words
-abbrev pub tidyB : Update → Bool
-tidyB u = pick (eqb (u .kind) PERMISSION) true (both (eqb (u .kind) CLEANUP) (eqb (u .c) 0))
+abbrev pub wellFormedB : Update → Bool
+wellFormedB u = pick (eqb (u .kind) PERMISSION) true (both (eqb (u .kind) CLEANUP) (eqb (u .c) 0))
 
 abbrev pub handleAt : Update → Handle
 handleAt u = record { slot = u .a; generation = u .b }
@@ -28,18 +29,13 @@ liveIn v u = pick (eqb (u .kind) PERMISSION) (liveB (v .domainPool) (handleAt u)
 
 -- an update that is queued, or a place where none is
 unfoldable pub updateFits : Tables → Update → Bool → Bool
-updateFits v u queued = pick queued (both (tidyB u) (liveIn v u)) (clearB u)
+updateFits v u queued = pick queued (both (wellFormedB u) (liveIn v u)) (clearB u)
 
 -- both are permission updates of the same handle: slot and generation
 unfoldable pub sameDomain : Update → Update → Bool
 sameDomain u x = both (both (eqb (u .kind) PERMISSION) (eqb (x .kind) PERMISSION)) (both (eqb (u .a) (x .a)) (eqb (u .b) (x .b)))
 
 -- ---- the updates by number
-
--- k numbers from number i on pass the test
-unfoldable pub allFrom : (ℕ → Bool) → ℕ → ℕ → Bool
-allFrom p i zero = true
-allFrom p i (suc k) = both (p i) (allFrom p (suc i) k)
 
 -- the numbers from i up to e
 abbrev pub allIn : (ℕ → Bool) → ℕ → ℕ → Bool

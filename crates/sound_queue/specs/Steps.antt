@@ -8,11 +8,11 @@ use native.Mathlib.Omega.{arith}
 use borrow.Author.Tests.{ltb-true, not-true, not-false}
 use lib.Dec.{ltb}
 use lib.ListN.{getD}
-use Rattle.words.specs.Cases.{both, both-true}
+use Rattle.base.specs.Tests.{both, both-true, allFrom}
 use Rattle.tables.specs.Tables.{Tables}
 use Rattle.tables.specs.View.{view, ofParts}
 use Rattle.sizes.specs.Sizes.{sizesOf}
-use Rattle.sound_queue.specs.Ring.{allFrom, allIn, numbersHold, singly, queuedIn, ringHolds, queueHolds}
+use Rattle.sound_queue.specs.Ring.{allIn, numbersHold, singly, queuedIn, ringHolds, queueHolds}
 
 pub updates-seen : (t : List ℕ) → getD t 4 0 ≡ view t .sizes .updates
 unfolding view ofParts sizesOf

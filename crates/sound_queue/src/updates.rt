@@ -1,7 +1,7 @@
 // One update of the ring, and two.
 ghost use mathlib.Core.Path.{_≡_};
 ghost use Rattle.tables.specs.View.{view, Sized};
-ghost use Rattle.sound_queue.specs.Ring.{clearB, tidyB, liveIn, updateFits, sameDomain};
+ghost use Rattle.sound_queue.specs.Ring.{clearB, wellFormedB, liveIn, updateFits, sameDomain};
 use tables::Handle;
 use tables::Update;
 
@@ -12,8 +12,8 @@ fn is_clear(u: Update) -> bool
     words::both(front, words::both(u.b == 0, u.c == 0))
 }
 
-fn is_tidy(u: Update) -> bool
-    ensures { λ r. ⌜ r ≡ tidyB u ⌝ }
+fn is_well_formed(u: Update) -> bool
+    ensures { λ r. ⌜ r ≡ wellFormedB u ⌝ }
 {
     if u.kind == Update::PERMISSION {
         return true;
@@ -42,9 +42,9 @@ pub fn update_fits(t: &[u64], u: Update, queued: bool) -> bool
     ensures { λ r. ⌜ r ≡ updateFits (view (now (t .entry))) u queued ⌝ }
 {
     if queued {
-        let tidy = is_tidy(u);
+        let well_formed = is_well_formed(u);
         let live = is_live(t, u);
-        return words::both(tidy, live);
+        return words::both(well_formed, live);
     }
     is_clear(u)
 }

@@ -2,7 +2,7 @@
 use mathlib.Core.Bool.{Bool, true}
 use mathlib.Core.List.{List, [], _∷_}
 use Prim.Native.Nat.{ℕ, zero, suc}
-use Rattle.words.specs.Cases.{both}
+use Rattle.base.specs.Tests.{both}
 
 -- Does each slot pass?
 unfoldable pub every : (ℕ → Bool) → List ℕ → Bool

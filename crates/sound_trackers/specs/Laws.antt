@@ -1,14 +1,19 @@
 -- What a loop's turn is in the definitions, and the bound of the sums.
-use mathlib.Core.Path.{_≡_, refl, sym, _∙_}
+use mathlib.Core.Path.{_≡_, refl, sym, ap, _∙_}
 use mathlib.Core.Bool.{Bool, true, false, not}
 use mathlib.Core.List.{List, [], _∷_}
-use Prim.Native.Nat.{ℕ, zero, suc, _+_, _-_, _≤_, _<_}
+use Prim.Native.Nat.{ℕ, zero, suc, _+_, _-_, _/_, _%_, _^_, _≤_, _<_}
 use native.Mathlib.Numerals.{add-one}
 use native.Mathlib.Omega.{arith}
+use native.Mathlib.Nat.{pow-suc, dvd-mul-left, mod-mod-of-dvd}
 use lib.ListN.{getD}
-use Rattle.words.specs.Cases.{pick, both}
+use lib.Pow.{field}
 use lib.Dec.{leb}
-use Rattle.rights.specs.Rights.{has, count}
+use Rattle.rights.specs.Rights.{has, READ, WRITE, EXEC, SUPER}
+use Rattle.rights.specs.Counters.{oneIf, countersOf}
+use Rattle.rights.specs.declared.Counters.{Counters}
+use Rattle.base.specs.Cases.{pick}
+use Rattle.base.specs.Tests.{both}
 use Rattle.tables.specs.declared.Slot.{Slot}
 use Rattle.tables.specs.declared.RegionCapa.{RegionCapa}
 use Rattle.tables.specs.Tables.{Tables, slotAt, regionAt, recordAt}
@@ -18,25 +23,6 @@ use Rattle.sound_trackers.specs.declared.Sums.{Sums}
 use Rattle.sound_trackers.specs.Chains.{every, slotsFrom, chain}
 use Rattle.sound_trackers.specs.Tally.{noSums, ones, plus, coversB, carvesB, countsB, namesB, share, tallyTo, tally}
 use Rattle.sound_trackers.specs.Trackers.{touchesB, insideB, emptyB, pointIn}
-
--- ---- the sizes as they are read from the words
-
-module _ (t : List ℕ) (n : ℕ) where
-  pub domains-seen : n ≡ getD t 0 0 → n ≡ view t .sizes .domains
-  unfolding view ofParts sizesOf
-  domains-seen e = e
-
-  pub slots-seen : n ≡ getD t 1 0 → n ≡ view t .sizes .slots
-  unfolding view ofParts sizesOf
-  slots-seen e = e
-
-  pub regions-seen : n ≡ getD t 2 0 → n ≡ view t .sizes .regions
-  unfolding view ofParts sizesOf
-  regions-seen e = e
-
-  pub records-seen : n ≡ getD t 3 0 → n ≡ view t .sizes .records
-  unfolding view ofParts sizesOf
-  records-seen e = e
 
 -- ---- a test of what was loaded
 
@@ -125,6 +111,14 @@ module _ (v : Tables) (d a : ℕ) (f : ℕ → ℕ) where
 
 -- ---- sums
 
+-- a flag lies in the lowest eight bits of the word
+low-bit : (j k r : ℕ) → r % 2 ^ (suc j + k) / 2 ^ k % 2 ≡ r / 2 ^ k % 2
+low-bit j k r = ap (λ (x : ℕ). x % 2) (field r (suc j) k) ∙ mod-mod-of-dvd 2 (r / 2 ^ k) (rw (pow-suc 2 j) (dvd-mul-left 2 (2 ^ j)))
+
+pub ones-counted : (r : ℕ) (k : Counters) → k ≡ countersOf (r % 256)
+    → record { «ref_count» = 1; «read_count» = k .«read_count»; «write_count» = k .«write_count»; «exec_count» = k .«exec_count»; «super_count» = k .«super_count» } ≡ ones r
+ones-counted r k e = rw (e, low-bit 7 0 r, low-bit 6 1 r, low-bit 5 2 r, low-bit 4 3 r)
+
 -- no number is above n
 pub record Low (n : ℕ) (s : Sums) : Type 0 where
   pub reach : s .«ref_count» ≤ n
@@ -133,7 +127,7 @@ pub record Low (n : ℕ) (s : Sums) : Type 0 where
   pub exec : s .«exec_count» ≤ n
   pub super : s .«super_count» ≤ n
 
-count-low : (b : Bool) → count b ≤ 1
+count-low : (b : Bool) → oneIf b ≤ 1
 count-low true = omega arith
 count-low false = omega arith
 
@@ -141,7 +135,7 @@ no-low : (n : ℕ) → Low n noSums
 no-low n = record { reach = omega arith; read = omega arith; write = omega arith; exec = omega arith; super = omega arith }
 
 ones-low : (r : ℕ) → Low 1 (ones r)
-ones-low r = record { reach = omega arith; read = count-low (has r 1); write = count-low (has r 2); exec = count-low (has r 4); super = count-low (has r 8) }
+ones-low r = record { reach = omega arith; read = count-low (has r READ); write = count-low (has r WRITE); exec = count-low (has r EXEC); super = count-low (has r SUPER) }
 
 pick-low : (b : Bool) (n : ℕ) (s : Sums) → Low n s → Low n (pick b s noSums)
 pick-low true n s h = h

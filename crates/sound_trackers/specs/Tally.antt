@@ -3,8 +3,10 @@
 use mathlib.Core.Bool.{Bool, false, not}
 use Prim.Native.Nat.{ℕ, zero, suc, _+_}
 use lib.Dec.{eqb, ltb, leb}
-use Rattle.words.specs.Cases.{pick, both}
-use Rattle.rights.specs.Rights.{has, count, READ, WRITE, EXEC, SUPER}
+use Rattle.rights.specs.Rights.{has, READ, WRITE, EXEC, SUPER}
+use Rattle.rights.specs.Counters.{oneIf}
+use Rattle.base.specs.Cases.{pick}
+use Rattle.base.specs.Tests.{both}
 use Rattle.tables.specs.declared.Slot.{Slot}
 use Rattle.tables.specs.declared.RegionCapa.{RegionCapa}
 use Rattle.tables.specs.declared.Region.{Region}
@@ -22,7 +24,7 @@ noSums = record { «ref_count» = 0; «read_count» = 0; «write_count» = 0; «
 -- a region with rights r
 abbrev pub ones : ℕ → Sums
 ones r =
-    record { «ref_count» = 1; «read_count» = count (has r READ); «write_count» = count (has r WRITE); «exec_count» = count (has r EXEC); «super_count» = count (has r SUPER) }
+    record { «ref_count» = 1; «read_count» = oneIf (has r READ); «write_count» = oneIf (has r WRITE); «exec_count» = oneIf (has r EXEC); «super_count» = oneIf (has r SUPER) }
 
 abbrev pub plus : Sums → Sums → Sums
 plus s k =

@@ -1,11 +1,10 @@
 // What the regions of a domain count for at an address. A domain's regions are those that its Region slots name.
 ghost use mathlib.Core.Path.{_≡_};
-ghost use Prim.Native.Nat.{_<_};
-ghost use Rattle.rights.specs.Rights.{has, count};
 ghost use Rattle.tables.specs.View.{view, Sized};
 ghost use Rattle.sound_trackers.specs.Tally.{noSums, ones, plus, agreesB, coversB, uncarvedB, countsB, namesB, share, tally};
 ghost use Rattle.sound_trackers.specs.Laws.{Low};
 use crate::Sums;
+use rights::Rights;
 use tables::Region;
 use tables::RegionCapa;
 use tables::Slot;
@@ -24,23 +23,17 @@ fn no_sums() -> Sums
     }
 }
 
-// 1 if the rights have the flag, else 0.
-fn count(rights: u64, flag: u64) -> u64
-    requires { ⌜ 0 < flag ⌝ }
-    ensures { λ r. ⌜ r ≡ count (has rights flag) ⌝ }
-{
-    if rights / flag % 2 == 1 { 1 } else { 0 }
-}
-
+// The flags lie in the lowest eight bits of the word.
 fn ones(rights: u64) -> Sums
     ensures { λ r. ⌜ r ≡ ones rights ⌝ }
 {
+    let k = Rights((rights % 256) as u8).counters();
     Sums {
         ref_count: 1,
-        read_count: count(rights, 1),
-        write_count: count(rights, 2),
-        exec_count: count(rights, 4),
-        super_count: count(rights, 8),
+        read_count: k.read_count,
+        write_count: k.write_count,
+        exec_count: k.exec_count,
+        super_count: k.super_count,
     }
 }
 

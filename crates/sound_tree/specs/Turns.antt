@@ -9,18 +9,15 @@ use native.Mathlib.Omega.{arith}
 use borrow.Author.Tests.{lt-ltb}
 use lib.Dec.{eqb, ltb}
 use lib.ListN.{length, getD}
-use Rattle.words.specs.Cases.{pick}
+use Rattle.base.specs.Cases.{pick}
 use Rattle.words.specs.Cuts.{offset}
 use Rattle.tables.specs.declared.RegionCapa.{RegionCapa}
 use Rattle.tables.specs.Tables.{regionAt}
 use Rattle.sizes.specs.Sizes.{sizesOf, total}
-use Rattle.tables.specs.View.{view, ofParts, Sized}
+use Rattle.tables.specs.View.{view, Sized}
+use Rattle.tables.specs.Header.{regions-seen}
 use Rattle.sound_tree.specs.declared.Run.{Run}
 use Rattle.sound_tree.specs.Tree.{allFrom, oneIf, tallyFrom, regionFits, rowsHold, isChild, childCount, listsHold, childFits, after, walkFrom, walked, listsFrom}
-
-pub regions-many : (t : List ℕ) (n : ℕ) → n ≡ getD t 2 0 → n ≡ view t .sizes .regions
-unfolding view ofParts sizesOf
-regions-many t n e = e
 
 pub regions-few : (t : List ℕ) (n : ℕ) → Sized t → n ≡ getD t 2 0 → n ≤ 1024
 unfolding sizesOf
@@ -59,7 +56,7 @@ one-few m b e = omega (arith, few b)
 
 pub rows-begin : (t : List ℕ) (n : ℕ) → n ≡ getD t 2 0 → allFrom (regionFits (view t)) (n - 0) 0 ≡ rowsHold (view t)
 unfolding rowsHold
-rows-begin t n e = let k : n - 0 ≡ view t .sizes .regions = omega (arith, regions-many t n e) in rw k
+rows-begin t n e = let k : n - 0 ≡ view t .sizes .regions = omega (arith, regions-seen t n e) in rw k
 
 pub count-begin : (row : ℕ → RegionCapa) (n : ℕ) → 0 + tallyFrom (isChild row) (n - 0) 0 ≡ childCount row n
 unfolding childCount
@@ -123,7 +120,7 @@ pub lists-begin : (t : List ℕ) (n left : ℕ) → n ≡ getD t 2 0 → left �
 unfolding listsHold
 lists-begin t n left e f =
     let k : n - 0 ≡ n = omega arith in
-    let z : n ≡ view t .sizes .regions = regions-many t n e in
+    let z : n ≡ view t .sizes .regions = regions-seen t n e in
     rw (k, f, z)
 
 pub lists-end : (row : ℕ → RegionCapa) (n left i : ℕ) → n ≤ i → eqb left 0 ≡ listsFrom row left (n - i) i

@@ -10,7 +10,7 @@ use lib.Dec.{ltb}
 use borrow.Rule.Slice.PartMut.{putMid}
 use lib.ListN.{length, getD, set, replicate, take, drop, length-take, length-replicate, replicate-append-replicate, List·getD-eq-default}
 use lib.Seq.{sets-eq, drop-set-lt}
-use Rattle.words.specs.Cases.{pick, cmp, lt, ge}
+use Rattle.base.specs.Cases.{pick, cmp, lt, ge}
 use Rattle.words.specs.Runs.{lent-back}
 use Rattle.words.specs.Rows.{length-rows}
 use Rattle.words.specs.Cuts.{cuts}

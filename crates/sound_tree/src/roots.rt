@@ -5,7 +5,6 @@ ghost use lib.ListN.{length, replicate};
 ghost use Rattle.tables.specs.Tables.{regionAt};
 ghost use Rattle.tables.specs.View.{view, Sized};
 ghost use Rattle.sound_tree.specs.Tree.{stops, climbFrom, markFrom, rootsHold, beyond, cleared};
-use crate::rows;
 use tables::RegionCapa;
 
 fn parent_of(t: &[u64], j: usize) -> usize
@@ -13,7 +12,7 @@ fn parent_of(t: &[u64], j: usize) -> usize
     ensures { λ r. ⌜ r ≡ regionAt (view (now (t .entry))) j .parent - 1 ⌝ }
 {
     let r = tables::load_region(t, j);
-    rows::unlinked(r.parent)
+    tables::slot_to(r.parent)
 }
 
 // A region that is marked, or no child.

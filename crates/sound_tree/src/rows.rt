@@ -1,19 +1,11 @@
 // Each region in use, with its parent.
 ghost use mathlib.Core.Path.{_≡_};
-ghost use Prim.Native.Nat.{_-_};
 ghost use Rattle.tables.specs.View.{view, Sized};
 ghost use Rattle.arena.specs.Arena.{isFreeB};
 ghost use Rattle.sound_tree.specs.Tree.{rightsFit, inParent, placeFits, rowFits, regionFits, rowsHold};
 use pools::Pool;
 use rights::Rights;
 use tables::RegionCapa;
-
-// The slot that a link names; 0 for the link 0.
-pub fn unlinked(l: u64) -> usize
-    ensures { λ r. ⌜ r ≡ l - 1 ⌝ }
-{
-    if 0 < l { (l - 1) as usize } else { 0 }
-}
 
 fn rights_fit(parent: u64, child: u64) -> bool
     ensures { λ r. ⌜ r ≡ rightsFit parent child ⌝ }
@@ -69,7 +61,7 @@ fn region_fits(t: &[u64], i: usize) -> bool
         return true;
     }
     let g = tables::load_region(t, i);
-    let h = tables::load_region(t, unlinked(g.parent));
+    let h = tables::load_region(t, tables::slot_to(g.parent));
     words::both(row_fits(g), place_fits(g, h))
 }
 

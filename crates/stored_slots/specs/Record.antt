@@ -4,14 +4,15 @@ use mathlib.Core.List.{List, _++_}
 use Prim.Native.Nat.{ℕ, _-_, _≤_, _<_}
 use lib.ListN.{length, getD, set, take, replicate}
 use lib.Seq.{take-at, set-getD, getD-set-same, getD-set-other, length-take-le}
+use Rattle.sizes.specs.Limits.{mostSlots}
 use Rattle.tables.specs.declared.DomainHead.{DomainHead}
 use Rattle.tables.specs.declared.Slot.{Slot}
 use Rattle.tables.specs.Tables.{Tables, Domain, noDomain, noSlot, withDomains}
 use Rattle.slot_list.specs.declared.SlotList.{SlotList}
 
--- slots in the record's 128 places
+-- slots in the record's places
 abbrev pub padded : List Slot → List Slot
-padded ss = ss ++ replicate (128 - length ss) noSlot
+padded ss = ss ++ replicate (mostSlots - length ss) noSlot
 
 unfoldable pub listOf : Domain → SlotList
 listOf x = record { slots = padded (x .slots); head = x .head .head; count = x .head .count; size = length (x .slots) }
@@ -44,7 +45,7 @@ pub list-kept : (s : Tables) (d : ℕ) → withList s d (listAt s d) ≡ s
 unfolding withList listAt putList listOf withDomains
 list-kept s d =
     let x = domainOr s d in
-    let e : take (length (x .slots)) (padded (x .slots)) ≡ x .slots = take-at (x .slots) (replicate (128 - length (x .slots)) noSlot) (length (x .slots)) refl in
+    let e : take (length (x .slots)) (padded (x .slots)) ≡ x .slots = take-at (x .slots) (replicate (mostSlots - length (x .slots)) noSlot) (length (x .slots)) refl in
     rw e (ap (withDomains s) (set-getD (s .domains) d noDomain))
 
 -- what is put back is read out, and no other domain's list changes

@@ -13,13 +13,14 @@ use Rattle.words.specs.Runs.{part, part-at, part-drop, length-part, fetched-in,
 use Rattle.words.specs.Rows.{rows, length-rows, getD-rows, rows-store, rows-more}
 use Rattle.words.specs.Cuts.{cuts, offset}
 use Rattle.sizes.specs.declared.Sizes.{Sizes}
+use Rattle.sizes.specs.Limits.{mostSlots}
 use Rattle.tables.specs.declared.Slot.{Slot}
 use Rattle.tables.specs.Tables.{Domain, noDomain, noSlot, putHead, putSlot, withDomains}
-use Rattle.sizes.specs.Sizes.{sizesOf, widths, stride, headWidth, slotWidth}
+use Rattle.sizes.specs.Sizes.{sizesOf, widths, stride, headWidth, slotWidth, domainsSection}
 use Rattle.tables.specs.View.{view, ofParts, Sized, Left, domainOf, slotOf, slotWords}
 use Rattle.tables.specs.Sections.{section, section-inside, only-left}
 use Rattle.tables.specs.Rows.{rowAt, row-fetched, row-replaced}
-use Rattle.tables.specs.Domains.{domainPlace}
+use Rattle.tables.specs.Domains.{domainPlace, length-slots}
 use Rattle.slot_list.specs.declared.SlotList.{SlotList}
 use Rattle.stored_slots.specs.declared.Row.{Row}
 use Rattle.stored_slots.specs.Record.{listOf, putList, withTop, domainOr, withList}
@@ -34,18 +35,18 @@ slot-read p a =
 
 -- the first i of n slots are read
 abbrev pub readTo : List ℕ → ℕ → List Slot
-readTo p i = rows slotWidth i slotOf (drop headWidth p) ++ replicate (128 - i) noSlot
+readTo p i = rows slotWidth i slotOf (drop headWidth p) ++ replicate (mostSlots - i) noSlot
 
-pub read-none : (p : List ℕ) → readTo p 0 ≡ replicate 128 noSlot
+pub read-none : (p : List ℕ) → readTo p 0 ≡ replicate mostSlots noSlot
 unfolding rows
 read-none p = refl
 
-pub read-more : (p : List ℕ) (i : ℕ) → i < 128 → set (readTo p i) i (slotOf (part p (5 + i * 3) 3)) ≡ readTo p (i + 1)
+pub read-more : (p : List ℕ) (i : ℕ) → i < mostSlots → set (readTo p i) i (slotOf (part p (5 + i * 3) 3)) ≡ readTo p (i + 1)
 read-more p i h =
     let q = drop 5 p in
     let x = slotOf (part q (i * 3) 3) in
-    let rest : List Slot = replicate (128 - suc i) noSlot in
-    let e : 128 - i ≡ suc (128 - suc i) = omega arith in
+    let rest : List Slot = replicate (mostSlots - suc i) noSlot in
+    let e : mostSlots - i ≡ suc (mostSlots - suc i) = omega arith in
     rw (← part-drop p 5 (i * 3) 3, e, add-one)
     (set-at (rows 3 i slotOf q) noSlot rest x i (length-rows 3 i slotOf q)
     ∙ sym (append-assoc (rows 3 i slotOf q) (x ∷ []) rest)
@@ -64,10 +65,6 @@ pub record Written (n : ℕ) (x : Domain) (l : SlotList) (i : ℕ) (p : List ℕ
   pub same : take i (domainOf n p .slots) ≡ take i (l .slots)
 
 module _ (n : ℕ) (p : List ℕ) (long : length p ≡ 5 + n * 3) where
-  pub slots-many : length (domainOf n p .slots) ≡ n
-  unfolding domainOf
-  slots-many = length-rows 3 n slotOf (drop 5 p)
-
   put-slot : (j : ℕ) (x : Slot) → j < n → domainOf n (sets p (5 + j * 3) (slotWords x)) ≡ putSlot (domainOf n p) j x
   unfolding domainOf
   put-slot j x h =
@@ -86,7 +83,7 @@ module _ (n : ℕ) (x : Domain) (l : SlotList) (i : ℕ) (p : List ℕ) (w : Wri
   pub written-more : (y : Slot) → i < n → i < length (l .slots) → y ≡ getD (l .slots) i noSlot → Written n x l (i + 1) (sets p (5 + i * 3) (slotWords y))
   written-more y h hl ey =
       let e = put-slot n p (w .long) i y h in
-      let many = slots-many n p (w .long) in
+      let many = length-slots n p in
       record {
         long = length-sets p (5 + i * 3) (slotWords y) ∙ w .long;
         top = ap (λ (d : Domain). d .head) e ∙ w .top;
@@ -97,7 +94,7 @@ module _ (n : ℕ) (x : Domain) (l : SlotList) (i : ℕ) (p : List ℕ) (w : Wri
   unfolding putList
   written-all e many =
       let all : domainOf n p .slots ≡ take (length (x .slots)) (l .slots) =
-      sym (take-all n (domainOf n p .slots) (omega (arith, slots-many n p (w .long)))) ∙ rw e at (w .same) ∙ ap (λ (k : ℕ). take k (l .slots)) (sym many) in
+      sym (take-all n (domainOf n p .slots) (omega (arith, length-slots n p))) ∙ rw e at (w .same) ∙ ap (λ (k : ℕ). take k (l .slots)) (sym many) in
       put-top n p (w .long) (l .head) (l .count) ∙ (λ k. record { head = withTop (w .top k) (l .head) (l .count); slots = all k })
 
 -- ---- the row in the tables
@@ -106,7 +103,7 @@ pub domain-slots : (t : List ℕ) (d : ℕ) → d < sizesOf t .domains → lengt
 unfolding view ofParts domainOf
 domain-slots t d h =
     let n = sizesOf t .slots in
-    ap (λ (x : Domain). length (x .slots)) (getD-rows (stride (sizesOf t)) (sizesOf t .domains) (domainOf n) (section t 4) d noDomain h)
+    ap (λ (x : Domain). length (x .slots)) (getD-rows (stride (sizesOf t)) (sizesOf t .domains) (domainOf n) (section t domainsSection) d noDomain h)
     ∙ length-rows 3 n slotOf _
 
 pub no-domain : (t : List ℕ) (d : ℕ) → sizesOf t .domains ≤ d → domainOr (view t) d ≡ noDomain
@@ -121,13 +118,13 @@ pub record RowAt (t : List ℕ) (d : ℕ) (r : Row) : Type 0 where
   pub inside : r .end ≤ length t
 
 -- the place that the code computes from the sizes z
-pub row-found : (t : List ℕ) (d : ℕ) (z : Sizes) (o w a : ℕ) → Sized t → d < sizesOf t .domains → z ≡ sizesOf t → o ≡ offset (widths z) 4
+pub row-found : (t : List ℕ) (d : ℕ) (z : Sizes) (o w a : ℕ) → Sized t → d < sizesOf t .domains → z ≡ sizesOf t → o ≡ offset (widths z) domainsSection
     → w ≡ stride z → a ≡ rowAt (length t) o (z .domains) w d → RowAt t d (record { start = a; end = a + w; slots = z .slots })
 row-found t d z o w a s h ez eo ew ea =
     let place : a ≡ domainPlace t d = ea ∙ rw (ew, eo, ez) in
-    let e : domainPlace t d ≡ offset (widths (sizesOf t)) 4 + d * stride (sizesOf t) = unfold rowAt in rw (lt-ltb d (sizesOf t .domains) h) in
+    let e : domainPlace t d ≡ offset (widths (sizesOf t)) domainsSection + d * stride (sizesOf t) = unfold rowAt in rw (lt-ltb d (sizesOf t .domains) h) in
     let same : z .slots ≡ sizesOf t .slots = ap (λ (y : Sizes). y .slots) ez in
-    record { slots = same; start = place; end = rw ew; inside = omega (arith, ew, section-inside t 4 s, mul-le-mul-right (stride (sizesOf t)) h) }
+    record { slots = same; start = place; end = rw ew; inside = omega (arith, ew, section-inside t domainsSection s, mul-le-mul-right (stride (sizesOf t)) h) }
 
 module _ (t : List ℕ) (d : ℕ) (r : Row) (s : Sized t) (h : d < sizesOf t .domains) (at : RowAt t d r) where
   row-wide : r .end - r .start ≡ stride (sizesOf t)
@@ -144,9 +141,9 @@ module _ (t : List ℕ) (d : ℕ) (r : Row) (s : Sized t) (h : d < sizesOf t .do
       let f = domainOf (sizesOf t .slots) in
       let e : r .start ≡ domainPlace t d + 0 = omega (arith, at .start) in
       let e₂ : d * w + 0 ≡ d * w = omega arith in
-      let e₃ = row-fetched t 3 (sizesOf t .domains) w s (omega arith) refl d 0 w h (omega arith) in
+      let e₃ = row-fetched t (domainsSection - 1) (sizesOf t .domains) w s (omega arith) refl d 0 w h (omega arith) in
       rw (row-wide, at .slots) (ap f (sym (fetched-in t (r .start) w (omega (arith, at .end, at .inside, at .slots))) ∙ rw e (e₃ ∙ rw e₂))
-      ∙ sym (getD-rows w (sizesOf t .domains) f (section t 4) d noDomain h))
+      ∙ sym (getD-rows w (sizesOf t .domains) f (section t domainsSection) d noDomain h))
 
   pub row-back : (p : List ℕ) (l : SlotList) → length p ≡ length (take (r .end - r .start) (drop (r .start) t))
       → domainOf (r .slots) p ≡ putList (domainOf (r .slots) (take (r .end - r .start) (drop (r .start) t))) l
@@ -160,6 +157,6 @@ module _ (t : List ℕ) (d : ℕ) (r : Row) (s : Sized t) (h : d < sizesOf t .do
       let long : length p ≡ w = hp ∙ row-long ∙ rw (at .slots) in
       let eu : u ≡ sets t (r .start) p = lent-back t p (r .start) (r .end - r .start) w row-wide long (omega (arith, at .end, at .inside, at .slots)) in
       let ew : u ≡ stored t (domainPlace t d) p = eu ∙ rw (at .start) (sym (stored-in t (domainPlace t d) p (omega (arith, at .start, at .end, at .inside, at .slots)))) in
-      let q = row-replaced t 3 n w s (omega arith) refl f u p d long (omega arith) ew in
+      let q = row-replaced t (domainsSection - 1) n w s (omega arith) refl f u p d long (omega arith) ew in
       let new : f p ≡ putList (domainOr (view t) d) l = ap (λ (k : ℕ). domainOf k p) (sym (at .slots)) ∙ e ∙ ap (λ x. putList x l) row-read in
-      only-left t u 4 (withList (view t) d l) s (q .0) (ap (withDomains (view t)) (q .1 ∙ ap (set (view t .domains) d) new))
+      only-left t u domainsSection (withList (view t) d l) s (q .0) (ap (withDomains (view t)) (q .1 ∙ ap (set (view t .domains) d) new))

@@ -4,12 +4,14 @@ ghost use Prim.Native.Nat.{_+_, _*_, _≤_, _<_};
 ghost use lib.ListN.{length};
 ghost use lib.Seq.{sets};
 ghost use Rattle.words.specs.Runs.{part};
+ghost use Rattle.sizes.specs.Limits.{mostSlots};
 ghost use Rattle.sizes.specs.Sizes.{sizesOf, headWidth, slotWidth};
 ghost use Rattle.tables.specs.View.{view, Sized, Left, domainOf, slotOf, slotWords};
 ghost use Rattle.slot_list.specs.Lists.{noList};
 ghost use Rattle.stored_slots.specs.Record.{listOf, putList, listAt, withList};
 ghost use Rattle.stored_slots.specs.Rows.{RowAt};
 use sizes::HEAD_WIDTH;
+use sizes::MOST_SLOTS;
 use sizes::SLOT_WIDTH;
 use slot_list::SlotList;
 use tables::DomainHead;
@@ -42,7 +44,7 @@ fn no_list() -> SlotList
     ensures { λ r. ⌜ r ≡ noList ⌝ }
 {
     SlotList {
-        slots: [tables::no_slot(); 128],
+        slots: [tables::no_slot(); MOST_SLOTS],
         head: 0,
         count: 0,
         size: 0,
@@ -73,10 +75,10 @@ fn write_slot(p: &mut [u64], a: usize, x: Slot)
 
 fn list_of(p: &[u64], n: usize) -> SlotList
     requires { ⌜ length (now p) ≡ headWidth + n * slotWidth ⌝ }
-    requires { ⌜ n ≤ 128 ⌝ }
+    requires { ⌜ n ≤ mostSlots ⌝ }
     ensures { λ r. ⌜ r ≡ listOf (domainOf n (now (p .entry))) ⌝ }
 {
-    let mut slots = [tables::no_slot(); 128];
+    let mut slots = [tables::no_slot(); MOST_SLOTS];
     let mut i = 0;
     while i < n {
         slots[i] = read_slot(p, HEAD_WIDTH + i * SLOT_WIDTH);
@@ -92,7 +94,7 @@ fn list_of(p: &[u64], n: usize) -> SlotList
 
 fn write_list(p: &mut [u64], n: usize, list: SlotList)
     requires { ⌜ length (now p) ≡ headWidth + n * slotWidth ⌝ }
-    requires { ⌜ n ≤ 128 ⌝ }
+    requires { ⌜ n ≤ mostSlots ⌝ }
     ensures { λ _. ⌜ domainOf n (now (p .exit)) ≡ putList (domainOf n (now (p .entry))) list ⌝ }
 {
     let mut i = 0;

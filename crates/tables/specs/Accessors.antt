@@ -1,7 +1,7 @@
 -- Regions, tracker records and the ring are tables of whole rows: what loading and storing one is in the view.
 use mathlib.Core.Path.{_≡_, refl, ap}
 use mathlib.Core.List.{List}
-use Prim.Native.Nat.{ℕ, _+_}
+use Prim.Native.Nat.{ℕ, _+_, _-_}
 use native.Mathlib.Omega.{arith}
 use Rattle.words.specs.Runs.{fetched, stored}
 use Rattle.words.specs.Cuts.{cuts}
@@ -9,49 +9,49 @@ use Rattle.tables.specs.declared.RegionCapa.{RegionCapa}
 use Rattle.tables.specs.declared.Region.{Region}
 use Rattle.tables.specs.declared.Update.{Update}
 use Rattle.tables.specs.Tables.{regionAt, recordAt, updateAt, withRegions, withRecords, withRing, withRegion, withRecord, withUpdate}
-use Rattle.sizes.specs.Sizes.{sizesOf, regionWidth, recordWidth, updateWidth}
+use Rattle.sizes.specs.Sizes.{sizesOf, regionWidth, recordWidth, updateWidth, regionsSection, recordsSection, ringSection}
 use Rattle.tables.specs.View.{view, ofParts, Sized, Left, regionOf, regionWords, recordOf, recordWords, updateOf, updateWords}
 use Rattle.tables.specs.Sections.{only-left}
 use Rattle.tables.specs.Rows.{placed, row-loaded, row-replaced}
 
 abbrev pub regionPlace : List ℕ → ℕ → ℕ
-regionPlace t i = placed t 5 (sizesOf t .regions) regionWidth i
+regionPlace t i = placed t regionsSection (sizesOf t .regions) regionWidth i
 
 abbrev pub recordPlace : List ℕ → ℕ → ℕ
-recordPlace t i = placed t 6 (sizesOf t .records) recordWidth i
+recordPlace t i = placed t recordsSection (sizesOf t .records) recordWidth i
 
 abbrev pub updatePlace : List ℕ → ℕ → ℕ
-updatePlace t i = placed t 7 (sizesOf t .updates + 1) updateWidth i
+updatePlace t i = placed t ringSection (sizesOf t .updates + 1) updateWidth i
 
 -- ---- regions, tracker records, the ring: whole rows
 
 module _ (t : List ℕ) (s : Sized t) (i a : ℕ) where
   pub region-loaded : (p : List ℕ) → a ≡ regionPlace t i → p ≡ fetched t a regionWidth → regionOf p ≡ regionAt (view t) i
   unfolding regionAt view ofParts
-  region-loaded p e ep = rw (ep, e) (row-loaded t 4 (sizesOf t .regions) regionWidth s (omega arith) refl regionOf i (omega arith))
+  region-loaded p e ep = rw (ep, e) (row-loaded t (regionsSection - 1) (sizesOf t .regions) regionWidth s (omega arith) refl regionOf i (omega arith))
 
   pub record-loaded : (p : List ℕ) → a ≡ recordPlace t i → p ≡ fetched t a recordWidth → recordOf p ≡ recordAt (view t) i
   unfolding recordAt view ofParts
-  record-loaded p e ep = rw (ep, e) (row-loaded t 5 (sizesOf t .records) recordWidth s (omega arith) refl recordOf i (omega arith))
+  record-loaded p e ep = rw (ep, e) (row-loaded t (recordsSection - 1) (sizesOf t .records) recordWidth s (omega arith) refl recordOf i (omega arith))
 
   pub update-loaded : (p : List ℕ) → a ≡ updatePlace t i → p ≡ fetched t a updateWidth → updateOf p ≡ updateAt (view t) i
   unfolding updateAt view ofParts
-  update-loaded p e ep = rw (ep, e) (row-loaded t 6 (sizesOf t .updates + 1) updateWidth s (omega arith) refl updateOf i (omega arith))
+  update-loaded p e ep = rw (ep, e) (row-loaded t (ringSection - 1) (sizesOf t .updates + 1) updateWidth s (omega arith) refl updateOf i (omega arith))
 
   pub region-stored : (u : List ℕ) (r : RegionCapa) → a ≡ regionPlace t i → u ≡ stored t a (regionWords r) → Left u (withRegion (view t) i r)
   unfolding view ofParts cuts withRegion withRegions
   region-stored u r e eu =
-      let q = row-replaced t 4 (sizesOf t .regions) regionWidth s (omega arith) refl regionOf u (regionWords r) i refl (omega arith) (rw e at eu) in
-      only-left t u 5 (withRegion (view t) i r) s (q .0) (ap (withRegions (view t)) (q .1))
+      let q = row-replaced t (regionsSection - 1) (sizesOf t .regions) regionWidth s (omega arith) refl regionOf u (regionWords r) i refl (omega arith) (rw e at eu) in
+      only-left t u regionsSection (withRegion (view t) i r) s (q .0) (ap (withRegions (view t)) (q .1))
 
   pub record-stored : (u : List ℕ) (r : Region) → a ≡ recordPlace t i → u ≡ stored t a (recordWords r) → Left u (withRecord (view t) i r)
   unfolding view ofParts cuts withRecord withRecords
   record-stored u r e eu =
-      let q = row-replaced t 5 (sizesOf t .records) recordWidth s (omega arith) refl recordOf u (recordWords r) i refl (omega arith) (rw e at eu) in
-      only-left t u 6 (withRecord (view t) i r) s (q .0) (ap (withRecords (view t)) (q .1))
+      let q = row-replaced t (recordsSection - 1) (sizesOf t .records) recordWidth s (omega arith) refl recordOf u (recordWords r) i refl (omega arith) (rw e at eu) in
+      only-left t u recordsSection (withRecord (view t) i r) s (q .0) (ap (withRecords (view t)) (q .1))
 
   pub update-stored : (u : List ℕ) (x : Update) → a ≡ updatePlace t i → u ≡ stored t a (updateWords x) → Left u (withUpdate (view t) i x)
   unfolding view ofParts cuts withUpdate withRing
   update-stored u x e eu =
-      let q = row-replaced t 6 (sizesOf t .updates + 1) updateWidth s (omega arith) refl updateOf u (updateWords x) i refl (omega arith) (rw e at eu) in
-      only-left t u 7 (withUpdate (view t) i x) s (q .0) (ap (withRing (view t)) (q .1))
+      let q = row-replaced t (ringSection - 1) (sizesOf t .updates + 1) updateWidth s (omega arith) refl updateOf u (updateWords x) i refl (omega arith) (rw e at eu) in
+      only-left t u ringSection (withUpdate (view t) i x) s (q .0) (ap (withRing (view t)) (q .1))

@@ -1,38 +1,39 @@
 -- A domain's five words, loaded and stored, and its slots, loaded each by itself: parts of one row.
 use mathlib.Core.Path.{_≡_, refl, sym, ap, _∙_}
 use mathlib.Core.List.{List, []}
-use Prim.Native.Nat.{ℕ, _+_, _*_, _≤_, _<_}
+use Prim.Native.Nat.{ℕ, _+_, _-_, _*_, _≤_, _<_}
 use native.Mathlib.Nat.{mul-le-mul-right}
 use native.Mathlib.Omega.{arith}
 use borrow.Author.Tests.{lt-ltb, le-ltb}
 use lib.Dec.{ltb}
 use lib.ListN.{length, getD, set, take, drop, length-take, List·getD-eq-default}
 use lib.Seq.{sets}
-use Rattle.words.specs.Cases.{pick, cmp, lt, ge}
+use Rattle.base.specs.Cases.{pick, cmp, lt, ge}
 use Rattle.words.specs.Runs.{part, part-part, part-drop, length-part, fetched, fetched-out, stored, sets-all, take-sets-lt, drop-sets-lt}
 use Rattle.words.specs.Rows.{rows, length-rows, getD-rows}
 use Rattle.words.specs.Cuts.{cuts}
 use Rattle.tables.specs.declared.DomainHead.{DomainHead}
 use Rattle.tables.specs.Tables.{Domain, noDomain, noSlot, headAt, slotAt, putHead, withDomains, withHead}
-use Rattle.sizes.specs.Sizes.{sizesOf, stride, headWidth, slotWidth}
+use Rattle.sizes.specs.Sizes.{sizesOf, stride, headWidth, slotWidth, domainsSection}
 use Rattle.tables.specs.View.{view, ofParts, Sized, Left, domainOf, headOf, headWords, slotOf}
+use Rattle.sizes.specs.Limits.{mostWords}
 use Rattle.sizes.specs.Tests.{total-fits}
 use Rattle.tables.specs.Sections.{section, section-length, section-inside, only-left}
 use Rattle.tables.specs.Rows.{rowAt, placed, set-when, row-fetched, no-row-fetched, row-stored}
 
 abbrev pub domainPlace : List ℕ → ℕ → ℕ
-domainPlace t i = placed t 4 (sizesOf t .domains) (stride (sizesOf t)) i
+domainPlace t i = placed t domainsSection (sizesOf t .domains) (stride (sizesOf t)) i
 
 abbrev pub slotPlace : List ℕ → ℕ → ℕ → ℕ
 slotPlace t i j = pick (ltb j (sizesOf t .slots)) (domainPlace t i + (headWidth + j * slotWidth)) (length t)
 
 -- no place of a slot wraps
-pub domain-place-low : (t : List ℕ) (i : ℕ) → Sized t → domainPlace t i ≤ 34545
+pub domain-place-low : (t : List ℕ) (i : ℕ) → Sized t → domainPlace t i ≤ mostWords
 unfolding rowAt
 domain-place-low t i s =
     let high = total-fits (sizesOf t) (s .limits) in
     elim (cmp i (sizesOf t .domains)) [
-      | lt h ↦ rw (lt-ltb i (sizesOf t .domains) h) (omega (arith, s .exact, section-inside t 4 s, mul-le-mul-right (stride (sizesOf t)) h))
+      | lt h ↦ rw (lt-ltb i (sizesOf t .domains) h) (omega (arith, s .exact, section-inside t domainsSection s, mul-le-mul-right (stride (sizesOf t)) h))
       | ge h ↦ rw (le-ltb i (sizesOf t .domains) h) (omega (arith, s .exact))
     ]
 
@@ -45,6 +46,10 @@ unfolding sizesOf
 no-slot-place t i j n en h = rw (le-ltb j (sizesOf t .slots) (omega arith))
 
 -- ---- in one domain's words
+
+pub length-slots : (n : ℕ) (p : List ℕ) → length (domainOf n p .slots) ≡ n
+unfolding domainOf
+length-slots n p = length-rows slotWidth n slotOf (drop headWidth p)
 
 domain-slot : (n j : ℕ) (p : List ℕ) → j < n → getD (domainOf n p .slots) j noSlot ≡ slotOf (part p (5 + j * 3) 3)
 unfolding domainOf
@@ -61,11 +66,11 @@ put-head n p h hp =
 
 -- the words of domain i
 abbrev domainPart : List ℕ → ℕ → List ℕ
-domainPart t i = part (section t 4) (i * stride (sizesOf t)) (stride (sizesOf t))
+domainPart t i = part (section t domainsSection) (i * stride (sizesOf t)) (stride (sizesOf t))
 
 domain-at : (t : List ℕ) (i : ℕ) → i < sizesOf t .domains → getD (view t .domains) i noDomain ≡ domainOf (sizesOf t .slots) (domainPart t i)
 unfolding view ofParts
-domain-at t i h = getD-rows (stride (sizesOf t)) (sizesOf t .domains) (domainOf (sizesOf t .slots)) (section t 4) i noDomain h
+domain-at t i h = getD-rows (stride (sizesOf t)) (sizesOf t .domains) (domainOf (sizesOf t .slots)) (section t domainsSection) i noDomain h
 
 no-domain : (t : List ℕ) (i : ℕ) → sizesOf t .domains ≤ i → getD (view t .domains) i noDomain ≡ noDomain
 unfolding view ofParts
@@ -75,23 +80,23 @@ no-domain t i h = List·getD-eq-default (view t .domains) noDomain {n = i} (rw l
 slots-many : (t : List ℕ) (i : ℕ) → length (getD (view t .domains) i noDomain .slots) ≤ sizesOf t .slots
 slots-many t i =
     elim (cmp i (sizesOf t .domains)) [
-      | lt h ↦ rw (domain-at t i h) (unfold domainOf in omega (arith, length-rows 3 (sizesOf t .slots) slotOf (drop 5 (domainPart t i))))
+      | lt h ↦ rw (domain-at t i h) (omega (arith, length-slots (sizesOf t .slots) (domainPart t i)))
       | ge h ↦ rw (no-domain t i h) (omega arith)
     ]
 
 module _ (t : List ℕ) (s : Sized t) (i a : ℕ) where
   domain-long : i < sizesOf t .domains → length (domainPart t i) ≡ stride (sizesOf t)
   domain-long h =
-      length-part (section t 4) (i * stride (sizesOf t)) (stride (sizesOf t)) (omega (arith, section-length t 4 s, mul-le-mul-right (stride (sizesOf t)) h))
+      length-part (section t domainsSection) (i * stride (sizesOf t)) (stride (sizesOf t)) (omega (arith, section-length t domainsSection s, mul-le-mul-right (stride (sizesOf t)) h))
 
   -- m words from j on of domain i
   in-domain : (j m : ℕ) → i < sizesOf t .domains → j + m ≤ stride (sizesOf t) → fetched t (domainPlace t i + j) m ≡ part (domainPart t i) j m
   in-domain j m h hj =
-      row-fetched t 3 (sizesOf t .domains) (stride (sizesOf t)) s (omega arith) refl i j m h hj
-      ∙ sym (part-part (section t 4) (i * stride (sizesOf t)) (stride (sizesOf t)) j m hj)
+      row-fetched t (domainsSection - 1) (sizesOf t .domains) (stride (sizesOf t)) s (omega arith) refl i j m h hj
+      ∙ sym (part-part (section t domainsSection) (i * stride (sizesOf t)) (stride (sizesOf t)) j m hj)
 
   out-domain : (j m : ℕ) → sizesOf t .domains ≤ i → 0 < m → fetched t (domainPlace t i + j) m ≡ []
-  out-domain j m h hm = no-row-fetched t 3 (sizesOf t .domains) (stride (sizesOf t)) s (omega arith) refl i j m h hm
+  out-domain j m h hm = no-row-fetched t (domainsSection - 1) (sizesOf t .domains) (stride (sizesOf t)) s (omega arith) refl i j m h hm
 
   head-fetched : headOf (fetched t (domainPlace t i + 0) 5) ≡ headAt (view t) i
   unfolding headAt domainOf part
@@ -126,9 +131,9 @@ module _ (t : List ℕ) (s : Sized t) (i a : ℕ) where
   domain-stored u vs j x hj hv eu ex =
       let n = sizesOf t .domains in
       let f = domainOf (sizesOf t .slots) in
-      let q = row-stored t 3 n (stride (sizesOf t)) s (omega arith) refl f u vs i j hj hv eu in
-      let e = set-when (rows (stride (sizesOf t)) n f (section t 4)) i (f (sets (domainPart t i) j vs)) x (λ h. ex (rw length-rows at h)) in
-      only-left t u 4 (withDomains (view t) (set (view t .domains) i x)) s (q .0) (ap (withDomains (view t)) (q .1 ∙ e))
+      let q = row-stored t (domainsSection - 1) n (stride (sizesOf t)) s (omega arith) refl f u vs i j hj hv eu in
+      let e = set-when (rows (stride (sizesOf t)) n f (section t domainsSection)) i (f (sets (domainPart t i) j vs)) x (λ h. ex (rw length-rows at h)) in
+      only-left t u domainsSection (withDomains (view t) (set (view t .domains) i x)) s (q .0) (ap (withDomains (view t)) (q .1 ∙ e))
 
   pub head-stored : (u : List ℕ) (h : DomainHead) → a ≡ domainPlace t i → u ≡ stored t a (headWords h) → Left u (withHead (view t) i h)
   unfolding withHead

@@ -1,5 +1,5 @@
--- The ring's two places, in the header.
-use mathlib.Core.Path.{_≡_, _∙_}
+-- What the header's words show: the sizes, and the ring's two places.
+use mathlib.Core.Path.{_≡_, refl, _∙_}
 use mathlib.Core.List.{List, [], _∷_}
 use Prim.Native.Nat.{ℕ, _+_, _≤_}
 use native.Mathlib.Omega.{arith}
@@ -7,9 +7,35 @@ use lib.ListN.{length, getD, set, take, length-take, length-set}
 use lib.Seq.{sets, getD-take, getD-set-same, getD-set-other}
 use Rattle.words.specs.Runs.{stored, stored-in}
 use Rattle.words.specs.Cuts.{cuts, offset}
+use Rattle.sizes.specs.Sizes.{headerSection, sizesOf}
 use Rattle.tables.specs.Tables.{withPlaces}
 use Rattle.tables.specs.View.{view, ofParts, Sized, Left}
 use Rattle.tables.specs.Sections.{section-inside, only-sets, only-left, section-sets}
+
+pub sizes-seen : (t : List ℕ) → view t .sizes ≡ sizesOf t
+unfolding view ofParts
+sizes-seen t = refl
+
+-- a size as the code reads it
+module _ (t : List ℕ) (n : ℕ) where
+  pub domains-seen : n ≡ getD t 0 0 → n ≡ view t .sizes .domains
+  unfolding view ofParts sizesOf
+  domains-seen e = e
+
+  pub slots-seen : n ≡ getD t 1 0 → n ≡ view t .sizes .slots
+  unfolding view ofParts sizesOf
+  slots-seen e = e
+
+  pub regions-seen : n ≡ getD t 2 0 → n ≡ view t .sizes .regions
+  unfolding view ofParts sizesOf
+  regions-seen e = e
+
+  pub records-seen : n ≡ getD t 3 0 → n ≡ view t .sizes .records
+  unfolding view ofParts sizesOf
+  records-seen e = e
+
+pub slots-read : (t : List ℕ) → getD t 1 0 ≡ view t .sizes .slots
+slots-read t = slots-seen t (getD t 1 0) refl
 
 pub read-is : (t : List ℕ) → view t .read ≡ getD t 5 0
 unfolding view ofParts cuts
@@ -23,7 +49,7 @@ pub places-stored : (t u : List ℕ) (r w : ℕ) → Sized t → u ≡ stored t 
 unfolding view ofParts cuts offset withPlaces
 places-stored t u r w s e =
     let vs : List ℕ = r ∷ w ∷ [] in
-    let h : 7 ≤ length t = omega (arith, section-inside t 0 s) in
+    let h : 7 ≤ length t = omega (arith, section-inside t headerSection s) in
     let long : length (take 7 t) ≡ 7 = simp length-take (omega arith) in
     let eu : u ≡ sets t (0 + 5) vs = e ∙ stored-in t 5 vs (omega arith) in
     let er : getD (sets (take 7 t) 5 vs) 5 0 ≡ r = getD-set-other (set (take 7 t) 5 r) 6 5 w 0 (omega arith) ∙ getD-set-same (take 7 t) 5 r 0 (omega arith) in

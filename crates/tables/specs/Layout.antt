@@ -9,7 +9,7 @@ use Rattle.words.specs.Runs.{part}
 use Rattle.words.specs.Rows.{rows, flat, flat-rows, spell, spelled, spell-drop}
 use Rattle.words.specs.Cuts.{cuts, join, join-cuts, offset}
 use Rattle.tables.specs.Tables.{Tables}
-use Rattle.sizes.specs.Sizes.{sizesOf, widths, stride, total}
+use Rattle.sizes.specs.Sizes.{sizesOf, widths, stride, total, headerSection, domainPoolSection, regionPoolSection, recordPoolSection, domainsSection, regionsSection, recordsSection, ringSection}
 use Rattle.tables.specs.View.{view, ofParts, Sized, Left, headOf, headWords, slotOf, slotWords, regionOf, regionWords, recordOf, recordWords, updateOf, updateWords, domainOf, domainWords, arenaOf, arenaWords, headerWords, partsOf, layout}
 use Rattle.tables.specs.Sections.{section, section-length}
 
@@ -53,14 +53,14 @@ parts-back : (t : List ℕ) → Sized t → partsOf (view t) ≡ cuts (widths (s
 unfolding partsOf view ofParts cuts total offset
 parts-back t s =
     let z = sizesOf t in
-    let e₀ : headerWords (view t) ≡ section t 0 = header-back t (omega arith) in
-    let e₁ : arenaWords (arenaOf (z .domains) (section t 1)) ≡ section t 1 = arena-back (z .domains) (section t 1) (section-length t 1 s) in
-    let e₂ : arenaWords (arenaOf (z .regions) (section t 2)) ≡ section t 2 = arena-back (z .regions) (section t 2) (section-length t 2 s) in
-    let e₃ : arenaWords (arenaOf (z .records) (section t 3)) ≡ section t 3 = arena-back (z .records) (section t 3) (section-length t 3 s) in
-    let e₄ : flat domainWords (rows (stride z) (z .domains) (domainOf (z .slots)) (section t 4)) ≡ section t 4 = flat-rows (stride z) (z .domains) (domainOf (z .slots)) domainWords (domain-back (z .slots)) (section t 4) (section-length t 4 s) in
-    let e₅ : flat regionWords (rows 8 (z .regions) regionOf (section t 5)) ≡ section t 5 = flat-rows 8 (z .regions) regionOf regionWords region-back (section t 5) (section-length t 5 s) in
-    let e₆ : flat recordWords (rows 9 (z .records) recordOf (section t 6)) ≡ section t 6 = flat-rows 9 (z .records) recordOf recordWords record-back (section t 6) (section-length t 6 s) in
-    let e₇ : flat updateWords (rows 4 (z .updates + 1) updateOf (section t 7)) ≡ section t 7 = flat-rows 4 (z .updates + 1) updateOf updateWords update-back (section t 7) (section-length t 7 s) in
+    let e₀ : headerWords (view t) ≡ section t headerSection = header-back t (omega arith) in
+    let e₁ : arenaWords (arenaOf (z .domains) (section t domainPoolSection)) ≡ section t domainPoolSection = arena-back (z .domains) (section t domainPoolSection) (section-length t domainPoolSection s) in
+    let e₂ : arenaWords (arenaOf (z .regions) (section t regionPoolSection)) ≡ section t regionPoolSection = arena-back (z .regions) (section t regionPoolSection) (section-length t regionPoolSection s) in
+    let e₃ : arenaWords (arenaOf (z .records) (section t recordPoolSection)) ≡ section t recordPoolSection = arena-back (z .records) (section t recordPoolSection) (section-length t recordPoolSection s) in
+    let e₄ : flat domainWords (rows (stride z) (z .domains) (domainOf (z .slots)) (section t domainsSection)) ≡ section t domainsSection = flat-rows (stride z) (z .domains) (domainOf (z .slots)) domainWords (domain-back (z .slots)) (section t domainsSection) (section-length t domainsSection s) in
+    let e₅ : flat regionWords (rows 8 (z .regions) regionOf (section t regionsSection)) ≡ section t regionsSection = flat-rows 8 (z .regions) regionOf regionWords region-back (section t regionsSection) (section-length t regionsSection s) in
+    let e₆ : flat recordWords (rows 9 (z .records) recordOf (section t recordsSection)) ≡ section t recordsSection = flat-rows 9 (z .records) recordOf recordWords record-back (section t recordsSection) (section-length t recordsSection s) in
+    let e₇ : flat updateWords (rows 4 (z .updates + 1) updateOf (section t ringSection)) ≡ section t ringSection = flat-rows 4 (z .updates + 1) updateOf updateWords update-back (section t ringSection) (section-length t ringSection s) in
     λ i. e₀ i ∷ e₁ i ∷ e₂ i ∷ e₃ i ∷ e₄ i ∷ e₅ i ∷ e₆ i ∷ e₇ i ∷ []
 
 pub layout-view : (t : List ℕ) → Sized t → layout (view t) ≡ t

@@ -8,7 +8,7 @@ use borrow.Author.Tests.{lt-ltb, le-ltb}
 use lib.Dec.{ltb}
 use lib.ListN.{length, getD, set, List·getD-eq-default}
 use lib.Seq.{sets, set-out}
-use Rattle.words.specs.Cases.{pick, cmp, lt, ge}
+use Rattle.base.specs.Cases.{pick, cmp, lt, ge}
 use Rattle.words.specs.Runs.{part, length-part, sets-all, fetched, fetched-in, fetched-out, stored, stored-in, stored-out}
 use Rattle.words.specs.Rows.{rows, length-rows, getD-rows, rows-sets}
 use Rattle.words.specs.Cuts.{cuts, offset, cuts-part}

@@ -105,6 +105,17 @@ unfoldable pub withRing : Tables → List Update → Tables
 withRing s us =
     record { sizes = s .sizes; read = s .read; write = s .write; domainPool = s .domainPool; regionPool = s .regionPool; recordPool = s .recordPool; domains = s .domains; regions = s .regions; records = s .records; ring = us }
 
+-- ---- a region with one field changed
+
+abbrev pub withNext : RegionCapa → ℕ → RegionCapa
+withNext r k = record { kind = r .kind; owner = r .owner; parent = r .parent; start = r .start; end = r .end; rights = r .rights; child = r .child; next = k }
+
+abbrev pub withChild : RegionCapa → ℕ → RegionCapa
+withChild r k = record { kind = r .kind; owner = r .owner; parent = r .parent; start = r .start; end = r .end; rights = r .rights; child = k; next = r .next }
+
+abbrev pub withOwner : RegionCapa → ℕ → RegionCapa
+withOwner r k = record { kind = r .kind; owner = k; parent = r .parent; start = r .start; end = r .end; rights = r .rights; child = r .child; next = r .next }
+
 -- ---- one record changed; nothing where there is no such record
 
 abbrev pub putHead : Domain → DomainHead → Domain

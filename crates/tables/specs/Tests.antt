@@ -4,7 +4,7 @@ use mathlib.Core.Bool.{true}
 use mathlib.Core.List.{List}
 use Prim.Native.Nat.{ℕ}
 use borrow.Author.Tests.{eqb-true, eq-eqb}
-use Rattle.words.specs.Cases.{both-true}
+use Rattle.base.specs.Tests.{both-true}
 use Rattle.sizes.specs.Limits.{limitsB, limits-true, true-limits}
 use Rattle.sizes.specs.Sizes.{sizesOf}
 use Rattle.sizes.specs.Tests.{sizedB}

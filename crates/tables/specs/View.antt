@@ -14,7 +14,7 @@ use Rattle.tables.specs.declared.Region.{Region}
 use Rattle.tables.specs.declared.Update.{Update}
 use Rattle.tables.specs.Tables.{Tables, Domain, Arena}
 use Rattle.sizes.specs.Limits.{Limits}
-use Rattle.sizes.specs.Sizes.{sizesOf, headWidth, slotWidth, regionWidth, recordWidth, updateWidth, stride, widths, total}
+use Rattle.sizes.specs.Sizes.{sizesOf, headWidth, slotWidth, regionWidth, recordWidth, updateWidth, stride, headerSection, domainPoolSection, regionPoolSection, recordPoolSection, domainsSection, regionsSection, recordsSection, ringSection, widths, total}
 
 -- ---- a record in its words
 
@@ -49,15 +49,15 @@ unfoldable pub ofParts : Sizes → List (List ℕ) → Tables
 ofParts z ps =
     record {
       sizes = z;
-      read = getD (getD ps 0 []) 5 0;
-      write = getD (getD ps 0 []) 6 0;
-      domainPool = arenaOf (z .domains) (getD ps 1 []);
-      regionPool = arenaOf (z .regions) (getD ps 2 []);
-      recordPool = arenaOf (z .records) (getD ps 3 []);
-      domains = rows (stride z) (z .domains) (domainOf (z .slots)) (getD ps 4 []);
-      regions = rows regionWidth (z .regions) regionOf (getD ps 5 []);
-      records = rows recordWidth (z .records) recordOf (getD ps 6 []);
-      ring = rows updateWidth (z .updates + 1) updateOf (getD ps 7 []);
+      read = getD (getD ps headerSection []) 5 0;
+      write = getD (getD ps headerSection []) 6 0;
+      domainPool = arenaOf (z .domains) (getD ps domainPoolSection []);
+      regionPool = arenaOf (z .regions) (getD ps regionPoolSection []);
+      recordPool = arenaOf (z .records) (getD ps recordPoolSection []);
+      domains = rows (stride z) (z .domains) (domainOf (z .slots)) (getD ps domainsSection []);
+      regions = rows regionWidth (z .regions) regionOf (getD ps regionsSection []);
+      records = rows recordWidth (z .records) recordOf (getD ps recordsSection []);
+      ring = rows updateWidth (z .updates + 1) updateOf (getD ps ringSection []);
     }
 
 unfoldable pub view : List ℕ → Tables

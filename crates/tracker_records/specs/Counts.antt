@@ -1,9 +1,10 @@
 -- A record's six counts, raised and lowered (document 01, **Tracker**).
-use mathlib.Core.Bool.{Bool, true, false, not, _||_}
+use mathlib.Core.Bool.{Bool, not, _||_}
 use Prim.Native.Nat.{ℕ, _+_, _-_, _^_}
 use lib.Dec.{eqb, leb}
-use Rattle.words.specs.Cases.{pick, both}
-use Rattle.rights.specs.Rights.{countersOf}
+use Rattle.rights.specs.Counters.{countersOf}
+use Rattle.base.specs.Cases.{pick}
+use Rattle.base.specs.Tests.{both}
 use Rattle.tables.specs.declared.Region.{Region}
 
 -- k more, where that is a word; k less, or 0

@@ -2,7 +2,7 @@
 use mathlib.Core.Bool.{Bool}
 use Prim.Native.Nat.{ℕ}
 use lib.Dec.{eqb}
-use Rattle.words.specs.Cases.{pick}
+use Rattle.base.specs.Cases.{pick}
 use Rattle.tables.specs.declared.Region.{Region}
 use Rattle.tables.specs.declared.DomainHead.{DomainHead}
 use Rattle.tables.specs.Links.{linkTo, slotTo}
@@ -16,8 +16,8 @@ use Rattle.pools.specs.declared.Pool.the-variants.{Records}
 use Rattle.pools.specs.Wiping.{slotFreed}
 use Rattle.answers.specs.declared.Answer.{Answer}
 use Rattle.answers.specs.declared.Answer.the-variants.{Done, Refused}
-use Rattle.answers.specs.declared.Refusal.the-variants.{Memory, NoTracker, Spent}
-use Rattle.answers.specs.Answers.{Step, done, refused}
+use Rattle.refusals.specs.Refusals.{memory, noTracker, spent}
+use Rattle.answers.specs.Answers.{Effect, done, refused}
 
 -- another end and another link; another start
 abbrev pub withEnd : Region → ℕ → ℕ → Region
@@ -45,29 +45,29 @@ withNext s d prev k =
 abbrev pub taken : Tables → Tables
 taken s = withRecordPool s (allocated (s .recordPool))
 
-abbrev insertedAt : Tables → ℕ → ℕ → Region → Given → Step
+abbrev insertedAt : Tables → ℕ → ℕ → Region → Given → Effect
 insertedAt s d prev q (At h) = done (linkTo (h .slot)) (withNext (withRecord (taken s) (h .slot) q) d prev (linkTo (h .slot)))
-insertedAt s d prev q Full = refused NoTracker (taken s)
+insertedAt s d prev q Full = refused noTracker (taken s)
 
 -- record q in a slot of its own behind prev; the answer is its link
-unfoldable pub inserted : Tables → ℕ → ℕ → Region → Step
+unfoldable pub inserted : Tables → ℕ → ℕ → Region → Effect
 inserted s d prev q = insertedAt s d prev q (given (s .recordPool))
 
-abbrev splitAt : Tables → ℕ → ℕ → Given → Step
+abbrev splitAt : Tables → ℕ → ℕ → Given → Effect
 splitAt s i a (At h) =
     let q = recordAt (taken s) i in
     done (linkTo (h .slot)) (withRecord (withRecord (taken s) (h .slot) (withStart q a)) i (withEnd q a (linkTo (h .slot))))
-splitAt s i a Full = refused NoTracker (taken s)
+splitAt s i a Full = refused noTracker (taken s)
 
 -- record i is cut in two at a; the answer is the right half's link (the model's splitAt)
-unfoldable pub split : Tables → ℕ → ℕ → Step
+unfoldable pub split : Tables → ℕ → ℕ → Effect
 split s i a = splitAt s i a (given (s .recordPool))
 
 abbrev pub freedAnswer : Freed → Answer
 freedAnswer freed.Done = Done 0
-freedAnswer freed.Spent = Refused Spent
-freedAnswer freed.NotHeld = Refused Memory
+freedAnswer freed.Spent = Refused spent
+freedAnswer freed.NotHeld = Refused memory
 
 -- record i is freed and wiped
-unfoldable pub freedRecord : Tables → ℕ → Step
+unfoldable pub freedRecord : Tables → ℕ → Effect
 freedRecord s i = record { answer = freedAnswer (answerTo (s .recordPool) i); tables = slotFreed s Records i }

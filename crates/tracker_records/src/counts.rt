@@ -1,7 +1,7 @@
 // A record's six counts. Numbers that no sound tables hold stay within 64 bits.
 ghost use mathlib.Core.Path.{_≡_};
 ghost use lib.Dec.{ltb};
-ghost use Rattle.words.specs.Cases.{pick};
+ghost use Rattle.base.specs.Cases.{pick};
 ghost use Rattle.tracker_records.specs.Counts.{up, down, raised, lowered, crossesB, changesB, mergeableB, made};
 use rights::Rights;
 use tables::Region;

@@ -3,9 +3,9 @@ ghost use mathlib.Core.Path.{_≡_};
 ghost use Rattle.tables.specs.View.{view, Sized, Left};
 ghost use Rattle.tracker_records.specs.Links.{withEnd, withNext, firstLink, inserted, split, freedRecord};
 use answers::Answer;
-use answers::Refusal;
 use arena::Freed;
 use arena::Given;
+use refusals::Refusal;
 use tables::Region;
 
 // The link of domain d's first record.
@@ -56,7 +56,7 @@ pub fn insert(t: &mut [u64], d: usize, prev: u64, q: Region) -> Answer
             set_next(t, d, prev, link);
             Answer::Done(link)
         }
-        Given::Full => Answer::Refused(Refusal::NoTracker),
+        Given::Full => Answer::Refused(Refusal::NO_TRACKER),
     }
 }
 
@@ -76,7 +76,7 @@ pub fn split_region_at(t: &mut [u64], i: usize, a: u64) -> Answer
             tables::store_record(t, i, bounded(q, a, link));
             Answer::Done(link)
         }
-        Given::Full => Answer::Refused(Refusal::NoTracker),
+        Given::Full => Answer::Refused(Refusal::NO_TRACKER),
     }
 }
 
@@ -88,7 +88,7 @@ pub fn free(t: &mut [u64], i: usize) -> Answer
 {
     match pools::free_record(t, i) {
         Freed::Done => Answer::Done(0),
-        Freed::Spent => Answer::Refused(Refusal::Spent),
-        Freed::NotHeld => Answer::Refused(Refusal::Memory),
+        Freed::Spent => Answer::Refused(Refusal::SPENT),
+        Freed::NotHeld => Answer::Refused(Refusal::MEMORY),
     }
 }

@@ -3,8 +3,9 @@ use Prim.Native.Nat.{ℕ, zero, suc, _+_, _<_, _≤_}
 use mathlib.Core.Path.{_≡_, refl, sym, ap, _∙_}
 use mathlib.Core.List.{List, [], _∷_, _++_}
 use native.Mathlib.Omega.{arith}
-use lib.ListN.{length, getD, set, replicate}
-use lib.Seq.{ext-getD}
+use native.Mathlib.Decide.{ℕ-discrete}
+use lib.ListN.{length, getD, set, length-set, replicate}
+use lib.Seq.{ext-getD, getD-set-same, getD-set-other}
 use Rattle.tables.specs.declared.Update.{Update}
 use Rattle.tables.specs.Tables.{noUpdate}
 
@@ -42,16 +43,18 @@ fitted-more (suc n) [] u (suc i) e h = absurd (omega arith)
 fitted-more (suc n) (p ∷ ps) u zero e h = absurd (omega arith)
 fitted-more (suc n) (p ∷ ps) u (suc i) e h = ap (λ (l : List Update). p ∷ l) (fitted-more n ps u i (omega arith) (omega arith))
 
--- a place that is there is set
-pub fitted-set : (n : ℕ) (ps : List Update) (i : ℕ) (u : Update) → i < length ps → fitted n (set ps i u) ≡ set (fitted n ps) i u
-unfolding fitted
-fitted-set zero ps i u h = refl
-fitted-set (suc n) [] i u h = absurd (omega arith)
-fitted-set (suc n) (p ∷ ps) zero u h = refl
-fitted-set (suc n) (p ∷ ps) (suc i) u h = ap (λ (l : List Update). p ∷ l) (fitted-set n ps i u (omega arith))
-
 -- fitted to more places and back
 pub fitted-back : (m n : ℕ) (ps : List Update) → length ps ≡ m → m ≤ n → fitted m (fitted n ps) ≡ ps
 fitted-back m n ps e h =
     let long = length-fitted m (fitted n ps) in
     ext-getD noUpdate (fitted m (fitted n ps)) ps (long ∙ sym e) (λ k hk. getD-fitted m (fitted n ps) k (omega arith) ∙ getD-fitted n ps k (omega arith))
+
+-- and back with place i set: past the n places nothing is set
+pub fitted-set : (m n : ℕ) (ps : List Update) (i : ℕ) (u : Update) → length ps ≡ m → m ≤ n → fitted m (set (fitted n ps) i u) ≡ set ps i u
+fitted-set m n ps i u e h =
+    ext-getD noUpdate (fitted m (set (fitted n ps) i u)) (set ps i u) (length-fitted m (set (fitted n ps) i u) ∙ sym e ∙ sym (length-set ps i u)) (λ k hk.
+    let low : k < m = omega (arith, length-fitted m (set (fitted n ps) i u)) in
+    getD-fitted m (set (fitted n ps) i u) k low ∙ elim (ℕ-discrete k i) [
+      | yes d ↦ rw d (getD-set-same (fitted n ps) i u noUpdate (omega (arith, d, length-fitted n ps)) ∙ sym (getD-set-same ps i u noUpdate (omega (arith, d))))
+      | no d ↦ getD-set-other (fitted n ps) i k u noUpdate d ∙ getD-fitted n ps k (omega arith) ∙ sym (getD-set-other ps i k u noUpdate d)
+    ])

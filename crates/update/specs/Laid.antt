@@ -5,7 +5,7 @@ use mathlib.Core.Bool.{true, false}
 use mathlib.Core.List.{List, [], _∷_, _++_}
 use native.Mathlib.Omega.{arith}
 use lib.ListN.{length, getD, List·getD-eq-default}
-use Rattle.words.specs.Cases.{cmp, lt, ge}
+use Rattle.base.specs.Cases.{cmp, lt, ge}
 use Rattle.tables.specs.declared.Update.{Update}
 use Rattle.tables.specs.Tables.{Tables, noUpdate, withRing, withPlaces}
 use Rattle.ring.specs.declared.Ring.{Ring}

@@ -1,23 +1,25 @@
 -- The ring that the tables hold, and the tables with another ring.
 use Prim.Native.Nat.{ℕ, _+_, _-_, _*_, _<_, _≤_}
-use mathlib.Core.Path.{_≡_, refl, sym, ap, _∙_}
+use mathlib.Core.Path.{_≡_, refl, ap, _∙_}
 use mathlib.Core.List.{List}
 use native.Mathlib.Numerals.{add-one}
 use native.Mathlib.Omega.{arith}
+use lib.Dec.{ltb}
 use lib.ListN.{length, getD, set, take, drop, replicate}
+use Rattle.base.specs.Cases.{pick}
 use Rattle.words.specs.Runs.{part, part-at}
 use Rattle.words.specs.Rows.{rows, length-rows, rows-more}
 use Rattle.words.specs.Cuts.{offset}
 use Rattle.tables.specs.declared.Update.{Update}
 use Rattle.sizes.specs.declared.Sizes.{Sizes}
 use Rattle.tables.specs.Tables.{Tables, noUpdate, withRing, withPlaces}
-use Rattle.sizes.specs.Sizes.{sizesOf, widths, updateWidth}
-use Rattle.tables.specs.View.{view, ofParts, Sized, Left, updateOf}
+use Rattle.sizes.specs.Sizes.{sizesOf, widths, updateWidth, ringSection}
+use Rattle.tables.specs.View.{view, ofParts, Sized, updateOf}
 use Rattle.tables.specs.Sections.{section-inside, section-lent}
 use Rattle.ring.specs.declared.Ring.{Ring}
 use Rattle.update.specs.declared.Span.{Span}
 use Rattle.ring.specs.Ring.{cap}
-use Rattle.update.specs.Fitted.{fitted, fitted-empty, fitted-more, fitted-back}
+use Rattle.update.specs.Fitted.{fitted, fitted-empty, fitted-more}
 
 unfoldable pub ringOf : Tables → Ring
 ringOf s = record { places = fitted cap (s .ring); read = s .read; write = s .write; size = s .sizes .updates + 1 }
@@ -28,6 +30,10 @@ withRingOf s r = withPlaces (withRing s (fitted (length (s .ring)) (r .places)))
 -- the ring of the words p, n places
 abbrev pub ringIn : ℕ → List ℕ → ℕ → ℕ → Ring
 ringIn n p i j = record { places = fitted cap (rows updateWidth n updateOf p); read = i; write = j; size = n }
+
+-- place i; nothing past the largest ring
+abbrev pub placeIn : Ring → ℕ → Update
+placeIn r i = pick (ltb i cap) (getD (r .places) i noUpdate) noUpdate
 
 -- ---- place by place
 
@@ -45,25 +51,25 @@ unfolding rows
 read-none p = fitted-empty cap
 
 pub read-more : (p : List ℕ) (i : ℕ) → i < cap → set (readTo p i) i (updateOf (part p (i * updateWidth) updateWidth)) ≡ readTo p (i + 1)
-read-more p i h = rw (add-one, rows-more 4 i updateOf p) (fitted-more cap (rows 4 i updateOf p) _ i (length-rows 4 i updateOf p) h)
+read-more p i h = rw (add-one i, rows-more 4 i updateOf p) (fitted-more cap (rows 4 i updateOf p) _ i (length-rows 4 i updateOf p) h)
 
 -- ---- the ring's words in the tables
 
 -- where the ring stands in the words t
 pub record RingAt (t : List ℕ) (r : Span) : Type 0 where
   pub places : r .places ≡ sizesOf t .updates + 1
-  pub start : r .start ≡ offset (widths (sizesOf t)) 7
+  pub start : r .start ≡ offset (widths (sizesOf t)) ringSection
   pub end : r .end ≡ r .start + r .places * updateWidth
   pub inside : r .end ≤ length t
   pub few : r .places ≤ cap
 
 -- the place that the code computes from the sizes z
-pub ring-found : (t : List ℕ) (z : Sizes) (o : ℕ) → Sized t → z ≡ sizesOf t → o ≡ offset (widths z) 7
+pub ring-found : (t : List ℕ) (z : Sizes) (o : ℕ) → Sized t → z ≡ sizesOf t → o ≡ offset (widths z) ringSection
     → RingAt t (record { start = o; end = o + (z .updates + 1) * updateWidth; places = z .updates + 1 })
 ring-found t z o s ez eo =
     let n : z .updates ≡ sizesOf t .updates = ap (λ (y : Sizes). y .updates) ez in
-    let e : o ≡ offset (widths (sizesOf t)) 7 = eo ∙ rw ez in
-    record { places = rw n; start = e; end = refl; inside = omega (arith, section-inside t 7 s); few = omega (arith, s .limits .updates-high) }
+    let e : o ≡ offset (widths (sizesOf t)) ringSection = eo ∙ rw ez in
+    record { places = rw n; start = e; end = refl; inside = omega (arith, section-inside t ringSection s); few = omega (arith, s .limits .updates-high) }
 
 ring-long : (t : List ℕ) → length (view t .ring) ≡ sizesOf t .updates + 1
 unfolding view ofParts
@@ -73,17 +79,10 @@ ring-long t = length-rows 4 (sizesOf t .updates + 1) updateOf _
 pub ring-few : (t : List ℕ) → Sized t → length (view t .ring) ≤ cap
 ring-few t s = omega (arith, ring-long t, s .limits .updates-high)
 
--- nothing is stored where nothing changed
-pub ring-same : (t : List ℕ) → Sized t → Left t (withRingOf (view t) (ringOf (view t)))
-unfolding withRingOf ringOf withPlaces withRing
-ring-same t s =
-    let e = fitted-back (length (view t .ring)) cap (view t .ring) refl (ring-few t s) in
-    record { seen = ap (λ (l : List Update). withPlaces (withRing (view t) l) (view t .read) (view t .write)) (sym e); sized = s }
-
 module _ (t : List ℕ) (r : Span) (s : Sized t) (at : RingAt t r) where
-  end-at : r .end ≡ r .start + getD (widths (sizesOf t)) 7 0
+  end-at : r .end ≡ r .start + getD (widths (sizesOf t)) ringSection 0
   end-at = at .end ∙ rw (at .places)
 
   pub ring-read : ringIn (r .places) (take (r .end - r .start) (drop (r .start) t)) (view t .read) (view t .write) ≡ ringOf (view t)
   unfolding ringOf view ofParts
-  ring-read = rw (section-lent t 7 (r .start) (r .end) s (at .start) end-at, at .places)
+  ring-read = rw (section-lent t ringSection (r .start) (r .end) s (at .start) end-at, at .places)

@@ -1,4 +1,4 @@
-// The ring in the tables: loaded, lent to the steps, and stored where they changed it.
+// The ring in the tables: loaded, lent to the steps, and the place that a step can change stored.
 ghost use mathlib.Core.Path.{_≡_};
 ghost use Prim.Native.Nat.{_+_, _*_, _≤_};
 ghost use lib.ListN.{length};
@@ -7,12 +7,11 @@ ghost use Rattle.sizes.specs.Sizes.{updateWidth};
 ghost use Rattle.tables.specs.Tables.{withPlaces, withUpdate};
 ghost use Rattle.tables.specs.View.{view, Sized, Left, updateOf};
 ghost use Rattle.ring.specs.Ring.{cap, cleanupOf, pushOf, popOf, markOf};
-ghost use Rattle.update.specs.Stored.{ringOf, withRingOf, ringIn, RingAt};
+ghost use Rattle.update.specs.Stored.{ringOf, withRingOf, ringIn, placeIn, RingAt};
 use ring::Item;
 use ring::PLACES;
 use ring::Ring;
 use ring::cleanup;
-use ring::permission;
 use sizes::UPDATE_WIDTH;
 use tables::Update;
 
@@ -70,6 +69,17 @@ fn ring_in(p: &[u64], n: usize, read: usize, write: usize) -> Ring
     }
 }
 
+// Place i; nothing past the largest ring.
+fn place_in(ring: Ring, i: usize) -> Update
+    ensures { λ r. ⌜ r ≡ placeIn ring i ⌝ }
+{
+    if i < PLACES {
+        ring.places[i]
+    } else {
+        tables::no_update()
+    }
+}
+
 // ---- In the tables
 
 pub fn load_ring(t: &[u64]) -> Ring
@@ -84,17 +94,16 @@ pub fn load_ring(t: &[u64]) -> Ring
     ring_in(&t[a..e], s.places, read, write)
 }
 
-// Place i, and the two that the header names: all that a step changes.
-fn store_place(t: &mut [u64], i: usize, u: Update, read: usize, write: usize)
+// Place i of the ring, and the two that the header names: a step changes no more than these.
+fn store_place(t: &mut [u64], i: usize, ring: Ring)
     requires { ⌜ Sized (now t) ⌝ }
-    ensures { λ _. ⌜ Left (now (t .exit)) (withPlaces (withUpdate (view (now (t .entry))) i u) read write) ⌝ }
+    ensures { λ _. ⌜ Left (now (t .exit)) (withPlaces (withUpdate (view (now (t .entry))) i (placeIn ring i)) (ring .read) (ring .write)) ⌝ }
 {
-    tables::store_update(t, i, u);
-    tables::set_places(t, read as u64, write as u64);
+    tables::store_update(t, i, place_in(ring, i));
+    tables::set_places(t, ring.read as u64, ring.write as u64);
 }
 
 // Queues the domain with its core map unless it is queued already; false where the ring is full.
-// Only a push moves the write place.
 pub fn mark_domain(t: &mut [u64], slot: u64, generation: u64, cores: u64) -> bool
     requires { ⌜ Sized (now t) ⌝ }
     ensures { λ r. ⌜ (r ≡ markOf (ringOf (view (now (t .entry)))) slot generation cores .ok)
@@ -103,15 +112,7 @@ pub fn mark_domain(t: &mut [u64], slot: u64, generation: u64, cores: u64) -> boo
     let ring = load_ring(t);
     let at = ring.write;
     let p = ring::mark_lent(ring, slot, generation, cores);
-    if p.ring.write != at {
-        store_place(
-            t,
-            at,
-            permission(slot, generation, cores),
-            p.ring.read,
-            p.ring.write,
-        );
-    }
+    store_place(t, at, p.ring);
     p.ok
 }
 
@@ -123,11 +124,8 @@ pub fn push_cleanup(t: &mut [u64], start: u64, end: u64) -> bool
 {
     let ring = load_ring(t);
     let at = ring.write;
-    let u = cleanup(start, end);
-    let p = ring::push_lent(ring, u);
-    if p.ok {
-        store_place(t, at, u, p.ring.read, p.ring.write);
-    }
+    let p = ring::push_lent(ring, cleanup(start, end));
+    store_place(t, at, p.ring);
     p.ok
 }
 
@@ -140,8 +138,6 @@ pub fn pop_update(t: &mut [u64]) -> Item
     let ring = load_ring(t);
     let at = ring.read;
     let p = ring::pop_lent(ring);
-    if p.item.got {
-        store_place(t, at, tables::no_update(), p.ring.read, p.ring.write);
-    }
+    store_place(t, at, p.ring);
     p.item
 }

@@ -1,4 +1,3 @@
-pub mod Cases
 pub mod Runs
 pub mod Copies
 pub mod Rows

@@ -9,7 +9,7 @@ use borrow.Rule.Slice.PartMut.{putMid}
 use lib.Dec.{leb}
 use lib.ListN.{length, getD, take, drop, set, length-take, length-drop, drop-of-length-le}
 use lib.Seq.{sets, sets-eq, take-set-le, drop-set-lt, take-set-lt, drop-set-add, take-take, getD-take, getD-drop, drop-drop}
-use Rattle.words.specs.Cases.{pick, cmp, lt, ge}
+use Rattle.base.specs.Cases.{pick, cmp, lt, ge}
 
 -- the n words from o on
 unfoldable pub part : List ℕ → ℕ → ℕ → List ℕ

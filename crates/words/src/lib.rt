@@ -1,7 +1,7 @@
 // Words of a lent slice. Every function is total: outside the slice nothing is read or written.
 ghost use mathlib.Core.Path.{_≡_};
 ghost use lib.ListN.{length, getD, set, replicate};
-ghost use Rattle.words.specs.Cases.{both as bothB};
+ghost use Rattle.base.specs.Tests.{both as bothB};
 ghost use Rattle.words.specs.Runs.{fetched, stored};
 ghost use Rattle.words.specs.Copies.{copied};
 

@@ -1,39 +1,33 @@
 -- What dies in the book, and lists of slots where only trackers change.
 use mathlib.Core.Path.{_≡_, refl, sym, ap, _∙_}
 use Prim.Native.Nat.{ℕ, zero, suc, _+_, _<_}
-use mathlib.Core.Bool.{Bool, true, false, not}
-use mathlib.Core.Option.{Option, none, some}
+use mathlib.Core.Bool.{Bool, true, false}
+use mathlib.Core.Option.{Option, none, some, Option·getD}
 use mathlib.Core.List.{List, [], _∷_}
 use native.Mathlib.Omega.{arith}
-use lib.Dec.{T}
 use lib.ListN.{length}
-use Rattle.model.specs.Lists.{if_then_else_, isSome, slotOf, orElse}
+use Rattle.base.specs.Tests.{true-is}
+use Rattle.base.specs.Options.{none-some}
+use Rattle.model.specs.Lists.{if_then_else_, isSome, atSlot}
 use Rattle.model.specs.State.{Handle, LocalList, Domain, Kind, Root, Alias, Carve, parentOf, withTracker}
-use Rattle.model.specs.Tree.{isRootKind}
-use Rattle.laws.specs.Cases.{true-is}
-use Rattle.laws.specs.Tree.Slots.{none-some}
 use Rattle.laws.specs.Keep.SameDomains.{untracked}
 use Rattle.book.specs.Book.{Noted, Slots, noted, dying}
 use Rattle.book.specs.Demand3.{kindBy}
-use Rattle.book.specs.Matches.{Both, nil, cons, SameSlots, SameList, notOpened, isOpened}
+use Rattle.book.specs.Matches.{Both, nil, cons, SameList, notOpened, isOpened}
+use Rattle.book.specs.Slots.{slots-as}
 
 -- ---- small laws
 
 -- the parent's place, and the slot where it stands
 pub parent-at : (f : ℕ → ℕ) (kd : Kind) (p : ℕ) → parentOf kd ≡ some p → parentOf (kindBy f kd) ≡ some (f p)
 parent-at f Root p e = absurd (none-some none p refl e)
-parent-at f (Alias q) p e = ap (λ o. some (f (orElse o 0))) e
-parent-at f (Carve q) p e = ap (λ o. some (f (orElse o 0))) e
+parent-at f (Alias q) p e = ap (λ o. some (f (Option·getD o 0))) e
+parent-at f (Carve q) p e = ap (λ o. some (f (Option·getD o 0))) e
 
 pub parent-of : (f : ℕ → ℕ) (kd : Kind) (p : ℕ) → parentOf (kindBy f kd) ≡ some p → (q : ℕ) × (parentOf kd ≡ some q) × (f q ≡ p)
 parent-of f Root p e = absurd (none-some none p refl e)
-parent-of f (Alias q) p e = (q, refl, ap (λ o. orElse o 0) e)
-parent-of f (Carve q) p e = (q, refl, ap (λ o. orElse o 0) e)
-
-pub not-root : (kd : Kind) → T (not (isRootKind kd)) → (p : ℕ) × (parentOf kd ≡ some p)
-not-root Root t = absurd t
-not-root (Alias p) t = (p, refl)
-not-root (Carve p) t = (p, refl)
+parent-of f (Alias q) p e = (q, refl, ap (λ o. Option·getD o 0) e)
+parent-of f (Carve q) p e = (q, refl, ap (λ o. Option·getD o 0) e)
 
 -- ---- the book after a kill
 
@@ -55,9 +49,6 @@ dies-if-alive false l h = (refl, h)
 
 -- ---- the lists
 
-slots-as : {P : ℕ → Handle → Type 0} {Q : Handle → Type 0} (l : Slots) (m n : LocalList) → n ≡ m → SameSlots P Q l m → SameSlots P Q l n
-slots-as l m n e h = rw e h
-
 locals-of : Option Domain → LocalList
 locals-of none = record { held = []; free = [] }
 locals-of (some d) = d .locals
@@ -72,7 +63,7 @@ list-untracked x y (some w) e notOpened = absurd (none-some none (withTracker []
 list-untracked x y none e (isOpened {x = v} h) = absurd (none-some none (withTracker [] v) refl e)
 list-untracked x y (some w) e (isOpened {l} {x = v} h) = isOpened (slots-as l (v .locals) (w .locals) (same-locals w v e) h)
 
-pub lists-untracked : {P : ℕ → Handle → Type 0} {Q : Handle → Type 0} (ls : List (Option Slots)) (ds es : List (Option Domain)) → length es ≡ length ds → ((d : ℕ) → untracked (slotOf es d) ≡ untracked (slotOf ds d)) → Both (SameList P Q) ls ds → Both (SameList P Q) ls es
+pub lists-untracked : {P : ℕ → Handle → Type 0} {Q : Handle → Type 0} (ls : List (Option Slots)) (ds es : List (Option Domain)) → length es ≡ length ds → ((d : ℕ) → untracked (atSlot es d) ≡ untracked (atSlot ds d)) → Both (SameList P Q) ls ds → Both (SameList P Q) ls es
 lists-untracked ls ds [] n e nil = nil
 lists-untracked ls ds (y ∷ es) n e nil = absurd (omega arith)
 lists-untracked ls ds [] n e (cons r h) = absurd (omega arith)

@@ -9,23 +9,23 @@ use native.Mathlib.Omega.{arith}
 use native.Mathlib.Decide.{ℕ-discrete}
 use lib.ListN.{length, getD, set, length-set}
 use lib.Seq.{getD-set-same, getD-set-other}
-use Rattle.model.specs.Lists.{isSome, any, slotOf, In}
+use Rattle.base.specs.Tests.{true-false}
+use Rattle.model.specs.Lists.{isSome, exists, atSlot, In}
 use Rattle.model.specs.State.{State, Region, Kind, Root, Alias, Carve, Access, Update, parentOf, domainAt, regionAt, putDomain, withTracker, withRecordPool}
 use Rattle.model.specs.Pool.{handleOf, free}
 use Rattle.model.specs.Updates.{push, pushPermission, isPermissionOf}
 use Rattle.model.specs.Tracker.{Walk}
 use Rattle.model.specs.Tree.{removeChild}
-use Rattle.model.specs.Regions.{putWalk, activate, deactivate, giveBack, leaveParent, freeRegion, revokeLeaf, revokeRegion, liveRegions}
+use Rattle.model.specs.Regions.{putWalk, activate, deactivate, giveBack, leaveParent, freeRegion, revokeLeaf, revokeRegion, liveCount}
 use Rattle.rights.specs.Rights.{has, CLEANUP}
 use Rattle.laws.specs.Accepted.{All, accepted, bind, bind-any, and-then, weaken, branch, both}
 use Rattle.laws.specs.Tree.Slots.{in-length}
 use Rattle.laws.specs.Tree.Facts.{Regions}
 use Rattle.laws.specs.Tree.Change.{childOut, same-bare}
-use Rattle.laws.specs.Tree.Keep.{goes, goes-free}
+use Rattle.laws.specs.Tree.Keep.{slot-removed, removed-free}
 use Rattle.laws.specs.Tree.Steps.{leaf-regions}
 use Rattle.laws.specs.Tree.Below.{Revoked}
 use Rattle.laws.specs.Tree.Revoke.{Leaves, revoke-all}
-use Rattle.book.specs.Tests.{yes-no}
 
 -- ---- the region pool, by the steps
 
@@ -38,7 +38,7 @@ push-pool u s = and-then _ (accepted refl)
 
 permission-pool : (d : ℕ) (s : State) → All (SamePool s) (pushPermission d s)
 unfolding pushPermission
-permission-pool d s = branch (any (isPermissionOf (handleOf (s .domainPool) d)) (s .queue .items)) (accepted refl) (push-pool _ s)
+permission-pool d s = branch (exists (isPermissionOf (handleOf (s .domainPool) d)) (s .queue .items)) (accepted refl) (push-pool _ s)
 
 walk-pool : (d : ℕ) (w : Walk) (s : State) → All (SamePool s) (putWalk d w s)
 unfolding putWalk
@@ -99,11 +99,11 @@ gen s j = getD (s .regionPool .gens) j 0
 pub record GensAfter (s t : State) : Type 0 where
   pub size : length (t .regionPool .gens) ≡ length (t .regions)
   pub rise : (j : ℕ) → getD (s .regionPool .gens) j 0 ≤ getD (t .regionPool .gens) j 0
-  pub kept : (j : ℕ) → isSome (slotOf (t .regions) j) ≡ true → getD (t .regionPool .gens) j 0 ≡ getD (s .regionPool .gens) j 0
-  pub freed : (j : ℕ) → isSome (slotOf (s .regions) j) ≡ true → isSome (slotOf (t .regions) j) ≡ false → getD (s .regionPool .gens) j 0 < getD (t .regionPool .gens) j 0
+  pub kept : (j : ℕ) → isSome (atSlot (t .regions) j) ≡ true → getD (t .regionPool .gens) j 0 ≡ getD (s .regionPool .gens) j 0
+  pub freed : (j : ℕ) → isSome (atSlot (s .regions) j) ≡ true → isSome (atSlot (t .regions) j) ≡ false → getD (s .regionPool .gens) j 0 < getD (t .regionPool .gens) j 0
 
 gens-self : (s : State) → length (s .regionPool .gens) ≡ length (s .regions) → GensAfter s s
-gens-self s n = record { size = n; rise = λ j. omega arith; kept = λ j h. refl; freed = λ j h k. absurd (yes-no _ h k) }
+gens-self s n = record { size = n; rise = λ j. omega arith; kept = λ j h. refl; freed = λ j h k. absurd (true-false h k) }
 
 module _ (s₀ s t : State) (i p : ℕ) (g h : Region) (k : GensAfter s₀ s) (ok : Regions (s .regions)) (e : In (s .regions) i g) (empty : g .children ≡ []) (n : parentOf (g .kind) ≡ some p) (at : In (s .regions) p h) (gens : t .regionPool .gens ≡ raised i (s .regionPool .gens)) (regions : t .regions ≡ set (childOut (s .regions) i p h) i none) where
   low : i < length (s .regionPool .gens)
@@ -115,21 +115,21 @@ module _ (s₀ s t : State) (i p : ℕ) (g h : Region) (k : GensAfter s₀ s) (o
   gen-off : (j : ℕ) → j ≢ i → gen t j ≡ gen s j
   gen-off j o = ap (λ gs. getD gs j 0) gens ∙ getD-set-other (s .regionPool .gens) i j _ 0 o
 
-  some-on : isSome (slotOf (t .regions) i) ≡ false
-  some-on = ap (λ rs. isSome (slotOf rs i)) regions ∙ ap isSome (goes-free (s .regions) ok i g e empty p h at n)
+  some-on : isSome (atSlot (t .regions) i) ≡ false
+  some-on = ap (λ rs. isSome (atSlot rs i)) regions ∙ ap isSome (removed-free (s .regions) ok i g e empty p h at n)
 
-  some-off : (j : ℕ) → j ≢ i → isSome (slotOf (t .regions) j) ≡ isSome (slotOf (s .regions) j)
-  some-off j o = ap (λ rs. isSome (slotOf rs j)) regions ∙ same-bare isSome (λ r. refl) (slotOf (set (childOut (s .regions) i p h) i none) j) (slotOf (s .regions) j) (goes (s .regions) ok i g e empty p h at n .others j o)
+  some-off : (j : ℕ) → j ≢ i → isSome (atSlot (t .regions) j) ≡ isSome (atSlot (s .regions) j)
+  some-off j o = ap (λ rs. isSome (atSlot rs j)) regions ∙ same-bare isSome (λ r. refl) (atSlot (set (childOut (s .regions) i p h) i none) j) (atSlot (s .regions) j) (slot-removed (s .regions) ok i g e empty p h at n .others j o)
 
   leaf-next : GensAfter s₀ t
   leaf-next = record {
-    size = ap length gens ∙ length-set (s .regionPool .gens) i _ ∙ k .size ∙ sym (ap length regions ∙ goes (s .regions) ok i g e empty p h at n .size);
+    size = ap length gens ∙ length-set (s .regionPool .gens) i _ ∙ k .size ∙ sym (ap length regions ∙ slot-removed (s .regions) ok i g e empty p h at n .size);
     rise = λ j. elim (ℕ-discrete j i) [
       | yes o ↦ rw o (omega (arith, gen-on, k .rise i))
       | no o ↦ omega (arith, gen-off j o, k .rise j)
     ];
     kept = λ j u. elim (ℕ-discrete j i) [
-      | yes o ↦ absurd (yes-no _ (rw o at u) some-on)
+      | yes o ↦ absurd (true-false (rw o at u) some-on)
       | no o ↦ gen-off j o ∙ k .kept j (sym (some-off j o) ∙ u)
     ];
     freed = λ j u v. elim (ℕ-discrete j i) [
@@ -143,5 +143,5 @@ unfolding Leaves
 leaves-gens s₀ s i p g h k ok e empty n at = weaken (both (leaf-gens i s) (leaf-regions i p g h s e n at)) (λ t q. leaf-next s₀ s t i p g h k ok e empty n at (q .0) (q .1))
 
 -- THEOREM: after the revoke of region i with all below it
-pub revoke-gens : (s : State) → length (s .regionPool .gens) ≡ length (s .regions) → Regions (s .regions) → (i p : ℕ) (g : Region) → In (s .regions) i g → parentOf (g .kind) ≡ some p → All (λ t. GensAfter s t × Revoked (s .regions) i (t .regions)) (revokeRegion (liveRegions s) i s)
+pub revoke-gens : (s : State) → length (s .regionPool .gens) ≡ length (s .regions) → Regions (s .regions) → (i p : ℕ) (g : Region) → In (s .regions) i g → parentOf (g .kind) ≡ some p → All (λ t. GensAfter s t × Revoked (s .regions) i (t .regions)) (revokeRegion (liveCount s) i s)
 revoke-gens s z ok i p g e n = revoke-all (GensAfter s) (leaves-gens s) s i p g (gens-self s z) ok e n

@@ -7,15 +7,16 @@ use mathlib.Core.List.{List, [], _∷_}
 use native.Mathlib.Omega.{arith}
 use lib.Dec.{eqb, eqb→eq}
 use lib.ListN.{length}
+use Rattle.base.specs.Tests.{true-is, false-is}
 use Rattle.model.specs.Lists.{if_then_else_}
-use Rattle.model.specs.Outcome.{ok, _>>=_, okOr, noSlot}
+use Rattle.model.specs.Outcome.{ok, _>>=_, okOr}
+use Rattle.refusals.specs.Refusals.{noSlot}
 use Rattle.model.specs.State.{State, Handle, Capa, noCapa, parentOf}
 use Rattle.model.specs.Pool.{isLive}
 use Rattle.model.specs.Locals.{capaAt, emptyCapa}
 use Rattle.model.specs.Calls.{liveRegion, revokeUnlessRoot, revokeCapa, revoke}
 use Rattle.model.specs.Sound.{Sound}
 use Rattle.laws.specs.Accepted.{All, accepted, refused, bind}
-use Rattle.laws.specs.Cases.{true-is, false-is}
 use Rattle.book.specs.Book.{Book, Noted, Held, emptied, noted, heldAt, isUnder, mostAbove, dying, killed, revoked, emptySlot}
 use Rattle.book.specs.Tests.{or-else, lives-below}
 use Rattle.book.specs.Matches.{both-set, SameHeld, sameFree, sameEmptied, sameRegion, sameRevoke, sameManagement, sameChannel, AtPlace, LiveDomain, MatchesAt, Matches, matches}

@@ -2,32 +2,35 @@
 use mathlib.Core.Path.{_≡_, refl, sym, ap, _∙_}
 use Prim.Native.Nat.{ℕ, zero, suc, _+_, _≤_, _<_}
 use mathlib.Core.Bool.{Bool, true, false, not, _&&_}
-use mathlib.Core.Option.{Option, none, some}
+use mathlib.Core.Option.{Option, none, some, Option·getD}
 use mathlib.Core.List.{List}
 use native.Mathlib.Omega.{arith}
 use lib.Dec.{eqb, eqb→eq}
 use lib.ListN.{length, getD}
-use Rattle.model.specs.Lists.{if_then_else_, isSome, slotOf, orElse, In}
+use borrow.Author.Tests.{eq-eqb}
+use Rattle.base.specs.Cases.{holds, fails, test}
+use Rattle.base.specs.Tests.{true-is, true-false}
+use Rattle.base.specs.Options.{none-some, some-same}
+use Rattle.model.specs.Lists.{isSome, atSlot, In, if_then_else_}
 use Rattle.model.specs.State.{State, Handle, Domain, Region, parentOf, noneRegion, regionAt}
 use Rattle.model.specs.Pool.{isLive, handleOf}
 use Rattle.model.specs.Tree.{isRootKind}
 use Rattle.model.specs.Calls.{revokeUnlessRoot}
 use Rattle.model.specs.Sound.{Sound}
 use Rattle.laws.specs.Accepted.{All, checked, weaken, both}
-use Rattle.laws.specs.Cases.{true-is, eqb-t, holds, fails, test}
-use Rattle.laws.specs.Tree.Slots.{none-some, some-same}
 use Rattle.laws.specs.Tree.Change.{bare, same-bare}
 use Rattle.laws.specs.Tree.Below.{Below, Revoked}
 use Rattle.laws.specs.Keep.SameDomains.{SameDomains}
-use Rattle.laws.specs.Keep.Coupled.{sound-good}
-use Rattle.laws.specs.Keep.Revoke.{revoke-good}
+use Rattle.laws.specs.Keep.Agreement.{sound-agree}
+use Rattle.laws.specs.Keep.RevokeRegion.{revoke-region-agree}
+use Rattle.laws.specs.Tree.Facts.{not-root}
 use Rattle.book.specs.Book.{Book, Noted, Slots, noted, isUnder, mostAbove, dying, killed}
 use Rattle.book.specs.Demand3.{SameRegion, kindBy}
-use Rattle.book.specs.Tests.{and-left, and-right, or-left, or-right, or-else, yes-no, some-is, lives-below}
+use Rattle.book.specs.Tests.{and-left, and-right, or-left, or-right, or-else, some-is, lives-below}
 use Rattle.book.specs.Matches.{Both, nil, cons, SameList, AtPlace, LiveDomain, Regions, MatchesAt, list-map}
 use Rattle.book.specs.NewRegion.{old-is-dead}
 use Rattle.book.specs.Revoke.Generations.{GensAfter, revoke-gens}
-use Rattle.book.specs.Revoke.Dying.{parent-at, parent-of, not-root, diesIf, dying-length, noted-dying, dies-if-alive, lists-untracked, some-untracked}
+use Rattle.book.specs.Revoke.Dying.{parent-at, parent-of, diesIf, dying-length, noted-dying, dies-if-alive, lists-untracked, some-untracked}
 
 most-above : (rs : List Noted) → length rs ≤ mostAbove rs
 most-above rs = omega arith
@@ -56,14 +59,14 @@ module _ (b : Book) (s t : State) (at : ℕ → Handle) (place : ℕ → ℕ) (m
   live-at : (j : ℕ) → noted rs j .alive ≡ true → isLive (s .regionPool) (s .regions) (at j) ≡ true
   live-at j l = sym (m .regions .aliveIsLive j (low j l)) ∙ l
 
-  in-table : (j : ℕ) → noted rs j .alive ≡ true → isSome (slotOf (s .regions) (slot j)) ≡ true
-  in-table j l = and-left (isSome (slotOf (s .regions) (slot j))) _ (live-at j l)
+  in-table : (j : ℕ) → noted rs j .alive ≡ true → isSome (atSlot (s .regions) (slot j)) ≡ true
+  in-table j l = and-left (isSome (atSlot (s .regions) (slot j))) _ (live-at j l)
 
-  gen-at : (j : ℕ) → noted rs j .alive ≡ true → getD (s .regionPool .gens) (slot j) 0 ≡ at j .gen
-  gen-at j l = eqb→eq _ _ (true-is (and-right (isSome (slotOf (s .regions) (slot j))) _ (live-at j l)))
+  gen-at : (j : ℕ) → noted rs j .alive ≡ true → getD (s .regionPool .gens) (slot j) 0 ≡ at j .generation
+  gen-at j l = eqb→eq _ _ (true-is (and-right (isSome (atSlot (s .regions) (slot j))) _ (live-at j l)))
 
   there : (j : ℕ) → noted rs j .alive ≡ true → In (s .regions) (slot j) (regionAt s (slot j))
-  there j l = some-is (slotOf (s .regions) (slot j)) noneRegion (in-table j l)
+  there j l = some-is (atSlot (s .regions) (slot j)) noneRegion (in-table j l)
 
   kind-at : (j : ℕ) → noted rs j .alive ≡ true → regionAt s (slot j) .kind ≡ kindBy slot (noted rs j .kind)
   kind-at j l = m .regions .stored j (low j l) l .kind
@@ -84,10 +87,10 @@ module _ (b : Book) (s t : State) (at : ℕ → Handle) (place : ℕ → ℕ) (m
   same-place j l e = sym (m .regions .one j (low j l) l) ∙ ap place e ∙ m .regions .one k below lives
 
   below-under : (i : ℕ) → Below (s .regions) (slot k) i → (n j : ℕ) → j ≤ n → noted rs j .alive ≡ true → slot j ≡ i → isUnder rs n k j ≡ true
-  below-under i (Below.here o) zero j u l e = eqb-t j k (same-place j l (e ∙ o))
-  below-under i (Below.here o) (suc n) j u l e = or-left (eqb j k) _ (eqb-t j k (same-place j l (e ∙ o)))
+  below-under i (Below.here o) zero j u l e = eq-eqb j k (same-place j l (e ∙ o))
+  below-under i (Below.here o) (suc n) j u l e = or-left (eqb j k) _ (eq-eqb j k (same-place j l (e ∙ o)))
   below-under i (Below.step p x y q z) n j u l e =
-      let w : x ≡ regionAt s (slot j) = some-same (slotOf (s .regions) i) x (regionAt s (slot j)) y (ap (slotOf (s .regions)) (sym e) ∙ there j l) in
+      let w : x ≡ regionAt s (slot j) = some-same (atSlot (s .regions) i) x (regionAt s (slot j)) y (ap (atSlot (s .regions)) (sym e) ∙ there j l) in
       let r = parent-of slot (noted (b .regions) j .kind) p (ap parentOf (sym (kind-at j l)) ∙ ap (λ (v : Region). parentOf (v .kind)) (sym w) ∙ q) in
       let v = m .regions .parentEarlier j (r .0) (low j l) (r .1) in
       go n u (r .0) (r .1) v (λ n′ a. below-under p z n′ (r .0) a (m .regions .parentLives j (r .0) (low j l) l (r .1)) (r .2))
@@ -103,13 +106,13 @@ module _ (b : Book) (s t : State) (at : ℕ → Handle) (place : ℕ → ℕ) (m
   to-under j l z = below-under (slot j) z (mostAbove (b .regions)) j (omega (arith, low j l, most-above (b .regions))) l refl
 
   -- a live region that is not under k is left, but for its child list
-  left-bare : (j : ℕ) → noted rs j .alive ≡ true → under j ≡ false → bare (slotOf (t .regions) (slot j)) ≡ bare (slotOf (s .regions) (slot j))
-  left-bare j l u = done .kept (slot j) (λ z. yes-no _ (to-under j l z) u)
+  left-bare : (j : ℕ) → noted rs j .alive ≡ true → under j ≡ false → bare (atSlot (t .regions) (slot j)) ≡ bare (atSlot (s .regions) (slot j))
+  left-bare j l u = done .kept (slot j) (λ z. true-false (to-under j l z) u)
 
-  left-some : (j : ℕ) → noted rs j .alive ≡ true → under j ≡ false → isSome (slotOf (t .regions) (slot j)) ≡ true
-  left-some j l u = same-bare isSome (λ r. refl) (slotOf (t .regions) (slot j)) (slotOf (s .regions) (slot j)) (left-bare j l u) ∙ in-table j l
+  left-some : (j : ℕ) → noted rs j .alive ≡ true → under j ≡ false → isSome (atSlot (t .regions) (slot j)) ≡ true
+  left-some j l u = same-bare isSome (λ r. refl) (atSlot (t .regions) (slot j)) (atSlot (s .regions) (slot j)) (left-bare j l u) ∙ in-table j l
 
-  gone-none : (j : ℕ) → noted rs j .alive ≡ true → under j ≡ true → isSome (slotOf (t .regions) (slot j)) ≡ false
+  gone-none : (j : ℕ) → noted rs j .alive ≡ true → under j ≡ true → isSome (atSlot (t .regions) (slot j)) ≡ false
   gone-none j l u = ap isSome (done .gone (slot j) (to-below j l u))
 
   noted′ : (j : ℕ) → j < N → noted rs′ j ≡ diesIf (under j) (noted rs j)
@@ -124,15 +127,15 @@ module _ (b : Book) (s t : State) (at : ℕ → Handle) (place : ℕ → ℕ) (m
   kind′ : (j : ℕ) → j < N → noted rs′ j .kind ≡ noted rs j .kind
   kind′ j u = ap (λ (r : Noted). r .kind) (noted′ j u)
 
-  old-gen : (j : ℕ) → j < N → noted rs j .alive ≡ false → at j .gen < getD (t .regionPool .gens) (slot j) 0
+  old-gen : (j : ℕ) → j < N → noted rs j .alive ≡ false → at j .generation < getD (t .regionPool .gens) (slot j) 0
   old-gen j u d = omega (arith, m .regions .deadIsOlder j u d, gens .rise (slot j))
 
   like-alive : (j : ℕ) → j < N → (if under j then false else noted rs j .alive) ≡ isLive (t .regionPool) (t .regions) (at j)
   like-alive j u = elim (test (noted (b .regions) j .alive)) [
     | fails d ↦ dies (under j) _ d ∙ sym (old-is-dead (t .regionPool) (t .regions) (at j) (old-gen j u d))
     | holds l ↦ elim (test (under j)) [
-      | holds c ↦ ap (λ x. if x then false else noted (b .regions) j .alive) c ∙ sym (ap (λ x. x && eqb (getD (t .regionPool .gens) (slot j) 0) (at j .gen)) (gone-none j l c))
-      | fails c ↦ ap (λ x. if x then false else noted (b .regions) j .alive) c ∙ l ∙ sym (ap (λ x. x && eqb (getD (t .regionPool .gens) (slot j) 0) (at j .gen)) (left-some j l c) ∙ eqb-t _ _ (gens .kept (slot j) (left-some j l c) ∙ gen-at j l))
+      | holds c ↦ ap (λ x. if x then false else noted (b .regions) j .alive) c ∙ sym (ap (λ x. x && eqb (getD (t .regionPool .gens) (slot j) 0) (at j .generation)) (gone-none j l c))
+      | fails c ↦ ap (λ x. if x then false else noted (b .regions) j .alive) c ∙ l ∙ sym (ap (λ x. x && eqb (getD (t .regionPool .gens) (slot j) 0) (at j .generation)) (left-some j l c) ∙ eq-eqb _ _ (gens .kept (slot j) (left-some j l c) ∙ gen-at j l))
     ]
   ]
     where
@@ -140,26 +143,26 @@ module _ (b : Book) (s t : State) (at : ℕ → Handle) (place : ℕ → ℕ) (m
       dies true l d = refl
       dies false l d = d
 
-  deadIsOlder′ : (j : ℕ) → j < N → (if under j then false else noted rs j .alive) ≡ false → at j .gen < getD (t .regionPool .gens) (slot j) 0
+  deadIsOlder′ : (j : ℕ) → j < N → (if under j then false else noted rs j .alive) ≡ false → at j .generation < getD (t .regionPool .gens) (slot j) 0
   deadIsOlder′ j u h = elim (test (noted (b .regions) j .alive)) [
     | fails d ↦ old-gen j u d
     | holds l ↦ elim (test (under j)) [
       | holds c ↦ omega (arith, gens .freed (slot j) (in-table j l) (gone-none j l c), gen-at j l)
-      | fails c ↦ absurd (yes-no _ (ap (λ x. if x then false else noted (b .regions) j .alive) c ∙ l) h)
+      | fails c ↦ absurd (true-false (ap (λ x. if x then false else noted (b .regions) j .alive) c ∙ l) h)
     ]
   ]
 
-  same-bare-region : (f : ℕ → ℕ) (r r′ : Noted) (x y : Option Region) → bare y ≡ bare x → r′ ≡ diesIf false r → SameRegion f r (orElse x noneRegion) → SameRegion f r′ (orElse y noneRegion)
+  same-bare-region : (f : ℕ → ℕ) (r r′ : Noted) (x y : Option Region) → bare y ≡ bare x → r′ ≡ diesIf false r → SameRegion f r (Option·getD x noneRegion) → SameRegion f r′ (Option·getD y noneRegion)
   same-bare-region f r r′ x y e d h = record {
-    kind = same-bare (λ o. orElse o noneRegion .kind) (λ g. refl) y x e ∙ h .kind ∙ ap (λ (n : Noted). kindBy f (n .kind)) (sym d);
-    owner = same-bare (λ o. orElse o noneRegion .owner) (λ g. refl) y x e ∙ h .owner ∙ ap (λ (n : Noted). n .owner) (sym d);
-    start = same-bare (λ o. orElse o noneRegion .start) (λ g. refl) y x e ∙ h .start ∙ ap (λ (n : Noted). n .start) (sym d);
-    end = same-bare (λ o. orElse o noneRegion .end) (λ g. refl) y x e ∙ h .end ∙ ap (λ (n : Noted). n .end) (sym d);
-    rights = same-bare (λ o. orElse o noneRegion .rights) (λ g. refl) y x e ∙ h .rights ∙ ap (λ (n : Noted). n .rights) (sym d);
+    kind = same-bare (λ o. Option·getD o noneRegion .kind) (λ g. refl) y x e ∙ h .kind ∙ ap (λ (n : Noted). kindBy f (n .kind)) (sym d);
+    owner = same-bare (λ o. Option·getD o noneRegion .owner) (λ g. refl) y x e ∙ h .owner ∙ ap (λ (n : Noted). n .owner) (sym d);
+    start = same-bare (λ o. Option·getD o noneRegion .start) (λ g. refl) y x e ∙ h .start ∙ ap (λ (n : Noted). n .start) (sym d);
+    end = same-bare (λ o. Option·getD o noneRegion .end) (λ g. refl) y x e ∙ h .end ∙ ap (λ (n : Noted). n .end) (sym d);
+    rights = same-bare (λ o. Option·getD o noneRegion .rights) (λ g. refl) y x e ∙ h .rights ∙ ap (λ (n : Noted). n .rights) (sym d);
   }
 
-  was-some : (i : ℕ) → isSome (slotOf (t .regions) i) ≡ true → isSome (slotOf (s .regions) i) ≡ true
-  was-some i h = sym (same-bare isSome (λ r. refl) (slotOf (t .regions) i) (slotOf (s .regions) i) (done .left i (regionAt t i) (some-is (slotOf (t .regions) i) noneRegion h))) ∙ h
+  was-some : (i : ℕ) → isSome (atSlot (t .regions) i) ≡ true → isSome (atSlot (s .regions) i) ≡ true
+  was-some i h = sym (same-bare isSome (λ r. refl) (atSlot (t .regions) i) (atSlot (s .regions) i) (done .left i (regionAt t i) (some-is (atSlot (t .regions) i) noneRegion h))) ∙ h
 
   -- a root is under none but itself, and k is none
   root-not-under : (j : ℕ) → j < N → parentOf (noted rs j .kind) ≡ none → under j ≡ false
@@ -172,14 +175,14 @@ module _ (b : Book) (s t : State) (at : ℕ → Handle) (place : ℕ → ℕ) (m
       no i (Below.here o) f = none-some (parentOf (noted (b .regions) k .kind)) p₀ (ap (λ c. parentOf (noted (b .regions) c .kind)) (sym (same-place j (m .regions .rootsLive j u e) (f ∙ o))) ∙ e) child
       no i (Below.step p x y q z) f =
           let l = m .regions .rootsLive j u e in
-          let w : x ≡ regionAt s (slot j) = some-same (slotOf (s .regions) i) x (regionAt s (slot j)) y (ap (slotOf (s .regions)) (sym f) ∙ there j l) in
+          let w : x ≡ regionAt s (slot j) = some-same (atSlot (s .regions) i) x (regionAt s (slot j)) y (ap (atSlot (s .regions)) (sym f) ∙ there j l) in
           let r = parent-of slot (noted (b .regions) j .kind) p (ap parentOf (sym (kind-at j l)) ∙ ap (λ (v : Region). parentOf (v .kind)) (sym w) ∙ q) in
           none-some (parentOf (noted (b .regions) j .kind)) (r .0) e (r .1)
 
   parent-not-under : (j q : ℕ) → noted rs j .alive ≡ true → under j ≡ false → parentOf (noted rs j .kind) ≡ some q → noted rs q .alive ≡ true → under q ≡ false
   parent-not-under j q l c e a = elim (test (under q)) [
     | fails d ↦ d
-    | holds d ↦ absurd (yes-no _ (to-under j l (Below.step (slot q) (regionAt s (slot j)) (there j l) (ap parentOf (kind-at j l) ∙ parent-at slot (noted (b .regions) j .kind) q e) (to-below q a d))) c)
+    | holds d ↦ absurd (true-false (to-under j l (Below.step (slot q) (regionAt s (slot j)) (there j l) (ap parentOf (kind-at j l) ∙ parent-at slot (noted (b .regions) j .kind) q e) (to-below q a d))) c)
   ]
 
   still-alive : (j : ℕ) → j < N → under j ≡ false → noted rs j .alive ≡ true → noted rs′ j .alive ≡ true
@@ -190,7 +193,7 @@ module _ (b : Book) (s t : State) (at : ℕ → Handle) (place : ℕ → ℕ) (m
     aliveIsLive = λ j v. let u : j < N = omega (arith, size′) in ap (λ (r : Noted). r .alive) (noted′ j u) ∙ like-alive j u;
     deadIsOlder = λ j v d. let u : j < N = omega (arith, size′) in deadIsOlder′ j u (sym (ap (λ (r : Noted). r .alive) (noted′ j u)) ∙ d);
     stored = λ j v h. let u : j < N = omega (arith, size′) in let a = alive′ j u h in
-        same-bare-region slot (noted (b .regions) j) (noted rs′ j) (slotOf (s .regions) (slot j)) (slotOf (t .regions) (slot j)) (left-bare j (a .1) (a .0)) (noted′ j u ∙ ap (λ c. diesIf c (noted (b .regions) j)) (a .0)) (m .regions .stored j u (a .1));
+        same-bare-region slot (noted (b .regions) j) (noted rs′ j) (atSlot (s .regions) (slot j)) (atSlot (t .regions) (slot j)) (left-bare j (a .1) (a .0)) (noted′ j u ∙ ap (λ c. diesIf c (noted (b .regions) j)) (a .0)) (m .regions .stored j u (a .1));
     back = λ i h. let r = m .regions .back i (was-some i h) in let z = r .0 in (omega (arith, size′), r .1 ∙ same-handle i h);
     one = λ j v h. let u : j < N = omega (arith, size′) in m .regions .one j u (alive′ j u h .1);
     parentEarlier = λ j q v e. let u : j < N = omega (arith, size′) in m .regions .parentEarlier j q u (ap parentOf (sym (kind′ j u)) ∙ e);
@@ -206,11 +209,11 @@ module _ (b : Book) (s t : State) (at : ℕ → Handle) (place : ℕ → ℕ) (m
         still-alive j u (root-not-under j u f) (m .regions .rootsLive j u f);
   }
     where
-      same-handle : (i : ℕ) → isSome (slotOf (t .regions) i) ≡ true → handleOf (s .regionPool) i ≡ handleOf (t .regionPool) i
-      same-handle i h = ap (λ c. record { slot = i; gen = c }) (sym (gens .kept i h))
+      same-handle : (i : ℕ) → isSome (atSlot (t .regions) i) ≡ true → handleOf (s .regionPool) i ≡ handleOf (t .regionPool) i
+      same-handle i h = ap (λ c. record { slot = i; generation = c }) (sym (gens .kept i h))
 
   live-on : (h : Handle) → LiveDomain (s .domainPool) (s .domains) h → LiveDomain (t .domainPool) (t .domains) h
-  live-on h q = ap (λ p. isLive p (t .domains) h) (others .domainPool) ∙ ap (λ c. c && eqb (getD (s .domainPool .gens) (h .slot) 0) (h .gen)) (some-untracked (slotOf (t .domains) (h .slot)) (slotOf (s .domains) (h .slot)) (others .domains (h .slot))) ∙ q
+  live-on h q = ap (λ p. isLive p (t .domains) h) (others .domainPool) ∙ ap (λ c. c && eqb (getD (s .domainPool .gens) (h .slot) 0) (h .generation)) (some-untracked (atSlot (t .domains) (h .slot)) (atSlot (s .domains) (h .slot)) (others .domains (h .slot))) ∙ q
 
   pub killed-match : MatchesAt (killed k b) t at place
   unfolding killed
@@ -231,8 +234,8 @@ revoke-region-match b s at place k sound m u l =
     checked (not (isRootKind (regionAt s (at k .slot) .kind))) _ (λ r.
     let i = at k .slot in
     let a : noted (b .regions) k .alive ≡ true = m .regions .aliveIsLive k u ∙ l in
-    let e = some-is (slotOf (s .regions) i) noneRegion (and-left (isSome (slotOf (s .regions) i)) _ l) in
+    let e = some-is (atSlot (s .regions) i) noneRegion (and-left (isSome (atSlot (s .regions) i)) _ l) in
     let n = not-root (regionAt s i .kind) r in
     let q = parent-of (λ j. at j .slot) (noted (b .regions) k .kind) (n .0) (ap parentOf (sym (m .regions .stored k u a .kind)) ∙ n .1) in
-    weaken (both (revoke-good s (sound-good s sound) i (n .0) (regionAt s i) e (n .1)) (revoke-gens s (sound .outside .regionPool .gensLength ∙ sym (sound .outside .regionsLength)) (sound .outside .regions) i (n .0) (regionAt s i) e (n .1)))
+    weaken (both (revoke-region-agree s (sound-agree s sound) i (n .0) (regionAt s i) e (n .1)) (revoke-gens s (sound .outside .regionPool .gensLength ∙ sym (sound .outside .regionsLength)) (sound .outside .regions) i (n .0) (regionAt s i) e (n .1)))
     (λ t z. killed-match b s t at place m k u a (q .0) (q .1) (z .0 .0 .1) (z .1 .0) (z .1 .1)))

@@ -13,7 +13,7 @@ returns-3 : tie.Need-returns-3
 returns-3 c = rw (c .before .before .before .before .before .call3 .given .1) (c .before .before .open-channel .ensures)
 
 returns-4 : tie.Need-returns-4
-returns-4 c = rw (c .before .before .before .before .before .call4 .given .1) (c .before .before .set-cores .ensures)
+returns-4 c = rw (c .before .before .before .before .before .call4 .given .1) (c .before .before .set-core-map .ensures)
 
 returns-5 : tie.Need-returns-5
 returns-5 c = rw (c .before .before .before .before .before .call5 .given .1) (c .before .before .create-root-region .ensures)

@@ -5,12 +5,12 @@ use mathlib.Core.Option.{Option, none, some}
 use mathlib.Core.List.{[]}
 use native.Mathlib.Omega.{arith}
 use lib.ListN.{getD}
+use Rattle.base.specs.Cases.{lt, ge, cmp}
 use Rattle.model.specs.Lists.{In}
 use Rattle.model.specs.State as state
 use Rattle.model.specs.State.{State}
 use Rattle.model.specs.Layout.{link}
-use Rattle.model.specs.Sound.{Sound, recordUses, inUse}
-use Rattle.laws.specs.Cases.{lt, ge, cmp}
+use Rattle.model.specs.Sound.{Sound, recordUses, slotUses}
 use Rattle.laws.specs.Stack.{once-at-most, none-beyond}
 use Rattle.laws.specs.Words.SameTrackers.{firstSlot}
 use Rattle.tables.specs.declared.Region.{Region}
@@ -72,8 +72,8 @@ module _ (s : State) (h : Sound s) where
   pub decode : stateOf (tablesOf s) ≡ s
   unfolding stateOf tablesOf
   decode =
-      let dp = pool-read (s .sizes .domains) (inUse (s .domains)) (s .domainPool) (h .outside .domainPool .once) in
-      let rp = pool-read (s .sizes .regions) (inUse (s .regions)) (s .regionPool) (h .outside .regionPool .once) in
+      let dp = pool-read (s .sizes .domains) (slotUses (s .domains)) (s .domainPool) (h .outside .domainPool .once) in
+      let rp = pool-read (s .sizes .regions) (slotUses (s .regions)) (s .regionPool) (h .outside .regionPool .once) in
       let tp = pool-read (s .sizes .records) (recordUses (s .domains)) (s .recordPool) (h .tracked .recordPool .once) in
       let q = queue-read (s .sizes .updates) (s .queue) (h .queue .readPlace) (h .queue .fits) in
       λ i. record { sizes = s .sizes; domainPool = dp i; regionPool = rp i; recordPool = tp i; domains = domains-read i; regions = regions-read i; queue = q i }

@@ -7,12 +7,12 @@ use native.Mathlib.Omega.{arith}
 use native.Mathlib.Nat.{mod-eq-of-lt, mod-lt}
 use native.Mathlib.Decide.{ℕ-discrete}
 use lib.ListN.{length, getD}
+use borrow.Author.Tests.{eq-eqb, ne-eqb}
+use Rattle.base.specs.Rounds.{wrap-add, along-first, next-along}
 use Rattle.model.specs.Lists.{countUp}
-use Rattle.laws.specs.Cases.{eqb-t, eqb-f}
 use Rattle.tables.specs.declared.Update.{Update}
 use Rattle.tables.specs.Tables.{noUpdate}
 use Rattle.decoded.specs.Rows.{same-up}
-use Rattle.decoded.specs.Queue.Round.{wrap-add, along-first, next-along}
 use Rattle.decoded.specs.Decode.Read.{updateFrom, placesFrom}
 use Rattle.decoded.specs.Decode.Walks.{map-map}
 
@@ -30,7 +30,7 @@ stop n w k p h e = none k ∙ sym (ap (λ m. map (λ j. (p + j) % n) (countUp 0 
   where
     none : (k : ℕ) → placesFrom n w k p ≡ []
     none zero = refl
-    none (suc k) = rw (eqb-t p w e)
+    none (suc k) = rw (eq-eqb p w e)
 
 -- one place, and then those from the next place on
 more : (n w p m : ℕ) → p < n → along n p w ≡ suc m → p ∷ map (λ j. ((p + 1) % n + j) % n) (countUp 0 m) ≡ map (λ j. (p + j) % n) (countUp 0 (along n p w))
@@ -48,12 +48,12 @@ places-are n w hw (suc k) p hp b = elim (ℕ-discrete p w) [
   | yes e ↦ stop n w (suc k) p hp e
   | no ne ↦
       let m = next-along n p hp w hw (λ e. ne (sym e)) in
-      rw (eqb-f p w ne) (ap (λ l. p ∷ l) (places-are n w hw k ((p + 1) % n) (mod-lt (p + 1) {m = n} (omega arith)) (omega (arith, m))) ∙ more n w p (along n ((p + 1) % n) w) hp m)
+      rw (ne-eqb p w ne) (ap (λ l. p ∷ l) (places-are n w hw k ((p + 1) % n) (mod-lt (p + 1) {m = n} (omega arith)) (omega (arith, m))) ∙ more n w p (along n ((p + 1) % n) w) hp m)
 ]
 
 pub places-outside : (n w : ℕ) → n ≤ w → (k p : ℕ) → p < n → length (placesFrom n w k p) ≡ k
 places-outside n w h zero p hp = refl
-places-outside n w h (suc k) p hp = rw (eqb-f p w (λ e. omega arith)) (ap suc (places-outside n w h k ((p + 1) % n) (mod-lt (p + 1) {m = n} (omega arith))))
+places-outside n w h (suc k) p hp = rw (ne-eqb p w (λ e. omega arith)) (ap suc (places-outside n w h k ((p + 1) % n) (mod-lt (p + 1) {m = n} (omega arith))))
 
 -- the queue's updates, by number
 pub items-are : (n r w : ℕ) → r < n → w < n → (l : List Update) → map (λ k. updateFrom (getD l k noUpdate)) (placesFrom n w n r) ≡ map (λ j. updateFrom (getD l ((r + j) % n) noUpdate)) (countUp 0 (along n r w))

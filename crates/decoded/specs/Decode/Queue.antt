@@ -6,11 +6,11 @@ use mathlib.Core.List.{List, [], _∷_, map}
 use native.Mathlib.Omega.{arith}
 use native.Mathlib.Nat.{mod-lt}
 use lib.ListN.{length, getD, getElem?}
+use Rattle.base.specs.Rounds.{along-at}
 use Rattle.model.specs.Lists.{countUp}
 use Rattle.model.specs.State.{Update, permission, cleanup, Queue}
 use Rattle.tables.specs.Tables.{noUpdate}
 use Rattle.decoded.specs.Rows.{getD-up}
-use Rattle.decoded.specs.Queue.Round.{along-at}
 use Rattle.decoded.specs.Tables.{updateFor, placeFor, ringFor}
 use Rattle.decoded.specs.Decode.Read.{updateFrom, queueFrom}
 use Rattle.decoded.specs.Decode.Walks.{map-up}
@@ -25,22 +25,22 @@ elem-at [] j d h = absurd (omega arith)
 elem-at (x ∷ l) zero d h = refl
 elem-at (x ∷ l) (suc j) d h = elem-at l j d (omega arith)
 
-module _ (n : ℕ) (q : Queue) (read : q .first < n + 1) (fits : length (q .items) < n + 1) where
-  item-read : (j : ℕ) → j < length (q .items) → (d : Update) → updateFrom (getD (ringFor n q) ((q .first + j) % (n + 1)) noUpdate) ≡ getD (q .items) j d
+module _ (n : ℕ) (q : Queue) (read : q .readPlace < n + 1) (fits : length (q .items) < n + 1) where
+  item-read : (j : ℕ) → j < length (q .items) → (d : Update) → updateFrom (getD (ringFor n q) ((q .readPlace + j) % (n + 1)) noUpdate) ≡ getD (q .items) j d
   unfolding ringFor
   item-read j h d =
-      ap updateFrom (getD-up (placeFor n q) (n + 1) ((q .first + j) % (n + 1)) noUpdate (mod-lt (q .first + j) {m = n + 1} (omega arith)))
-      ∙ ap (λ k. updateFrom (updateFor (getElem? (q .items) k))) (along-at (n + 1) (q .first) read j (omega arith))
+      ap updateFrom (getD-up (placeFor n q) (n + 1) ((q .readPlace + j) % (n + 1)) noUpdate (mod-lt (q .readPlace + j) {m = n + 1} (omega arith)))
+      ∙ ap (λ k. updateFrom (updateFor (getElem? (q .items) k))) (along-at (n + 1) (q .readPlace) read j (omega arith))
       ∙ ap (λ o. updateFrom (updateFor o)) (elem-at (q .items) j d h)
       ∙ update-read (getD (q .items) j d)
 
-  pub queue-read : queueFrom (n + 1) (q .first) ((q .first + length (q .items)) % (n + 1)) (ringFor n q) ≡ q
+  pub queue-read : queueFrom (n + 1) (q .readPlace) ((q .readPlace + length (q .items)) % (n + 1)) (ringFor n q) ≡ q
   unfolding queueFrom
   queue-read =
-      let f : ℕ → Update = λ j. updateFrom (getD (ringFor n q) ((q .first + j) % (n + 1)) noUpdate) in
-      let w = (q .first + length (q .items)) % (n + 1) in
+      let f : ℕ → Update = λ j. updateFrom (getD (ringFor n q) ((q .readPlace + j) % (n + 1)) noUpdate) in
+      let w = (q .readPlace + length (q .items)) % (n + 1) in
       let items =
-      items-are (n + 1) (q .first) w read (mod-lt (q .first + length (q .items)) {m = n + 1} (omega arith)) (ringFor n q)
-      ∙ ap (λ k. map f (countUp 0 k)) (along-at (n + 1) (q .first) read (length (q .items)) fits)
+      items-are (n + 1) (q .readPlace) w read (mod-lt (q .readPlace + length (q .items)) {m = n + 1} (omega arith)) (ringFor n q)
+      ∙ ap (λ k. map f (countUp 0 k)) (along-at (n + 1) (q .readPlace) read (length (q .items)) fits)
       ∙ map-up f (q .items) item-read in
-      λ i. record { first = q .first; items = items i }
+      λ i. record { readPlace = q .readPlace; items = items i }

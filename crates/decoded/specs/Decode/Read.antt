@@ -1,14 +1,15 @@
 -- Structured tables read as a state of the model. The reading is total: lists are walked for no more steps than there are slots, and what no
--- table of a state has is read as something. Whether the tables have the words of the state that is read is another question: see Settled.
+-- table of a state has is read as something. Whether the tables have the words of the state that is read is another question: see Canonical.
 use Prim.Native.Nat.{ℕ, zero, suc, _+_, _-_, _%_}
 use mathlib.Core.Bool.{Bool}
 use mathlib.Core.Option.{Option, none, some}
 use mathlib.Core.List.{List, [], _∷_, map}
 use lib.Dec.{eqb}
 use lib.ListN.{getD}
-use Rattle.model.specs.Lists.{if_then_else_, countUp}
+use Rattle.model.specs.Lists.{countUp, if_then_else_}
 use Rattle.model.specs.State as state
 use Rattle.model.specs.State.{State, Pool, Capa, noCapa, region, regionRevoke, management, channel, LocalList, Record, Kind, Root, Alias, Carve, Queue, permission, cleanup}
+use Rattle.laws.specs.Words.SameTables.{unlink}
 use Rattle.sizes.specs.declared.Sizes.{Sizes}
 use Rattle.tables.specs.declared.Handle.{Handle}
 use Rattle.tables.specs.declared.Slot.{Slot}
@@ -36,11 +37,6 @@ abbrev pub linked : ℕ → Option ℕ
 linked zero = none
 linked (suc i) = some i
 
--- the same where there is one; 0 for none
-abbrev pub unlink : ℕ → ℕ
-unlink zero = 0
-unlink (suc i) = i
-
 -- ---- pools
 
 -- the free slot after a slot
@@ -65,7 +61,7 @@ tableFrom n a f = map (λ i. if taken a i then some (f i) else none) (countUp 0 
 -- ---- capability lists
 
 abbrev pub handleFrom : Handle → state.Handle
-handleFrom h = record { slot = h .slot; gen = h .generation }
+handleFrom h = record { slot = h .slot; generation = h .generation }
 
 -- what a slot holds, by its kind; a kind above CHANNEL is none that a list has
 abbrev pub capaFrom : ℕ → Handle → Option Capa
@@ -135,7 +131,7 @@ regionsFrom v = tableFrom (v .sizes .regions) (v .regionPool) (λ i. regionFrom 
 
 -- by the kind word; only permissions and cleanups stand in a queue
 abbrev pub updateFrom : Update → state.Update
-updateFrom u = if eqb (u .kind) PERMISSION then permission (record { slot = u .a; gen = u .b }) (u .c) else cleanup (u .a) (u .b)
+updateFrom u = if eqb (u .kind) PERMISSION then permission (record { slot = u .a; generation = u .b }) (u .c) else cleanup (u .a) (u .b)
 
 -- from place p of n up to place w, going round, at most k places
 abbrev pub placesFrom : ℕ → ℕ → ℕ → ℕ → List ℕ
@@ -144,7 +140,7 @@ placesFrom n w (suc k) p = if eqb p w then [] else p ∷ placesFrom n w k ((p + 
 
 -- n places; the queue goes from place r up to place w
 unfoldable pub queueFrom : ℕ → ℕ → ℕ → List Update → Queue
-queueFrom n r w l = record { first = r; items = map (λ k. updateFrom (getD l k noUpdate)) (placesFrom n w n r) }
+queueFrom n r w l = record { readPlace = r; items = map (λ k. updateFrom (getD l k noUpdate)) (placesFrom n w n r) }
 
 -- ---- the whole
 

@@ -8,16 +8,17 @@ use native.Mathlib.Omega.{arith}
 use native.Mathlib.Decide.{ℕ-discrete}
 use lib.Dec.{eqb}
 use lib.ListN.{length, getD}
-use Rattle.model.specs.Lists.{oneIf, count, slotOf, In, firstOf, afterIn}
+use borrow.Author.Tests.{ne-eqb}
+use Rattle.base.specs.Cases.{lt, ge, cmp}
+use Rattle.model.specs.Lists.{oneIf, countIf, atSlot, In, firstOf, afterIn}
 use Rattle.model.specs.State as state
 use Rattle.model.specs.State.{Kind, Root, Alias, Carve, parentOf}
 use Rattle.model.specs.Layout.{link, kindWord}
-use Rattle.laws.specs.Cases.{lt, ge, cmp, eqb-f}
 use Rattle.laws.specs.Stack.{one-at-most}
 use Rattle.laws.specs.Tree.Slots.{in-length, live-is, each-in}
 use Rattle.laws.specs.Tree.Shares.{child}
 use Rattle.laws.specs.Tree.Facts.{Regions, child-le, has-parent, listing, own}
-use Rattle.laws.specs.Tree.Shape.{kids-at}
+use Rattle.laws.specs.Tree.Shape.{child-slots-at}
 use Rattle.laws.specs.Test.Paths.{no-longer}
 use Rattle.tables.specs.declared.RegionCapa.{RegionCapa}
 use Rattle.tables.specs.Tables.{noRegion}
@@ -34,17 +35,17 @@ kind-read (Carve p) = refl
 -- ---- child lists
 
 module _ (rs : List (Option state.Region)) (s : Regions rs) (p : ℕ) (g : state.Region) (at : In rs p g) where
-  pub child-once : (c : ℕ) → count (eqb c) (g .children) ≤ 1
-  child-once c = omega (arith, listing rs s p g at c, child-le (slotOf rs c) p)
+  pub child-once : (c : ℕ) → countIf (eqb c) (g .children) ≤ 1
+  child-once c = omega (arith, listing rs s p g at c, child-le (atSlot rs c) p)
 
   -- a child, with what it is
-  pub member : (c : ℕ) → 0 < count (eqb c) (g .children) → (x : state.Region) × In rs c x × (parentOf (x .kind) ≡ some p)
+  pub member : (c : ℕ) → 0 < countIf (eqb c) (g .children) → (x : state.Region) × In rs c x × (parentOf (x .kind) ≡ some p)
   member c h =
-      let l = live-is (slotOf rs c) (each-in _ (g .children) (s p g at .childrenLive) c h) in
+      let l = live-is (atSlot rs c) (each-in _ (g .children) (s p g at .childrenLive) c h) in
       (l .0, l .1, has-parent (l .0 .kind) p (omega (arith, listing rs s p g at c, ap (λ o. child o p) (l .1))))
 
-  none-beyond : (c : ℕ) → length rs ≤ c → count (eqb c) (g .children) ≡ 0
-  none-beyond c b = elim (cmp 0 (count (eqb c) (g .children))) [
+  none-beyond : (c : ℕ) → length rs ≤ c → countIf (eqb c) (g .children) ≡ 0
+  none-beyond c b = elim (cmp 0 (countIf (eqb c) (g .children))) [
     | lt h ↦ let m = member c h in absurd (omega (arith, in-length rs c (m .0) (m .1)))
     | ge h ↦ omega arith
   ]
@@ -53,16 +54,16 @@ module _ (rs : List (Option state.Region)) (s : Regions rs) (p : ℕ) (g : state
   pub children-few : length (g .children) < length rs
   children-few = no-longer (length rs) (p ∷ g .children) beyond once
     where
-      itself : count (eqb p) (g .children) ≡ 0
+      itself : countIf (eqb p) (g .children) ≡ 0
       itself = listing rs s p g at p ∙ ap (λ o. child o p) at ∙ own rs s p g at
 
-      beyond : (c : ℕ) → length rs ≤ c → count (eqb c) (p ∷ g .children) ≡ 0
-      beyond c b = omega (arith, none-beyond c b, ap oneIf (eqb-f c p (λ e. omega (arith, in-length rs p g at))))
+      beyond : (c : ℕ) → length rs ≤ c → countIf (eqb c) (p ∷ g .children) ≡ 0
+      beyond c b = omega (arith, none-beyond c b, ap oneIf (ne-eqb c p (λ e. omega (arith, in-length rs p g at))))
 
-      once : (c : ℕ) → count (eqb c) (p ∷ g .children) ≤ 1
+      once : (c : ℕ) → countIf (eqb c) (p ∷ g .children) ≤ 1
       once c = elim (ℕ-discrete c p) [
-        | yes e ↦ omega (arith, itself, ap (λ k. count (eqb k) (g .children)) e, one-at-most (eqb c p))
-        | no ne ↦ omega (arith, child-once c, ap oneIf (eqb-f c p ne))
+        | yes e ↦ omega (arith, itself, ap (λ k. countIf (eqb k) (g .children)) e, one-at-most (eqb c p))
+        | no ne ↦ omega (arith, child-once c, ap oneIf (ne-eqb c p ne))
       ]
 
 -- ---- n regions, with these rows
@@ -70,11 +71,11 @@ module _ (rs : List (Option state.Region)) (s : Regions rs) (p : ℕ) (g : state
 module _ (n : ℕ) (rs : List (Option state.Region)) (long : length rs ≡ n) (s : Regions rs) (rows : List RegionCapa)
     (row : (i : ℕ) (g : state.Region) → In rs i g → getD rows i noRegion ≡ regionFor rs i (some g))
     (p : ℕ) (g : state.Region) (at : In rs p g) where
-  next : (c : ℕ) → 0 < count (eqb c) (g .children) → getD rows c noRegion .next ≡ link (afterIn (g .children) c)
+  next : (c : ℕ) → 0 < countIf (eqb c) (g .children) → getD rows c noRegion .next ≡ link (afterIn (g .children) c)
   next c h =
       let m = member rs s p g at c h in
       ap (λ (r : RegionCapa). r .next) (row c (m .0) (m .1))
-      ∙ ap (λ l. link (afterIn l c)) (sibling-list rs (m .0 .kind) p (m .2) ∙ kids-at rs p g at)
+      ∙ ap (λ l. link (afterIn l c)) (sibling-list rs (m .0 .kind) p (m .2) ∙ child-slots-at rs p g at)
 
   children-read : childrenFrom n rows (link (firstOf (g .children))) ≡ g .children
   children-read =

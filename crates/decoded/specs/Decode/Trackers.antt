@@ -5,14 +5,13 @@ use Prim.Native.Nat.{ℕ, zero, suc, _+_, _≤_, _<_}
 use mathlib.Core.Option.{Option}
 use mathlib.Core.List.{List, [], _∷_, _++_, map}
 use native.Mathlib.Omega.{arith}
-use lib.Dec.{eqb}
 use lib.ListN.{length, length-map}
 use lib.Seq.{append-snoc}
-use Rattle.model.specs.Lists.{count, In}
+use Rattle.model.specs.Lists.{In}
 use Rattle.model.specs.State.{Record, Domain}
 use Rattle.model.specs.Layout.{link}
 use Rattle.model.specs.Sound.{recordUses}
-use Rattle.laws.specs.Words.SameTrackers.{uses, firstSlot, owned}
+use Rattle.laws.specs.Words.SameTrackers.{uses, firstSlot, owned, slots-uses}
 use Rattle.laws.specs.Tracker.Pools.{uses-append}
 use Rattle.laws.specs.Stack.{one}
 use Rattle.laws.specs.Test.Paths.{no-longer}
@@ -34,10 +33,6 @@ tracker-walked f (suc n) (q ∷ l) b h =
     let e = ap (recordFrom (q .slot)) (h .0) in
     let t = ap (λ k. map (λ i. recordFrom i (f i)) (chainFrom (λ i. f i .next) n k)) (ap (λ (r : Region). r .next) (h .0)) ∙ tracker-walked f n l (omega arith) (h .1) in
     λ i. e i ∷ t i
-
-slots-uses : (k : ℕ) (l : List Record) → count (eqb k) (map (λ (q : Record). q .slot) l) ≡ uses k l
-slots-uses k [] = refl
-slots-uses k (q ∷ l) = omega (arith, slots-uses k l)
 
 module _ (ds : List (Option Domain)) (d : ℕ) (x : Domain) (at : In ds d x) (once : (i : ℕ) → recordUses ds i ≤ 1) where
   pub tracker-fits : (n : ℕ) → ((i : ℕ) → n ≤ i → recordUses ds i ≡ 0) → length (x .tracker) ≤ n

@@ -5,7 +5,7 @@ use mathlib.Core.List.{List, [], _∷_, map}
 use native.Mathlib.Omega.{arith}
 use lib.Dec.{eqb}
 use lib.ListN.{length, getD}
-use Rattle.model.specs.Lists.{count, countUp, firstOf, afterIn}
+use Rattle.model.specs.Lists.{countIf, countUp, firstOf, afterIn}
 use Rattle.model.specs.Layout.{link, slotOr0}
 use Rattle.laws.specs.Stack.{one}
 use Rattle.decoded.specs.Links.{after-top, after-under}
@@ -22,7 +22,7 @@ stack-walked f [] h = refl
 stack-walked f (i ∷ l) h = ap (λ m. i ∷ m) (ap (stackFrom f (length l)) (h .0) ∙ stack-walked f l (h .1))
 
 -- without repeats the slot after a slot is the next one
-pub stacked-after : (f : ℕ → ℕ) (l : List ℕ) → ((i : ℕ) → count (eqb i) l ≤ 1) → ((i : ℕ) → 0 < count (eqb i) l → f i ≡ slotOr0 (afterIn l i)) → Stacked f l
+pub stacked-after : (f : ℕ → ℕ) (l : List ℕ) → ((i : ℕ) → countIf (eqb i) l ≤ 1) → ((i : ℕ) → 0 < countIf (eqb i) l → f i ≡ slotOr0 (afterIn l i)) → Stacked f l
 stacked-after f [] o h = tt
 stacked-after f (i ∷ l) o h = (
   h i (omega (arith, one i i refl)) ∙ ap slotOr0 (after-top i l),
@@ -44,7 +44,7 @@ chain-walked f n [] b h = chain-none f n
 chain-walked f zero (i ∷ l) b h = absurd (omega arith)
 chain-walked f (suc n) (i ∷ l) b h = ap (λ m. i ∷ m) (ap (chainFrom f n) (h .0) ∙ chain-walked f n l (omega arith) (h .1))
 
-pub chained-after : (f : ℕ → ℕ) (l : List ℕ) → ((i : ℕ) → count (eqb i) l ≤ 1) → ((i : ℕ) → 0 < count (eqb i) l → f i ≡ link (afterIn l i)) → Chained f l
+pub chained-after : (f : ℕ → ℕ) (l : List ℕ) → ((i : ℕ) → countIf (eqb i) l ≤ 1) → ((i : ℕ) → 0 < countIf (eqb i) l → f i ≡ link (afterIn l i)) → Chained f l
 chained-after f [] o h = tt
 chained-after f (i ∷ l) o h = (
   h i (omega (arith, one i i refl)) ∙ ap link (after-top i l),
@@ -64,11 +64,6 @@ map-from f k (x ∷ l) h =
 -- a list from its elements
 pub map-up : {A : Type 0} (f : ℕ → A) (l : List A) → ((i : ℕ) → i < length l → (d : A) → f i ≡ getD l i d) → map f (countUp 0 (length l)) ≡ l
 map-up f l h = map-from f 0 l (λ i b d. let z : 0 + i ≡ i = omega arith in ap f z ∙ h i b d)
-
-pub getD-any : {A : Type 0} (l : List A) (i : ℕ) (d e : A) → i < length l → getD l i d ≡ getD l i e
-getD-any [] i d e b = absurd (omega arith)
-getD-any (x ∷ l) zero d e b = refl
-getD-any (x ∷ l) (suc i) d e b = getD-any l i d e (omega arith)
 
 pub map-map : {A B C : Type 0} (g : B → C) (f : A → B) (l : List A) → map g (map f l) ≡ map (λ x. g (f x)) l
 map-map g f [] = refl

@@ -7,10 +7,11 @@ use mathlib.Core.List.{List, [], _∷_, _++_}
 use native.Mathlib.Omega.{arith}
 use lib.Dec.{eqb}
 use lib.ListN.{set}
-use Rattle.model.specs.Lists.{In, slotOf}
+use borrow.Author.Tests.{eq-eqb, ne-eqb}
+use Rattle.base.specs.Cases.{holds, fails, test}
+use Rattle.model.specs.Lists.{In, atSlot}
 use Rattle.model.specs.State.{Record, Domain}
 use Rattle.model.specs.Sound.{recordUses}
-use Rattle.laws.specs.Cases.{eqb-t, eqb-f, holds, fails, test}
 use Rattle.laws.specs.Stack.{one}
 use Rattle.laws.specs.Words.SameTrackers.{uses, firstSlot}
 use Rattle.laws.specs.Tracker.Pools.{uses-append}
@@ -35,10 +36,10 @@ here i (q ∷ l) r h = elim (test (eqb i (q .slot))) [
 ]
 
 pub row-first : (q : Record) (l : List Record) (r : Region) → inTrackerFor (q .slot) (q ∷ l) r ≡ recordFor q (firstSlot l)
-row-first q l r = rw (eqb-t (q .slot) (q .slot) refl)
+row-first q l r = rw (eq-eqb (q .slot) (q .slot) refl)
 
 pub row-later : (i : ℕ) (q : Record) (l : List Record) (r : Region) → i ≢ q .slot → inTrackerFor i (q ∷ l) r ≡ inTrackerFor i l r
-row-later i q l r h = rw (eqb-f i (q .slot) h)
+row-later i q l r h = rw (ne-eqb i (q .slot) h)
 
 -- behind records with other slots
 pub row-behind : (i : ℕ) (b l : List Record) (r : Region) → uses i b ≡ 0 → inTrackerFor i (b ++ l) r ≡ inTrackerFor i l r
@@ -80,9 +81,6 @@ owned [] d x e i = let z : _≡_ {A = ℕ} 0 1 = cc in absurd (omega arith)
 owned (y ∷ ds) zero x e i = subst (λ w. Owned (w ∷ ds) x i) (sym e) (owned-first ds x i)
 owned (y ∷ ds) (suc d) x e i = owned-later y ds x i (owned ds d x e i)
 
-pub record-owned : (ds : List (Option Domain)) (d : ℕ) (x : Domain) → In ds d x → (i : ℕ) → recordUses ds i ≤ 1 → 0 < uses i (x .tracker) → recordIn ds i ≡ inTrackerFor i (x .tracker) noRecord
-record-owned ds d x e i h u = owned ds d x e i .1 h u
-
 -- the record in slot i, where it stands in the tracker of domain x
 pub record-read : (ds : List (Option Domain)) (d : ℕ) (x : Domain) → In ds d x → (b a : List Record) (q : Record) → x .tracker ≡ b ++ q ∷ a → recordUses ds (q .slot) ≤ 1 → recordIn ds (q .slot) ≡ recordFor q (firstSlot a)
 record-read ds d x e b a q l h =
@@ -104,7 +102,7 @@ record-next none ds i = refl
 record-next (some x) ds i = refl
 
 -- the row of slot i is kept where this one tracker keeps it
-pub record-same : (ds : List (Option Domain)) (d : ℕ) (o : Option Domain) (i : ℕ) → ((r : Region) → inTrackerFor i (trackerOf o) r ≡ inTrackerFor i (trackerOf (slotOf ds d)) r) → recordIn (set ds d o) i ≡ recordIn ds i
+pub record-same : (ds : List (Option Domain)) (d : ℕ) (o : Option Domain) (i : ℕ) → ((r : Region) → inTrackerFor i (trackerOf o) r ≡ inTrackerFor i (trackerOf (atSlot ds d)) r) → recordIn (set ds d o) i ≡ recordIn ds i
 record-same [] d o i e = refl
 record-same (x ∷ ds) zero o i e = record-next o ds i ∙ e (recordIn ds i) ∙ sym (record-next x ds i)
 record-same (x ∷ ds) (suc d) o i e = record-next x (set ds d o) i ∙ ap (inTrackerFor i (trackerOf x)) (record-same ds d o i e) ∙ sym (record-next x ds i)

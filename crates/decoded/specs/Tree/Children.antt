@@ -9,13 +9,13 @@ use native.Mathlib.Decide.{ℕ-discrete}
 use lib.Dec.{eqb}
 use lib.ListN.{length, set}
 use lib.Seq.{getD-set-same, getD-set-other}
-use Rattle.model.specs.Lists.{count, slotOf, In, firstOf, afterIn}
+use Rattle.model.specs.Lists.{countIf, atSlot, In, firstOf, afterIn}
 use Rattle.model.specs.State as state
 use Rattle.model.specs.State.{State, Kind, Root, Alias, Carve, parentOf, regionIn, withChildren, putRegion}
 use Rattle.model.specs.Layout.{link, siblings}
-use Rattle.laws.specs.Words.SameTables.{in-below}
+use Rattle.laws.specs.Tree.Slots.{in-length}
 use Rattle.tables.specs.declared.RegionCapa.{RegionCapa}
-use Rattle.tables.specs.Tables.{withRegions, withRegion}
+use Rattle.tables.specs.Tables.{withRegions, withRegion, withNext, withChild}
 use Rattle.decoded.specs.Rows.{set-two}
 use Rattle.decoded.specs.Links.{after-top, after-under, after-out, after-behind, first-before, after-before}
 use Rattle.decoded.specs.Tree.Regions.{childrenIn}
@@ -23,15 +23,9 @@ use Rattle.decoded.specs.Tables.{regionFor, regionsFor, tablesOf}
 
 -- ---- rows
 
-abbrev pub withNext : RegionCapa → ℕ → RegionCapa
-withNext r k = record { kind = r .kind; owner = r .owner; parent = r .parent; start = r .start; end = r .end; rights = r .rights; child = r .child; next = k }
-
-abbrev pub withChild : RegionCapa → ℕ → RegionCapa
-withChild r k = record { kind = r .kind; owner = r .owner; parent = r .parent; start = r .start; end = r .end; rights = r .rights; child = k; next = r .next }
-
 -- the row of a slot
 abbrev pub rowIn : List (Option state.Region) → ℕ → RegionCapa
-rowIn rs j = regionFor rs j (slotOf rs j)
+rowIn rs j = regionFor rs j (atSlot rs j)
 
 -- the regions where region g, in slot p, has the child list cs
 abbrev pub regionsWith : List (Option state.Region) → ℕ → state.Region → List ℕ → List (Option state.Region)
@@ -42,7 +36,7 @@ sibling-list rs k p h = ap (λ (o : Option ℕ). elim o [ none ↦ [] | some m �
 
 module _ (rs : List (Option state.Region)) (p : ℕ) (g : state.Region) (at : In rs p g) (cs : List ℕ) where
   own-list : regionIn (regionsWith rs p g cs) p .children ≡ cs
-  own-list = ap childrenIn (getD-set-same rs p (some (withChildren cs g)) none (in-below rs p g at))
+  own-list = ap childrenIn (getD-set-same rs p (some (withChildren cs g)) none (in-length rs p g at))
 
   list-kept : (m : ℕ) → m ≢ p → regionIn (regionsWith rs p g cs) m .children ≡ regionIn rs m .children
   list-kept m ne = ap childrenIn (getD-set-other rs p m (some (withChildren cs g)) none ne)
@@ -64,11 +58,11 @@ module _ (rs : List (Option state.Region)) (p : ℕ) (g : state.Region) (at : In
   row-kept j (some x) h = ap (λ a. withNext (regionFor rs j (some x)) (link a)) (after-kept (x .kind) j h)
 
   other-row : (j : ℕ) → j ≢ p → afterIn cs j ≡ afterIn (g .children) j → rowIn (regionsWith rs p g cs) j ≡ rowIn rs j
-  other-row j ne h = ap (regionFor (regionsWith rs p g cs) j) (getD-set-other rs p j (some (withChildren cs g)) none ne) ∙ row-kept j (slotOf rs j) h
+  other-row j ne h = ap (regionFor (regionsWith rs p g cs) j) (getD-set-other rs p j (some (withChildren cs g)) none ne) ∙ row-kept j (atSlot rs j) h
 
   own-row : afterIn cs p ≡ afterIn (g .children) p → rowIn (regionsWith rs p g cs) p ≡ withChild (rowIn rs p) (link (firstOf cs))
   own-row h =
-      ap (regionFor (regionsWith rs p g cs) p) (getD-set-same rs p (some (withChildren cs g)) none (in-below rs p g at))
+      ap (regionFor (regionsWith rs p g cs) p) (getD-set-same rs p (some (withChildren cs g)) none (in-length rs p g at))
       ∙ row-kept p (some (withChildren cs g)) h
       ∙ ap (λ o. withChild (regionFor rs p o) (link (firstOf cs))) (sym at)
 
@@ -101,7 +95,7 @@ module _ (rs : List (Option state.Region)) (p : ℕ) (g : state.Region) (at : In
 
 module _ (s : State) (long : length (s .regions) ≡ s .sizes .regions) (p : ℕ) (g : state.Region) (at : In (s .regions) p g) where
   below : (j : ℕ) (x : state.Region) → In (s .regions) j x → j < s .sizes .regions
-  below j x e = omega (arith, in-below (s .regions) j x e, long)
+  below j x e = omega (arith, in-length (s .regions) j x e, long)
 
   -- the new list is cs
   put : (cs : List ℕ) (i j : ℕ) (x y : RegionCapa) → regionsFor (s .sizes .regions) (regionsWith (s .regions) p g cs) ≡ set (set (regionsFor (s .sizes .regions) (s .regions)) j y) i x
@@ -115,7 +109,7 @@ module _ (s : State) (long : length (s .regions) ≡ s .sizes .regions) (p : ℕ
     next-row cs o e = child-row (s .regions) p g at cs i x ni ei hi ∙ ap (λ f. withNext (rowIn (s .regions) i) (link f)) e
 
     -- so is c, where i stands behind it
-    module _ (c : ℕ) (y : state.Region) (ec : In (s .regions) c y) (hc : parentOf (y .kind) ≡ some p) (nc : c ≢ p) (b a : List ℕ) (oc : count (eqb c) b ≡ 0) (oi : count (eqb i) b ≡ 0) (ne : i ≢ c) where
+    module _ (c : ℕ) (y : state.Region) (ec : In (s .regions) c y) (hc : parentOf (y .kind) ≡ some p) (nc : c ≢ p) (b a : List ℕ) (oc : countIf (eqb c) b ≡ 0) (oi : countIf (eqb i) b ≡ 0) (ne : i ≢ c) where
       next-row-of : (cs : List ℕ) (o : Option ℕ) → afterIn cs c ≡ o → rowIn (regionsWith (s .regions) p g cs) c ≡ withNext (rowIn (s .regions) c) (link o)
       next-row-of cs o e = child-row (s .regions) p g at cs c y nc ec hc ∙ ap (λ f. withNext (rowIn (s .regions) c) (link f)) e
 
@@ -132,7 +126,7 @@ module _ (s : State) (long : length (s .regions) ≡ s .sizes .regions) (p : ℕ
           (next-row cs (firstOf a) (after-behind i b (c ∷ i ∷ a) oi ∙ after-under c i (i ∷ a) ne ∙ after-top i a))
           (rows-kept (s .regions) p g at cs c i nc ni (first-before b (c ∷ i ∷ a) (c ∷ a) refl ∙ ap firstOf (sym e)) (λ k nk mk. same-after k nk mk ∙ ap (λ l. afterIn l k) (sym e))))
 
-      pub child-removed : g .children ≡ b ++ c ∷ i ∷ a → count (eqb i) a ≡ 0
+      pub child-removed : g .children ≡ b ++ c ∷ i ∷ a → countIf (eqb i) a ≡ 0
           → tablesOf (putRegion p (withChildren (b ++ c ∷ a) g) s) ≡ withRegion (withRegion (tablesOf s) i (withNext (rowIn (s .regions) i) 0)) c (withNext (rowIn (s .regions) c) (link (firstOf a)))
       child-removed e oa =
           let cs = b ++ c ∷ a in
@@ -153,7 +147,7 @@ module _ (s : State) (long : length (s .regions) ≡ s .sizes .regions) (p : ℕ
           (next-row (i ∷ a) (firstOf a) (after-top i a))
           (λ k nk mk. other-row (s .regions) p g at (i ∷ a) k nk (same k mk)))
 
-      pub first-removed : g .children ≡ i ∷ a → count (eqb i) a ≡ 0 → tablesOf (putRegion p (withChildren a g) s) ≡ withRegion (withRegion (tablesOf s) i (withNext (rowIn (s .regions) i) 0)) p (withChild (rowIn (s .regions) p) (link (firstOf a)))
+      pub first-removed : g .children ≡ i ∷ a → countIf (eqb i) a ≡ 0 → tablesOf (putRegion p (withChildren a g) s) ≡ withRegion (withRegion (tablesOf s) i (withNext (rowIn (s .regions) i) 0)) p (withChild (rowIn (s .regions) p) (link (firstOf a)))
       first-removed e oi =
           let same : (k : ℕ) → k ≢ i → afterIn a k ≡ afterIn (g .children) k = λ k nk. sym (ap (λ l. afterIn l k) e ∙ after-under i k a nk) in
           put a p i _ _

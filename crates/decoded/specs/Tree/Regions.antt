@@ -1,27 +1,27 @@
 -- A region read and put back: where its child list is the same only its own row changes.
 use mathlib.Core.Path.{_≡_, refl, sym, ap, _∙_}
 use Prim.Native.Nat.{ℕ, _<_}
-use mathlib.Core.Option.{Option, none, some}
+use mathlib.Core.Option.{Option, none, some, Option·getD}
 use mathlib.Core.List.{List}
 use native.Mathlib.Omega.{arith}
 use native.Mathlib.Decide.{ℕ-discrete}
 use lib.ListN.{length, set}
 use lib.Seq.{getD-set-same, getD-set-other, set-out}
-use Rattle.model.specs.Lists.{orElse, slotOf, In}
+use Rattle.base.specs.Cases.{lt, ge, cmp}
+use Rattle.model.specs.Lists.{atSlot, In}
 use Rattle.model.specs.State as state
 use Rattle.model.specs.State.{State, Kind, Root, Alias, Carve, noneRegion, regionIn, withOwner, putRegion}
 use Rattle.model.specs.Layout.{siblings}
-use Rattle.laws.specs.Cases.{lt, ge, cmp}
-use Rattle.laws.specs.Words.SameTables.{in-below}
+use Rattle.laws.specs.Tree.Slots.{in-length}
 use Rattle.tables.specs.Tables.{noRegion, regionAt, withRegionPool, withRegions, withRegion}
 use Rattle.decoded.specs.Rows.{getD-up, same-up, set-table}
 use Rattle.decoded.specs.Tables.{poolOf, regionFor, regionsFor, tablesOf}
 
 -- the child list in a slot
 abbrev pub childrenIn : Option state.Region → List ℕ
-childrenIn o = orElse o noneRegion .children
+childrenIn o = Option·getD o noneRegion .children
 
-module _ (rs : List (Option state.Region)) (i : ℕ) (o : Option state.Region) (same : childrenIn o ≡ childrenIn (slotOf rs i)) where
+module _ (rs : List (Option state.Region)) (i : ℕ) (o : Option state.Region) (same : childrenIn o ≡ childrenIn (atSlot rs i)) where
   -- every list is as it was
   children-kept : (p : ℕ) → regionIn (set rs i o) p .children ≡ regionIn rs p .children
   children-kept p = elim (ℕ-discrete p i) [
@@ -44,23 +44,23 @@ module _ (rs : List (Option state.Region)) (i : ℕ) (o : Option state.Region) (
   pub regions-set : (n : ℕ) → length rs ≡ n → i < n → regionsFor n (set rs i o) ≡ set (regionsFor n rs) i (regionFor rs i o)
   unfolding regionsFor
   regions-set n e l =
-      same-up (λ j. regionFor (set rs i o) j (slotOf (set rs i o) j)) (λ j. regionFor rs j (slotOf (set rs i o) j)) n (λ j k. region-kept j (slotOf (set rs i o) j))
+      same-up (λ j. regionFor (set rs i o) j (atSlot (set rs i o) j)) (λ j. regionFor rs j (atSlot (set rs i o) j)) n (λ j k. region-kept j (atSlot (set rs i o) j))
       ∙ set-table (regionFor rs) rs n i o e l
 
 module _ (s : State) (long : length (s .regions) ≡ s .sizes .regions) where
   -- also for a region that is made or freed, with another pool
-  pub region-set : (p : state.Pool) (i : ℕ) (o : Option state.Region) → i < s .sizes .regions → childrenIn o ≡ childrenIn (slotOf (s .regions) i)
+  pub region-set : (p : state.Pool) (i : ℕ) (o : Option state.Region) → i < s .sizes .regions → childrenIn o ≡ childrenIn (atSlot (s .regions) i)
       → tablesOf (state.withRegions p (set (s .regions) i o) s) ≡ withRegion (withRegionPool (tablesOf s) (poolOf (s .sizes .regions) p)) i (regionFor (s .regions) i o)
   unfolding tablesOf withRegion withRegions withRegionPool
   region-set p i o l e = ap (withRegions (withRegionPool (tablesOf s) (poolOf (s .sizes .regions) p))) (regions-set (s .regions) i o e (s .sizes .regions) long l)
 
   module _ (i : ℕ) (g : state.Region) (at : In (s .regions) i g) where
     below : i < s .sizes .regions
-    below = omega (arith, in-below (s .regions) i g at, long)
+    below = omega (arith, in-length (s .regions) i g at, long)
 
     pub region-read : regionAt (tablesOf s) i ≡ regionFor (s .regions) i (some g)
     unfolding tablesOf regionAt regionsFor
-    region-read = getD-up (λ j. regionFor (s .regions) j (slotOf (s .regions) j)) (s .sizes .regions) i noRegion below ∙ ap (regionFor (s .regions) i) at
+    region-read = getD-up (λ j. regionFor (s .regions) j (atSlot (s .regions) j)) (s .sizes .regions) i noRegion below ∙ ap (regionFor (s .regions) i) at
 
     pub region-put : (h : state.Region) → h .children ≡ g .children → tablesOf (putRegion i h s) ≡ withRegion (tablesOf s) i (regionFor (s .regions) i (some h))
     unfolding tablesOf withRegion withRegions withRegionPool
@@ -68,7 +68,3 @@ module _ (s : State) (long : length (s .regions) ≡ s .sizes .regions) where
 
     pub owner-put : (d : ℕ) → tablesOf (putRegion i (withOwner d g) s) ≡ withRegion (tablesOf s) i (regionFor (s .regions) i (some (withOwner d g)))
     owner-put d = region-put (withOwner d g) refl
-
-  pub region-free : (i : ℕ) → i < s .sizes .regions → slotOf (s .regions) i ≡ none → regionAt (tablesOf s) i ≡ noRegion
-  unfolding tablesOf regionAt regionsFor
-  region-free i l e = getD-up (λ j. regionFor (s .regions) j (slotOf (s .regions) j)) (s .sizes .regions) i noRegion l ∙ ap (regionFor (s .regions) i) e

@@ -9,7 +9,7 @@ use mathlib.Core.List.{List, _∷_}
 use native.Mathlib.Omega.{arith}
 use lib.Dec.{T}
 use lib.Seq.{getD-set-same}
-use Rattle.model.specs.Lists.{if_then_else_, oneIf, isEmpty, count, In}
+use Rattle.model.specs.Lists.{oneIf, isEmpty, countIf, In, if_then_else_}
 use Rattle.model.specs.Outcome.{ok, _>>=_}
 use Rattle.model.specs.State.{Handle, Capa, noCapa, LocalList, Domain, Region, State, domainAt, putDomain, withLocals}
 use Rattle.model.specs.Pool.{handleOf, isLive}
@@ -19,8 +19,9 @@ use Rattle.laws.specs.Accepted.{All, accepted, bind, checked}
 use Rattle.laws.specs.Tree.Slots.{in-length}
 use Rattle.laws.specs.Capas.List.{written, count-written, free-keeps, write-keeps, Put, insert-keeps, Swept, swept-self, sweep}
 use Rattle.laws.specs.Capas.Live.{handle-live, no-region, no-management}
-use Rattle.laws.specs.Capas.Held.{Shares, Held, OthersSound, domain-at}
+use Rattle.laws.specs.Capas.Held.{Shares, Held, OthersSound}
 use Rattle.laws.specs.Capas.Domain.{live-on, put-others, put-held}
+use Rattle.laws.specs.Tree.Steps.{domain-at}
 
 -- ---- the list of domain x in slot d is l from now on
 
@@ -76,8 +77,8 @@ module _ (own man : Shares) (s : State) (h : Held own man s) (d : ℕ) (x : Doma
 
   -- the list is l from now on, and the slots in it are counted anew
   relist-held : (own′ man′ : Shares) (l : LocalList) → Fits l
-      → ((i : ℕ) (g : Region) → In (s .regions) i g → count (isRegionOf (handleOf (s .regionPool) i)) (l .held) ≡ own′ i d)
-      → ((k : ℕ) (z : Domain) → In (s .domains) k z → count (isManagementOf (handleOf (s .domainPool) k)) (l .held) ≡ man′ k d)
+      → ((i : ℕ) (g : Region) → In (s .regions) i g → countIf (isRegionOf (handleOf (s .regionPool) i)) (l .held) ≡ own′ i d)
+      → ((k : ℕ) (z : Domain) → In (s .domains) k z → countIf (isManagementOf (handleOf (s .domainPool) k)) (l .held) ≡ man′ k d)
       → ((i k : ℕ) → k ≢ d → own i k ≡ own′ i k) → ((i k : ℕ) → k ≢ d → man i k ≡ man′ i k) → Held own′ man′ (relist d x l s)
   relist-held own′ man′ l f a b o m = put-held s d x (withLocals l x) e refl own man own′ man′ h (h .coresWords d x e) f a b o m
 
@@ -92,7 +93,7 @@ module _ (own man : Shares) (s : State) (h : Held own man s) (d : ℕ) (x : Doma
   pub room-held : (t : State) → Room s d x t → Held own man t
   room-held t r = subst (Held own man) (sym (r .is)) (sweep-held (r .list) (r .swept))
 
-  -- ---- a capability comes or goes
+  -- ---- a capability is put in or taken out
 
   module _ (own′ man′ : Shares) where
     put-in : (c : Capa) (i : ℕ) (l : LocalList) → Plus s d c own man own′ man′ → Fits l → Put c (x .locals) i l → Held own′ man′ (relist d x l s)

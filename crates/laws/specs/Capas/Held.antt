@@ -6,12 +6,12 @@ use Prim.Native.Nat.{ℕ}
 use mathlib.Core.Option.{some}
 use lib.Dec.{T, eqb}
 use lib.ListN.{length}
-use Rattle.model.specs.Lists.{oneIf, isSome, count, slotOf, In}
+use Rattle.model.specs.Lists.{oneIf, isSome, countIf, atSlot, In}
 use Rattle.model.specs.State.{Word, Domain, Region, State, domainAt, regionAt}
 use Rattle.model.specs.Pool.{handleOf}
 use Rattle.model.specs.Making.{goodSizes}
-use Rattle.model.specs.Sound.{Sound, PoolSound, RegionSound, ListSound, TrackersSound, QueueSound, Managed, names, inUse, isRegionOf, isManagementOf}
-use Rattle.laws.specs.Tree.Steps.{region-at}
+use Rattle.model.specs.Sound.{Sound, PoolSound, RegionSound, ListSound, TrackersSound, QueueSound, Managed, names, slotUses, isRegionOf, isManagementOf}
+use Rattle.laws.specs.Tree.Steps.{region-at, domain-at}
 
 -- how many slots of a kind, by the slot of what they name and the list
 abbrev pub Shares : Type 0
@@ -21,12 +21,12 @@ pub record Held (own man : Shares) (s : State) : Type 0 where
   pub sizesGood : T (goodSizes (s .sizes))
   pub domainsLength : length (s .domains) ≡ s .sizes .domains
   pub regionsLength : length (s .regions) ≡ s .sizes .regions
-  pub domainPool : PoolSound (s .sizes .domains) (inUse (s .domains)) (s .domainPool)
-  pub regionPool : PoolSound (s .sizes .regions) (inUse (s .regions)) (s .regionPool)
-  pub ownerLive : (i : ℕ) (g : Region) → In (s .regions) i g → T (isSome (slotOf (s .domains) (g .owner)))
-  pub regionSlots : (i : ℕ) (g : Region) → In (s .regions) i g → (d : ℕ) (x : Domain) → In (s .domains) d x → count (isRegionOf (handleOf (s .regionPool) i)) (x .locals .held) ≡ own i d
-  pub managerLive : (e : ℕ) (y : Domain) → In (s .domains) e y → (m : ℕ) → y .manager ≡ some m → T (isSome (slotOf (s .domains) m))
-  pub managementSlots : (e : ℕ) (y : Domain) → In (s .domains) e y → (d : ℕ) (x : Domain) → In (s .domains) d x → count (isManagementOf (handleOf (s .domainPool) e)) (x .locals .held) ≡ man e d
+  pub domainPool : PoolSound (s .sizes .domains) (slotUses (s .domains)) (s .domainPool)
+  pub regionPool : PoolSound (s .sizes .regions) (slotUses (s .regions)) (s .regionPool)
+  pub ownerLive : (i : ℕ) (g : Region) → In (s .regions) i g → T (isSome (atSlot (s .domains) (g .owner)))
+  pub regionSlots : (i : ℕ) (g : Region) → In (s .regions) i g → (d : ℕ) (x : Domain) → In (s .domains) d x → countIf (isRegionOf (handleOf (s .regionPool) i)) (x .locals .held) ≡ own i d
+  pub managerLive : (e : ℕ) (y : Domain) → In (s .domains) e y → (m : ℕ) → y .manager ≡ some m → T (isSome (atSlot (s .domains) m))
+  pub managementSlots : (e : ℕ) (y : Domain) → In (s .domains) e y → (d : ℕ) (x : Domain) → In (s .domains) d x → countIf (isManagementOf (handleOf (s .domainPool) e)) (x .locals .held) ≡ man e d
   pub managed : (d : ℕ) (x : Domain) → In (s .domains) d x → Managed (s .domains) d
   pub lists : (d : ℕ) (x : Domain) → In (s .domains) d x → ListSound (s .sizes .slots) (s .regionPool) (s .regions) (s .domainPool) (s .domains) (x .locals)
   pub coresWords : (d : ℕ) (x : Domain) → In (s .domains) d x → Word (x .cores)
@@ -46,9 +46,6 @@ CapasSound s = Held (ownedBy s) (managedBy s) s
 pub record OthersSound (s : State) : Type 0 where
   pub regions : (i : ℕ) (g : Region) → In (s .regions) i g → RegionSound (s .regions) i g
   pub tracked : TrackersSound s
-
-pub domain-at : (s : State) (d : ℕ) (x : Domain) → In (s .domains) d x → domainAt s d ≡ x
-domain-at s d x e = rw e
 
 -- ---- Sound is both
 
@@ -97,6 +94,6 @@ sound-of s h k = record {
 -- the same slots, told otherwise
 pub held-as : (own own′ man man′ : Shares) (s : State) → ((i : ℕ) (g : Region) → In (s .regions) i g → (d : ℕ) → own i d ≡ own′ i d) → ((e : ℕ) (y : Domain) → In (s .domains) e y → (d : ℕ) → man e d ≡ man′ e d) → Held own man s → Held own′ man′ s
 held-as own own′ man man′ s o m h =
-    let r : (i : ℕ) (g : Region) → In (s .regions) i g → (d : ℕ) (x : Domain) → In (s .domains) d x → count (isRegionOf (handleOf (s .regionPool) i)) (x .locals .held) ≡ own′ i d = λ i g e d x f. h .regionSlots i g e d x f ∙ o i g e d in
-    let n : (e : ℕ) (y : Domain) → In (s .domains) e y → (d : ℕ) (x : Domain) → In (s .domains) d x → count (isManagementOf (handleOf (s .domainPool) e)) (x .locals .held) ≡ man′ e d = λ e y f d x k. h .managementSlots e y f d x k ∙ m e y f d in
+    let r : (i : ℕ) (g : Region) → In (s .regions) i g → (d : ℕ) (x : Domain) → In (s .domains) d x → countIf (isRegionOf (handleOf (s .regionPool) i)) (x .locals .held) ≡ own′ i d = λ i g e d x f. h .regionSlots i g e d x f ∙ o i g e d in
+    let n : (e : ℕ) (y : Domain) → In (s .domains) e y → (d : ℕ) (x : Domain) → In (s .domains) d x → countIf (isManagementOf (handleOf (s .domainPool) e)) (x .locals .held) ≡ man′ e d = λ e y f d x k. h .managementSlots e y f d x k ∙ m e y f d in
     search

@@ -10,13 +10,15 @@ use native.Mathlib.Decide.{ℕ-discrete}
 use lib.Dec.{T}
 use lib.ListN.{set, length-set}
 use lib.Seq.{getD-set-same, getD-set-other}
-use Rattle.model.specs.Lists.{oneIf, count, slotOf, In}
+use Rattle.base.specs.Cases.{holds, fails, test}
+use Rattle.base.specs.Tests.{true-is}
+use Rattle.base.specs.Options.{none-some}
+use Rattle.model.specs.Lists.{oneIf, countIf, atSlot, In}
 use Rattle.model.specs.State.{State, Pool, Domain, Region, Capa, LocalList}
 use Rattle.model.specs.Locals.{freeLocal, freeLocals, insertLocal, isInvalid, invalidSlots, freeInvalidCapas}
 use Rattle.model.specs.Sound.{ListSound, HandleFit, RevokeFit}
 use Rattle.laws.specs.Accepted.{All, accepted, refused}
-use Rattle.laws.specs.Cases.{holds, fails, test, true-is}
-use Rattle.laws.specs.Tree.Slots.{none-some, in-length}
+use Rattle.laws.specs.Tree.Slots.{in-length}
 use Rattle.laws.specs.Capas.Slots.{count-set, each-set, next-free, once-take, once-give, once-same}
 
 -- tests that no free slot passes
@@ -28,7 +30,7 @@ abbrev pub written : ℕ → Option Capa → List ℕ → LocalList → LocalLis
 written i x fs l = record { held = set (l .held) i x; free = fs }
 
 -- the count of a test when slot i, which held c, becomes x
-pub count-written : (p : Test) (l : List (Option Capa)) (i : ℕ) (c : Capa) (x : Option Capa) → In l i c → count p (set l i x) + oneIf (p (some c)) ≡ count p l + oneIf (p x)
+pub count-written : (p : Test) (l : List (Option Capa)) (i : ℕ) (c : Capa) (x : Option Capa) → In l i c → countIf p (set l i x) + oneIf (p (some c)) ≡ countIf p l + oneIf (p x)
 count-written p l i c x e = omega (arith, count-set p l i x none (in-length l i c e), ap (λ y. oneIf (p y)) e)
 
 -- ---- what a list keeps, whatever the tables are
@@ -54,9 +56,9 @@ module _ (n : ℕ) (rp : Pool) (rs : List (Option Region)) (dp : Pool) (ds : Lis
 
 -- c was put into slot i of l, which was free
 pub record Put (c : Capa) (l : LocalList) (i : ℕ) (m : LocalList) : Type 0 where
-  pub wasFree : slotOf (l .held) i ≡ none
+  pub wasFree : atSlot (l .held) i ≡ none
   pub slots : m .held ≡ set (l .held) i (some c)
-  pub counts : (p : Test) → p none ≡ false → count p (m .held) ≡ count p (l .held) + oneIf (p (some c))
+  pub counts : (p : Test) → p none ≡ false → countIf p (m .held) ≡ countIf p (l .held) + oneIf (p (some c))
 
 insert-go : (n : ℕ) (rp : Pool) (rs : List (Option Region)) (dp : Pool) (ds : List (Option Domain)) (c : Capa) (hs : List (Option Capa)) (fs : List ℕ) → ListSound n rp rs dp ds (record { held = hs; free = fs }) → RevokeFit rp rs (some c) → HandleFit rp rs dp ds (some c) → All (λ x. ListSound n rp rs dp ds (x .1) × Put c (record { held = hs; free = fs }) (x .0) (x .1)) (insertLocal c (record { held = hs; free = fs }))
 unfolding insertLocal
@@ -85,7 +87,7 @@ insert-keeps n rp rs dp ds c l h r f = insert-go n rp rs dp ds c (l .held) (l .f
 -- From l to m only invalid capabilities went.
 pub record Swept (s : State) (l m : LocalList) : Type 0 where
   pub keeps : (n : ℕ) (rp : Pool) (rs : List (Option Region)) (dp : Pool) (ds : List (Option Domain)) → ListSound n rp rs dp ds l → ListSound n rp rs dp ds m
-  pub counts : (p : Test) → p none ≡ false → ((c : Capa) → T (isInvalid s c) → p (some c) ≡ false) → count p (m .held) ≡ count p (l .held)
+  pub counts : (p : Test) → p none ≡ false → ((c : Capa) → T (isInvalid s c) → p (some c) ≡ false) → countIf p (m .held) ≡ countIf p (l .held)
   pub slots : (k : ℕ) (c : Capa) → In (m .held) k c → In (l .held) k c
 
 pub swept-self : (s : State) (l : LocalList) → Swept s l l
@@ -104,14 +106,14 @@ swept-one s l i c e t = record {
   keeps = λ n rp rs dp ds h. free-keeps n rp rs dp ds l h i c e;
   counts = λ p z o. omega (arith, count-written p (l .held) i c none e, ap oneIf z, ap oneIf (o c t));
   slots = λ k b u. elim (ℕ-discrete k i) [
-    | yes o ↦ absurd (none-some (slotOf (set (l .held) i none) i) b (getD-set-same (l .held) i none none (in-length (l .held) i c e)) (rw o at u))
+    | yes o ↦ absurd (none-some (atSlot (set (l .held) i none) i) b (getD-set-same (l .held) i none none (in-length (l .held) i c e)) (rw o at u))
     | no o ↦ sym (getD-set-other (l .held) i k none none o) ∙ u
   ];
 }
 
 -- from slot i on the list has the slots m
 abbrev From : LocalList → ℕ → List (Option Capa) → Type 0
-From l i m = (k : ℕ) → slotOf (l .held) (i + k) ≡ slotOf m k
+From l i m = (k : ℕ) → atSlot (l .held) (i + k) ≡ atSlot m k
 
 from-next : (l : LocalList) (i : ℕ) (x : Option Capa) (m : List (Option Capa)) → From l i (x ∷ m) → From l (suc i) m
 from-next l i x m h k = let e : suc i + k ≡ i + suc k = omega arith in rw e (h (suc k))
@@ -119,7 +121,7 @@ from-next l i x m h k = let e : suc i + k ≡ i + suc k = omega arith in rw e (h
 from-freed : (l : LocalList) (i : ℕ) (m : List (Option Capa)) → From l (suc i) m → From (freeLocal i l) (suc i) m
 from-freed l i m h k = getD-set-other (l .held) i (suc i + k) none none (λ e. omega arith) ∙ h k
 
-from-head : (l : LocalList) (i : ℕ) (x : Option Capa) (m : List (Option Capa)) → From l i (x ∷ m) → slotOf (l .held) i ≡ x
+from-head : (l : LocalList) (i : ℕ) (x : Option Capa) (m : List (Option Capa)) → From l i (x ∷ m) → atSlot (l .held) i ≡ x
 from-head l i x m h = let e : i + 0 ≡ i = omega arith in rw e at (h 0)
 
 sweep-head : (s : State) (i : ℕ) (c : Capa) (m : List (Option Capa)) (l : LocalList) → From l i (some c ∷ m) → ((o : LocalList) → From o (suc i) m → Swept s o (freeLocals (invalidSlots s (suc i) m) o)) → Swept s l (freeLocals (invalidSlots s i (some c ∷ m)) l)

@@ -10,21 +10,23 @@ use native.Mathlib.Nat.{le-refl}
 use lib.Dec.{T, eqb, eqb→eq, eqb-refl, ltb→lt, lt→ltb, not-T, T-not}
 use lib.ListN.{getD}
 use lib.Ieee.Fits.{and-l, and-r, and-i}
-use Rattle.model.specs.Lists.{oneIf, isSome, Each, slotOf, In}
+use borrow.Author.Tests.{le-ltb, eq-eqb}
+use Rattle.base.specs.Cases.{holds, fails, test}
+use Rattle.base.specs.Tests.{is-false, true-is, false-is}
+use Rattle.model.specs.Lists.{oneIf, isSome, Each, atSlot, In}
 use Rattle.model.specs.State.{State, Handle, Pool, Capa, noCapa, region, regionRevoke, management, channel, Domain, Region, LocalList, Update, permission, cleanup, Queue}
 use Rattle.model.specs.Pool.{handleOf, isLive, sameHandle}
 use Rattle.model.specs.Locals.{isInvalid}
 use Rattle.model.specs.Sound.{LiveOrOlder, HandleFit, RevokeFit, ListSound, QueuedLive, QueueSound, isRegionOf, isManagementOf}
-use Rattle.laws.specs.Cases.{ltb-f, eqb-t, is-false, true-is, false-is, holds, fails, test}
-use Rattle.laws.specs.Capas.Slots.{each-weaken}
+use Rattle.laws.specs.Lists.{each-weaken}
 
 -- ---- one handle
 
 pub handle-same : (h k : Handle) → T (sameHandle h k) → h ≡ k
 handle-same h k t =
     let a = eqb→eq (h .slot) (k .slot) (search and-l) in
-    let b = eqb→eq (h .gen) (k .gen) (search and-r) in
-    λ i. record { slot = a i; gen = b i }
+    let b = eqb→eq (h .generation) (k .generation) (search and-r) in
+    λ i. record { slot = a i; generation = b i }
 
 -- two handles that a property tells apart
 pub handle-differs : (P : Handle → Type 0) (h k : Handle) → P h → (P k → ⊥) → sameHandle h k ≡ false
@@ -33,7 +35,7 @@ handle-differs P h k u v = is-false (not-T (sameHandle h k) (λ t. v (subst P (h
 -- two slots have the same handle where they are the same slot
 pub handle-one : (p : Pool) (j i : ℕ) → oneIf (sameHandle (handleOf p j) (handleOf p i)) ≡ oneIf (eqb j i)
 handle-one p j i = elim (test (eqb j i)) [
-  | holds t ↦ let o = eqb→eq j i (true-is t) in rw (t, eqb-t (getD (p .gens) j 0) (getD (p .gens) i 0) (ap (λ k. getD (p .gens) k 0) o))
+  | holds t ↦ let o = eqb→eq j i (true-is t) in rw (t, eq-eqb (getD (p .gens) j 0) (getD (p .gens) i 0) (ap (λ k. getD (p .gens) k 0) o))
   | fails t ↦ rw t
 ]
 
@@ -43,7 +45,7 @@ handle-live p l i x e = rw e (eqb-refl (getD (p .gens) i 0))
 
 -- a live handle is its slot's
 pub live-handle : {A : Type 0} (p : Pool) (l : List (Option A)) (h : Handle) → T (isLive p l h) → handleOf p (h .slot) ≡ h
-live-handle p l h t = let e = eqb→eq (getD (p .gens) (h .slot) 0) (h .gen) (search and-r) in λ i. record { slot = h .slot; gen = e i }
+live-handle p l h t = let e = eqb→eq (getD (p .gens) (h .slot) 0) (h .generation) (search and-r) in λ i. record { slot = h .slot; generation = e i }
 
 older-split : (a b : Bool) → T (a || b) → (a ≡ false → T b)
 older-split true b t e = absurd (false-is {b = true} e tt)
@@ -56,25 +58,25 @@ older-or false b h = h refl
 pub live-fits : {A : Type 0} (p : Pool) (l : List (Option A)) (h : Handle) → T (isLive p l h) → LiveOrOlder p l h
 live-fits p l h t = older-or (isLive p l h) _ (λ e. absurd (false-is e t))
 
-pub older-fits : {A : Type 0} (p : Pool) (l : List (Option A)) (h : Handle) → h .gen < getD (p .gens) (h .slot) 0 → LiveOrOlder p l h
-older-fits p l h t = older-or (isLive p l h) _ (λ e. lt→ltb (h .gen) (getD (p .gens) (h .slot) 0) t)
+pub older-fits : {A : Type 0} (p : Pool) (l : List (Option A)) (h : Handle) → h .generation < getD (p .gens) (h .slot) 0 → LiveOrOlder p l h
+older-fits p l h t = older-or (isLive p l h) _ (λ e. lt→ltb (h .generation) (getD (p .gens) (h .slot) 0) t)
 
 -- no stored handle is that of a free slot
-pub no-handle : {A : Type 0} (p : Pool) (l : List (Option A)) (i : ℕ) → slotOf l i ≡ none → LiveOrOlder p l (handleOf p i) → ⊥
-no-handle p l i e t = rw (e, ltb-f (getD (p .gens) i 0) (getD (p .gens) i 0) (le-refl _)) at t
+pub no-handle : {A : Type 0} (p : Pool) (l : List (Option A)) (i : ℕ) → atSlot l i ≡ none → LiveOrOlder p l (handleOf p i) → ⊥
+no-handle p l i e t = rw (e, le-ltb (getD (p .gens) i 0) (getD (p .gens) i 0) (le-refl _)) at t
 
 pub fits-onward : {A : Type 0} (p q : Pool) (l m : List (Option A)) → ((h : Handle) → T (isLive p l h) → LiveOrOlder q m h) → ((i : ℕ) → getD (p .gens) i 0 ≤ getD (q .gens) i 0) → (h : Handle) → LiveOrOlder p l h → LiveOrOlder q m h
 fits-onward p q l m live rise h t = elim (test (isLive p l h)) [
   | holds u ↦ live h (true-is u)
-  | fails u ↦ older-fits q m h (let o = ltb→lt (h .gen) (getD (p .gens) (h .slot) 0) (older-split (isLive p l h) _ t u) in omega (arith, rise (h .slot)))
+  | fails u ↦ older-fits q m h (let o = ltb→lt (h .generation) (getD (p .gens) (h .slot) 0) (older-split (isLive p l h) _ t u) in omega (arith, rise (h .slot)))
 ]
 
 -- a handle stays live where its slot stays in use
-pub live-onward : {A : Type 0} (p : Pool) (l m : List (Option A)) → ((k : ℕ) → T (isSome (slotOf l k)) → T (isSome (slotOf m k))) → (h : Handle) → T (isLive p l h) → T (isLive p m h)
+pub live-onward : {A : Type 0} (p : Pool) (l m : List (Option A)) → ((k : ℕ) → T (isSome (atSlot l k)) → T (isSome (atSlot m k))) → (h : Handle) → T (isLive p l h) → T (isLive p m h)
 live-onward p l m f h t =
-    let a : T (isSome (slotOf l (h .slot))) = search and-l in
-    let b : T (eqb (getD (p .gens) (h .slot) 0) (h .gen)) = search and-r in
-    and-i (isSome (slotOf m (h .slot))) (eqb (getD (p .gens) (h .slot) 0) (h .gen)) (f (h .slot) a) b
+    let a : T (isSome (atSlot l (h .slot))) = search and-l in
+    let b : T (eqb (getD (p .gens) (h .slot) 0) (h .generation)) = search and-r in
+    and-i (isSome (atSlot m (h .slot))) (eqb (getD (p .gens) (h .slot) 0) (h .generation)) (f (h .slot) a) b
 
 -- ---- tests on what slots hold
 

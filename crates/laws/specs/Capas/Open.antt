@@ -1,155 +1,159 @@
--- A domain is opened in a free slot. No stored handle names the slot's next life, no region has it as owner and no domain as manager,
--- so nothing counts for it: the shares stay as they are until its manager gets the Management capability.
+-- Open keeps Sound: the new tracker is empty and no region counts for the new domain, and its manager has its Management capability.
 use mathlib.Core.Path.{_≡_, refl, sym, ap, subst, _∙_}
 use mathlib.Core.Logic.{_≢_}
-use Prim.Native.Nat.{ℕ, zero, suc}
-use mathlib.Core.Bool.{false}
-use mathlib.Core.Option.{Option, none, some}
+use Prim.Native.Nat.{ℕ, _<_}
+use mathlib.Core.Option.{Option, none, some, Option·getD}
 use mathlib.Core.List.{List, [], _∷_}
-use native.Mathlib.Nat.{le-refl}
-use lib.Dec.{T}
-use lib.ListN.{set, replicate, length-set, length-replicate}
-use lib.Seq.{getD-set-same, getD-set-other}
-use Rattle.model.specs.Lists.{isSome, count, Each, slotOf, In}
-use Rattle.model.specs.Outcome.{Refusal}
-use Rattle.model.specs.State.{Word, Handle, Pool, Capa, LocalList, Domain, Region, State, withDomains}
-use Rattle.model.specs.Pool.{allocate, handleOf, isLive}
-use Rattle.model.specs.Locals.{freshLocals}
-use Rattle.model.specs.Sound.{ListSound, RevokeFit, HandleFit, Managed, isRegionOf, isManagementOf}
-use Rattle.laws.specs.Accepted.{All, accepted, refused}
-use Rattle.laws.specs.Empty.{all-free, unused}
-use Rattle.laws.specs.Tree.Slots.{none-some, live-is}
-use Rattle.laws.specs.Capas.Slots.{this, that, was, taken-alive, Next, next-slot, once-take, count-none}
-use Rattle.laws.specs.Capas.List.{Test}
-use Rattle.laws.specs.Capas.Live.{not-management, live-onward, live-fits, fits-onward, no-handle, list-onward, queue-onward}
-use Rattle.laws.specs.Capas.Held.{Shares, Held}
-use Rattle.laws.specs.Capas.Domain.{Stay, managed-onward}
+use native.Mathlib.Omega.{arith}
+use native.Mathlib.Decide.{ℕ-discrete}
+use lib.Dec.{T, eqb}
+use lib.ListN.{length, set}
+use lib.Seq.{getD-set-other}
+use Rattle.model.specs.Lists.{oneIf, isSome, atSlot, In}
+use Rattle.model.specs.State.{Word, Handle, management, Domain, Region, State, withDomains, withLocals, noneDomain, domainAt}
+use Rattle.model.specs.Pool.{handleOf}
+use Rattle.model.specs.Outcome.{ok, _>>=_}
+use Rattle.model.specs.Fields.{Field}
+use Rattle.model.specs.Locals.{hasCapacity, insertCapa}
+use Rattle.model.specs.Counts.{countsAt, regionCount}
+use Rattle.model.specs.Calls.{newDomain, openDomain}
+use Rattle.model.specs.Sound.{Sound, LiveOrOlder, TrackerSound, names}
+use Rattle.laws.specs.Accepted.{All, accepted, bind}
+use Rattle.laws.specs.Tree.Facts.{self, other}
+use Rattle.laws.specs.Tree.Slots.{is-live}
+use Rattle.laws.specs.Tree.Steps.{region-at, domain-at}
+use Rattle.laws.specs.Tree.Stored.{stored}
+use Rattle.laws.specs.Capas.Slots.{this, that, was}
+use Rattle.laws.specs.Capas.Live.{handle-one, handle-live, live-fits}
+use Rattle.laws.specs.Capas.Held.{Held, ownedBy, managedBy, CapasSound, OthersSound, capas-sound, sound-of, held-as}
+use Rattle.laws.specs.Capas.Domain.{usesIn, uses-set}
+use Rattle.laws.specs.Capas.Change.{relist, relist-in, relist-live, capacity, Plus, room-held, insert-held}
+use Rattle.laws.specs.Capas.Checks.{live-domain}
+use Rattle.laws.specs.Capas.Listed.{listed-then, room-listed, inserted-listed, listed-sound}
+use Rattle.laws.specs.Capas.NewDomain.{taken, newOne, opened, open-next, open-in, open-held}
+use Rattle.base.specs.Options.{none-some, some-same}
 
--- ---- a slot of a pool is taken
+module _ (s : State) (h : Sound s) (i : ℕ) (is : List ℕ) (next : s .domainPool .free ≡ i ∷ is) (m : Option ℕ) (c : ℕ) (word : Word c) (live : (k : ℕ) → m ≡ some k → T (isSome (atSlot (s .domains) k))) where
+  abbrev a : CapasSound s
+  a = capas-sound s h
 
--- i was the slot given next
-pub record Taken (p : Pool) (i : ℕ) (q : Pool) : Type 0 where
-  pub rest : List ℕ
-  pub wasNext : p .free ≡ i ∷ rest
-  pub is : q ≡ record { gens = p .gens; free = rest }
+  free : atSlot (s .domains) i ≡ none
+  free = open-next (ownedBy s) (managedBy s) s a i is next m c .wasFree
 
-taken-go : (r : Refusal) (gs fs : List ℕ) → All (λ (x : ℕ × Pool). Taken (record { gens = gs; free = fs }) (x .0) (x .1)) (allocate r (record { gens = gs; free = fs }))
-unfolding allocate
-taken-go r gs [] = refused
-taken-go r gs (i ∷ is) = accepted (record { rest = is; wasNext = refl; is = refl })
+  -- who is live is not in slot i
+  apart : (k : ℕ) → T (isSome (atSlot (s .domains) k)) → k ≢ i
+  apart k t o = rw (o, free) at t
 
-pub taken : (r : Refusal) (p : Pool) → All (λ (x : ℕ × Pool). Taken p (x .0) (x .1)) (allocate r p)
-taken r p = taken-go r (p .gens) (p .free)
+  nobody : domainAt s i ≡ noneDomain
+  nobody = ap (λ o. Option·getD o noneDomain) free
 
--- ---- a new list
+  held : Held (ownedBy s) (managedBy s) (opened i is m c s)
+  held = open-held (ownedBy s) (managedBy s) s a i is next m c word live
+      (λ j g e. ap (λ (r : Region). oneIf (eqb (r .owner) i)) (region-at s j g e) ∙ other (g .owner) i (apart (g .owner) (a .ownerLive j g e)))
+      (λ j z e. ap (λ (w : Domain). oneIf (names (w .manager) i)) (domain-at s j z e) ∙ unnamed (z .manager) (λ k q. apart k (a .managerLive j z e k q)))
+      (λ k. ap (λ (w : Domain). oneIf (names (w .manager) k)) nobody)
+    where
+      unnamed : (o : Option ℕ) → ((k : ℕ) → o ≡ some k → k ≢ i) → oneIf (names o i) ≡ 0
+      unnamed none f = refl
+      unnamed (some k) f = other k i (f k refl)
 
-each-none : (P : Option Capa → Type 0) (n : ℕ) → P none → Each P (replicate n none)
-each-none P zero h = tt
-each-none P (suc n) h = (h, each-none P n h)
+  -- no region counts for the new domain
+  nothing : (p : ℕ) → regionCount Field.Reach (s .regions) i p ≡ 0
+  nothing p = sym (stored s h p Field.Reach i) ∙ ap (λ (w : Domain). countsAt (w .tracker) p .reach) nobody
 
-count-fresh : (p : Test) (n : ℕ) → p none ≡ false → count p (replicate n none) ≡ 0
-count-fresh p n z = count-none (λ x. x ≡ none) p (replicate n none) (λ x e. subst (λ y. p y ≡ false) (sym e) z) (each-none (λ x. x ≡ none) n refl)
+  empty-tracker : TrackerSound (s .regions) i []
+  empty-tracker = record { rising = tt; merged = tt; reached = tt; counted = tt; uncacheable = tt; covered = λ p t. absurd (omega (arith, nothing p)) }
 
-fresh-list : (n : ℕ) (rp : Pool) (rs : List (Option Region)) (dp : Pool) (ds : List (Option Domain)) → ListSound n rp rs dp ds (freshLocals n)
-fresh-list n rp rs dp ds = record {
-  heldLength = length-replicate n none;
-  once = λ i. rw (unused Capa n i) (all-free n i);
-  revokesFit = each-none (RevokeFit rp rs) n tt;
-  handlesFit = each-none (HandleFit rp rs dp ds) n tt;
-}
+  abbrev t : State
+  t = opened i is m c s
 
--- ---- the new domain
+  low : i < length (s .domains)
+  low = open-next (ownedBy s) (managedBy s) s a i is next m c .low
 
-abbrev pub newOne : Option ℕ → ℕ → State → Domain
-newOne m c s = record { manager = m; cores = c; locals = freshLocals (s .sizes .slots); tracker = [] }
-
-abbrev pub opened : ℕ → List ℕ → Option ℕ → ℕ → State → State
-opened i is m c s = withDomains (record { gens = s .domainPool .gens; free = is }) (set (s .domains) i (some (newOne m c s))) s
-
-module _ (own man : Shares) (s : State) (h : Held own man s) (i : ℕ) (is : List ℕ) (next : s .domainPool .free ≡ i ∷ is) (m : Option ℕ) (c : ℕ) where
-  abbrev ds′ : List (Option Domain)
-  ds′ = set (s .domains) i (some (newOne m c s))
-
-  abbrev dp′ : Pool
-  dp′ = record { gens = s .domainPool .gens; free = is }
-
-  pub open-next : Next (s .sizes .domains) (s .domains) i is
-  open-next = next-slot (s .sizes .domains) (s .domains) (s .domainPool .free) i is (h .domainsLength) (h .domainPool .once) next
-
-  pub open-in : In ds′ i (newOne m c s)
-  open-in = getD-set-same (s .domains) i (some (newOne m c s)) none (open-next .low)
-
-  alive-on : (k : ℕ) → T (isSome (slotOf (s .domains) k)) → T (isSome (slotOf ds′ k))
-  alive-on = taken-alive (s .domains) i (newOne m c s) (open-next .low)
-
-  -- a slot in use is another one
-  other-slot : (k : ℕ) (z : Domain) → In (s .domains) k z → k ≢ i
-  other-slot k z e o = none-some (slotOf (s .domains) i) z (open-next .wasFree) (rw o at e)
-
-  forth : Stay (s .domains) ds′
-  forth k z e = (z, getD-set-other (s .domains) i k (some (newOne m c s)) none (other-slot k z e) ∙ e, refl)
-
-  pub open-live : (k : Handle) → T (isLive (s .domainPool) (s .domains) k) → T (isLive dp′ ds′ k)
-  open-live k t = live-onward (s .domainPool) (s .domains) ds′ alive-on k t
-
-  list-on : (l : LocalList) → ListSound (s .sizes .slots) (s .regionPool) (s .regions) (s .domainPool) (s .domains) l → ListSound (s .sizes .slots) (s .regionPool) (s .regions) dp′ ds′ l
-  list-on l k = list-onward (s .regionPool) (s .regionPool) (s .regions) (s .regions) (s .domainPool) dp′ (s .domains) ds′ (λ h t. t) (λ h t u. u) (fits-onward (s .domainPool) dp′ (s .domains) ds′ (λ h t. live-fits dp′ ds′ h (open-live h t)) (λ j. le-refl _)) (s .sizes .slots) l k
-
-  -- no Management capability of the new domain is in a list yet
-  none-yet : (k : ℕ) (z : Domain) → In (s .domains) k z → count (isManagementOf (handleOf (s .domainPool) i)) (z .locals .held) ≡ 0
-  none-yet k z e = count-none (HandleFit (s .regionPool) (s .regions) (s .domainPool) (s .domains)) _ (z .locals .held) (not-management (HandleFit (s .regionPool) (s .regions) (s .domainPool) (s .domains)) (handleOf (s .domainPool) i) (no-handle (s .domainPool) (s .domains) i (open-next .wasFree))) (h .lists k z e .handlesFit)
-
-  managed-new : (o : Option ℕ) → m ≡ o → ((k : ℕ) → m ≡ some k → T (isSome (slotOf (s .domains) k))) → Managed ds′ i
-  managed-new none e l = Managed.unmanaged i (newOne m c s) open-in e
-  managed-new (some k) e l = let (w, u) = live-is (slotOf (s .domains) k) (l k e) in Managed.by i k (newOne m c s) open-in e (managed-onward (s .domains) ds′ forth k (h .managed k w u))
-
-  module _ (word : Word c) (live : (k : ℕ) → m ≡ some k → T (isSome (slotOf (s .domains) k)))
-      (own-new : (j : ℕ) (g : Region) → In (s .regions) j g → own j i ≡ 0)
-      (man-in : (j : ℕ) (z : Domain) → In (s .domains) j z → man j i ≡ 0)
-      (man-new : (k : ℕ) → man i k ≡ 0) where
-    fresh-at : (p : Test) → p none ≡ false → (z : Domain) → newOne m c s ≡ z → count p (z .locals .held) ≡ 0
-    fresh-at p n z q = ap (λ (w : Domain). count p (w .locals .held)) (sym q) ∙ count-fresh p (s .sizes .slots) n
-
-    manages : (j : ℕ) (v : Domain) → In ds′ j v → (k : ℕ) (z : Domain) → In ds′ k z → count (isManagementOf (handleOf (s .domainPool) j)) (z .locals .held) ≡ man j k
-    manages j v f k z n = elim (was (s .domains) i (newOne m c s) (open-next .low) j v f) [
-      | this a b ↦ rw a (elim (was (s .domains) i (newOne m c s) (open-next .low) k z n) [
-        | this o q ↦ fresh-at (isManagementOf (handleOf (s .domainPool) i)) refl z q ∙ sym (man-new k)
-        | that o w ↦ none-yet k z w ∙ sym (man-new k)
-      ])
-      | that a b ↦ elim (was (s .domains) i (newOne m c s) (open-next .low) k z n) [
-        | this o q ↦ rw o (fresh-at (isManagementOf (handleOf (s .domainPool) j)) refl z q ∙ sym (man-in j v b))
-        | that o w ↦ h .managementSlots j v b k z w
-      ]
-    ]
-
-    pub open-held : Held own man (opened i is m c s)
-    open-held = record {
-      sizesGood = h .sizesGood;
-      domainsLength = length-set (s .domains) i (some (newOne m c s)) ∙ h .domainsLength;
-      regionsLength = h .regionsLength;
-      domainPool = record { gensLength = h .domainPool .gensLength; gensWords = h .domainPool .gensWords; once = once-take (s .sizes .domains) (s .domains) (h .domainsLength) i is (newOne m c s) (open-next .once) };
-      regionPool = h .regionPool;
-      ownerLive = λ j g f. alive-on (g .owner) (h .ownerLive j g f);
-      regionSlots = λ j g f k z n. elim (was (s .domains) i (newOne m c s) (open-next .low) k z n) [
-        | this o q ↦ rw o (fresh-at (isRegionOf (handleOf (s .regionPool) j)) refl z q ∙ sym (own-new j g f))
-        | that o w ↦ h .regionSlots j g f k z w
+  pub others : OthersSound t
+  others = record {
+    regions = h .outside .regions;
+    tracked = record {
+      recordPool = record {
+        gensLength = h .tracked .recordPool .gensLength;
+        gensWords = h .tracked .recordPool .gensWords;
+        once = λ k. omega (arith, h .tracked .recordPool .once k, uses-set (s .domains) i (some (newOne m c s)) low k, ap (λ o. usesIn o k) free);
+      };
+      trackers = λ k z f. elim (was (s .domains) i (newOne m c s) low k z f) [
+        | this o q ↦ rw o (subst (λ (w : Domain). TrackerSound (s .regions) i (w .tracker)) q empty-tracker)
+        | that o g ↦ h .tracked .trackers k z g
       ];
-      managerLive = λ k z f n q. elim (was (s .domains) i (newOne m c s) (open-next .low) k z f) [
-        | this o p ↦ alive-on n (live n (ap (λ (w : Domain). w .manager) p ∙ q))
-        | that o w ↦ alive-on n (h .managerLive k z w n q)
+    };
+  }
+
+  -- in every other slot the manager is as it was
+  manager-else : (j : ℕ) → j ≢ i → domainAt t j ≡ domainAt s j
+  manager-else j o = ap (λ x. Option·getD x noneDomain) (getD-set-other (s .domains) i j (some (newOne m c s)) none o)
+
+  manager-new : domainAt t i ≡ newOne m c s
+  manager-new = domain-at t i (newOne m c s) (open-in (ownedBy s) (managedBy s) s a i is next m c)
+
+  -- without a manager that is all
+  pub root-sound : m ≡ none → Sound t
+  root-sound e = sound-of t (held-as (ownedBy s) (ownedBy t) (managedBy s) (managedBy t) t (λ j g f d. refl) (λ j z f d. elim (ℕ-discrete j i) [
+    | yes o ↦ rw o (ap (λ (w : Domain). oneIf (names (w .manager) d)) nobody ∙ sym (ap (λ (w : Domain). oneIf (names (w .manager) d)) manager-new ∙ ap (λ n. oneIf (names n d)) e))
+    | no o ↦ ap (λ (w : Domain). oneIf (names (w .manager) d)) (sym (manager-else j o))
+  ]) held) others
+
+  -- the manager d, whose list had room or was swept, gets the capability
+  module _ (d : ℕ) (e : m ≡ some d) (x : Domain) (y : In (s .domains) d x) where
+    plus : (u : State) → u .domainPool ≡ t .domainPool → Plus u d (management (handleOf (u .domainPool) i)) (ownedBy s) (managedBy s) (ownedBy s) (managedBy t)
+    plus u q = record {
+      regions = λ j g f. omega arith;
+      domains = λ j z f. elim (ℕ-discrete j i) [
+        | yes o ↦ rw o (omega (arith, handle-one (u .domainPool) i i, self i, none-before d, new-at d, self d))
+        | no o ↦ omega (arith, handle-one (u .domainPool) j i, other j i o, at-else j d o)
       ];
-      managementSlots = manages;
-      managed = λ k z f. elim (was (s .domains) i (newOne m c s) (open-next .low) k z f) [
-        | this o p ↦ subst (Managed ds′) (sym o) (managed-new m refl live)
-        | that o w ↦ managed-onward (s .domains) ds′ forth k (h .managed k z w)
+      ownElse = λ j k o. refl;
+      manElse = λ j k o. elim (ℕ-discrete j i) [
+        | yes n ↦ rw n (omega (arith, none-before k, new-at k, other d k (λ p. o (sym p))))
+        | no n ↦ at-else j k n
       ];
-      lists = λ k z f. elim (was (s .domains) i (newOne m c s) (open-next .low) k z f) [
-        | this o q ↦ subst (λ (w : Domain). ListSound (s .sizes .slots) (s .regionPool) (s .regions) dp′ ds′ (w .locals)) q (fresh-list _ _ _ _ _)
-        | that o w ↦ list-on (z .locals) (h .lists k z w)
-      ];
-      coresWords = λ k z f. elim (was (s .domains) i (newOne m c s) (open-next .low) k z f) [
-        | this o q ↦ subst (λ (w : Domain). Word (w .cores)) q word
-        | that o w ↦ h .coresWords k z w
-      ];
-      queue = queue-onward (s .sizes .updates) (s .domainPool) dp′ (s .domains) ds′ open-live (s .queue) (h .queue);
     }
+      where
+        none-before : (k : ℕ) → managedBy s i k ≡ 0
+        none-before k = ap (λ (w : Domain). oneIf (names (w .manager) k)) nobody
+
+        new-at : (k : ℕ) → managedBy t i k ≡ oneIf (eqb d k)
+        new-at k = ap (λ (w : Domain). oneIf (names (w .manager) k)) manager-new ∙ ap (λ n. oneIf (names n k)) e
+
+        at-else : (j k : ℕ) → j ≢ i → managedBy t j k ≡ managedBy s j k
+        at-else j k o = ap (λ (w : Domain). oneIf (names (w .manager) k)) (manager-else j o)
+
+    there : In (t .domains) d x
+    there = getD-set-other (s .domains) i d (some (newOne m c s)) none (apart d (is-live (atSlot (s .domains) d) x y)) ∙ y
+
+    pub managed-sound : All (λ (z : Handle × State). Sound (z .1)) (hasCapacity d t >>= λ u. insertCapa d (management (handleOf (u .domainPool) i)) u >>= λ (j, v). ok (handleOf (v .domainPool) i, v))
+    managed-sound =
+        bind (capacity t d x there) (λ u r.
+        let w = withLocals (r .list) x in
+        let v : In (u .domains) d w = subst (λ (q : State). In (q .domains) d w) (sym (r .is)) (relist-in t d x there (r .list)) in
+        let n = handleOf (u .domainPool) i in
+        let k : LiveOrOlder (u .domainPool) (u .domains) n = subst (λ (q : State). LiveOrOlder (q .domainPool) (q .domains) (handleOf (q .domainPool) i)) (sym (r .is)) (live-fits (t .domainPool) (relist d x (r .list) t .domains) (handleOf (t .domainPool) i) (relist-live t d x there (r .list) (handleOf (t .domainPool) i) (handle-live (t .domainPool) (t .domains) i (newOne m c s) (open-in (ownedBy s) (managedBy s) s a i is next m c)))) in
+        bind (insert-held (ownedBy s) (managedBy s) u (room-held (ownedBy s) (managedBy s) t held d x there u r) d w v (ownedBy s) (managedBy t) (management n) tt k (plus u (ap (λ (q : State). q .domainPool) (r .is))))
+        (λ z f. accepted (listed-sound t (z .1) others (listed-then t u (z .1) (room-listed t d x u there r) (inserted-listed u d w (management n) (z .0) (z .1) v (f .0))) (f .1))))
+
+-- ---- the call
+
+-- a domain in slot i, which was given next
+record New (s : State) (m : Option ℕ) (c i : ℕ) (t : State) : Type 0 where
+  rest : List ℕ
+  wasNext : s .domainPool .free ≡ i ∷ rest
+  is : t ≡ opened i rest m c s
+
+new-domain : (s : State) (m : Option ℕ) (c : ℕ) → All (λ x. New s m c (x .0) (x .1)) (newDomain m c s)
+unfolding newDomain
+new-domain s m c = bind (taken _ (s .domainPool)) (λ x t. accepted (record { rest = t .rest; wasNext = t .wasNext; is = ap (λ p. withDomains p (set (s .domains) (x .0) (some (newOne m c s))) s) (t .is) }))
+
+pub open-sound : (s : State) (m : Option Handle) (c : ℕ) → Sound s → Word c → All (λ x. Sound (x .1)) (openDomain m c s)
+unfolding openDomain
+open-sound s none c h w = bind (new-domain s none c) (λ x n. accepted (subst Sound (sym (n .is)) (root-sound s h (x .0) (n .rest) (n .wasNext) none c w (λ k e. absurd (none-some none k refl e)) refl)))
+open-sound s (some k) c h w =
+    bind (live-domain s k) (λ d l.
+    bind (new-domain s (some d) c) (λ x n.
+    subst (λ (u : State). All (λ (y : Handle × State). Sound (y .1)) (hasCapacity d u >>= λ u₂. insertCapa d (management (handleOf (u₂ .domainPool) (x .0))) u₂ >>= λ (j, u₃). ok (handleOf (u₃ .domainPool) (x .0), u₃))) (sym (n .is)) (managed-sound s h (x .0) (n .rest) (n .wasNext) (some d) c w (λ j e. subst (λ o. T (isSome (atSlot (s .domains) o))) (some-same (some d) d j refl e) (is-live (atSlot (s .domains) d) (l .domain) (l .is))) d refl (l .domain) (l .is))))

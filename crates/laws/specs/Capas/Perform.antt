@@ -8,11 +8,15 @@ use Rattle.model.specs.CallWords.{StepWords, CallWords}
 use Rattle.model.specs.Sound.{Sound}
 use Rattle.laws.specs.Accepted.{All, accepted, bind, bind-any, weaken, and-then, both}
 use Rattle.laws.specs.Empty.{empty-sound}
-use Rattle.laws.specs.PopSound.{pop-sound}
+use Rattle.laws.specs.Capas.Pop.{pop-sound}
 use Rattle.laws.specs.Capas.Held.{CapasSound, OthersSound, capas-sound, sound-of}
-use Rattle.laws.specs.Capas.Listed.{setCores-sound, openChannel-sound, createRevokeCapa-sound}
-use Rattle.laws.specs.Capas.OpenSound.{openDomain-sound}
-use Rattle.laws.specs.Capas.Create.{createRootRegion-capas, aliasRegion-capas, carveRegion-capas}
+use Rattle.laws.specs.Capas.SetCoreMap.{set-core-map-sound}
+use Rattle.laws.specs.Capas.Channel.{channel-sound}
+use Rattle.laws.specs.Capas.CreateRevokeCapa.{create-revoke-capa-sound}
+use Rattle.laws.specs.Capas.Open.{open-sound}
+use Rattle.laws.specs.Capas.Root.{root-capas}
+use Rattle.laws.specs.Capas.Alias.{alias-capas}
+use Rattle.laws.specs.Capas.Carve.{carve-capas}
 use Rattle.laws.specs.Capas.Send.{send-capas}
 use Rattle.laws.specs.Capas.Revoke.{revoke-capas}
 
@@ -27,16 +31,16 @@ whole k = weaken k (λ x h. capas-sound (x .1) h)
 -- A step that changes no region and no tracker keeps Sound whole.
 step-capas : (s : State) (c : Step) → Sound s → StepWords c → All (λ x. CapasSound (x .1)) (performStep s c)
 unfolding performStep
-step-capas s (Step.Open none c) h w = bind (whole (openDomain-sound s none c h w)) (λ x k. accepted k)
-step-capas s (Step.Open (some m) c) h w = bind (whole (openDomain-sound s (some m) c h (w .1))) (λ x k. accepted k)
-step-capas s (Step.Channel m to) h w = bind (whole (openChannel-sound s m to h)) (λ x k. accepted k)
-step-capas s (Step.SetCores m c) h w = bind (setCores-sound s m c h (w .1)) (λ x k. accepted (capas-sound x k))
-step-capas s (Step.Root m a) h w = bind (createRootRegion-capas m a s (capas-sound s h)) (λ x k. accepted k)
-step-capas s (Step.Alias m l a) h w = bind (aliasRegion-capas m l a s (capas-sound s h)) (λ x k. accepted k)
-step-capas s (Step.Carve m l a) h w = bind (carveRegion-capas m l a s (capas-sound s h)) (λ x k. accepted k)
+step-capas s (Step.Open none c) h w = bind (whole (open-sound s none c h w)) (λ x k. accepted k)
+step-capas s (Step.Open (some m) c) h w = bind (whole (open-sound s (some m) c h (w .1))) (λ x k. accepted k)
+step-capas s (Step.Channel m to) h w = bind (whole (channel-sound s m to h)) (λ x k. accepted k)
+step-capas s (Step.SetCoreMap m c) h w = bind (set-core-map-sound s m c h (w .1)) (λ x k. accepted (capas-sound x k))
+step-capas s (Step.Root m a) h w = bind (root-capas m a s (capas-sound s h)) (λ x k. accepted k)
+step-capas s (Step.Alias m l a) h w = bind (alias-capas m l a s (capas-sound s h)) (λ x k. accepted k)
+step-capas s (Step.Carve m l a) h w = bind (carve-capas m l a s (capas-sound s h)) (λ x k. accepted k)
 step-capas s (Step.Send m l t) h w = bind (send-capas m l t s (capas-sound s h)) (λ x k. accepted k)
 step-capas s (Step.Revoke m l) h w = bind (revoke-capas m l s (capas-sound s h) (h .outside .regions)) (λ x k. accepted k)
-step-capas s (Step.MakeRevoke m l) h w = bind (whole (createRevokeCapa-sound s m l h)) (λ x k. accepted k)
+step-capas s (Step.CreateRevokeCapa m l) h w = bind (whole (create-revoke-capa-sound s m l h)) (λ x k. accepted k)
 
 pub perform-capas : (s : State) (c : Call) → Sound s → CallWords c → All (λ x. CapasSound (x .1)) (perform s c)
 unfolding perform

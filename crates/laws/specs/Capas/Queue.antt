@@ -1,33 +1,27 @@
 -- An update joins the queue. Invariant: queued domains are live and queued singly, and what is queued are words.
 use mathlib.Core.Path.{_≡_, refl, sym, ap, subst}
-use Prim.Native.Nat.{ℕ, zero, suc, _+_, _<_}
+use Prim.Native.Nat.{ℕ, _<_}
 use mathlib.Core.Bool.{Bool, true, false, not, _||_}
 use mathlib.Core.Option.{Option}
 use mathlib.Core.List.{List, [], _∷_, _++_}
 use native.Mathlib.Omega.{arith}
-use lib.Dec.{T, eqb, leb→le, ltb→lt, not-T, T-not, eqb-refl, lit<}
-use lib.ListN.{length, getD, length-append}
+use lib.Dec.{T, eqb, leb→le, ltb→lt, not-T, T-not, eqb-refl}
+use lib.ListN.{length, length-append}
 use lib.Ieee.Fits.{and-l, and-r, and-i}
-use Rattle.model.specs.Lists.{oneIf, any, count, Each, In}
+use Rattle.base.specs.Tests.{is-false}
+use Rattle.model.specs.Lists.{oneIf, exists, Each, In}
 use Rattle.model.specs.State.{Word, Handle, Pool, Domain, State, Update, permission, cleanup, Queue, withQueue, domainAt}
 use Rattle.model.specs.Pool.{handleOf, sameHandle}
 use Rattle.model.specs.Updates.{isPermissionOf, push, pushPermission}
 use Rattle.model.specs.Sound.{QueuedLive, Singly, UpdateWords, QueueSound}
 use Rattle.laws.specs.Accepted.{All, accepted, checked, branch-on}
-use Rattle.laws.specs.Cases.{is-false}
 use Rattle.laws.specs.Tree.Slots.{in-length}
 use Rattle.laws.specs.Capas.Live.{handle-same, handle-live}
-use Rattle.laws.specs.Capas.Held.{Shares, Held, domain-at}
+use Rattle.laws.specs.Capas.Held.{Shares, Held}
+use Rattle.laws.specs.Lists.{word-at, count-end, each-end}
+use Rattle.laws.specs.Tree.Steps.{domain-at}
 
 -- ---- a list with one more at its end
-
-count-end : {A : Type 0} (p : A → Bool) (l : List A) (a : A) → count p (l ++ (a ∷ [])) ≡ count p l + oneIf (p a)
-count-end p [] a = omega arith
-count-end p (x ∷ l) a = omega (arith, count-end p l a)
-
-each-end : {A : Type 0} (P : A → Type 0) (l : List A) (a : A) → Each P l → P a → Each P (l ++ (a ∷ []))
-each-end P [] a h k = (k, tt)
-each-end P (x ∷ l) a h k = (h .0, each-end P l a (h .1) k)
 
 -- u is not the domain that v queues
 abbrev Apart : Update → Update → Type 0
@@ -53,16 +47,16 @@ or-none true b t = absurd t
 or-none false b t = (tt, t)
 
 turned : (h k : Handle) → T (not (sameHandle h k)) → sameHandle k h ≡ false
-turned h k t = is-false (not-T (sameHandle k h) (λ u. T-not (sameHandle h k) t (subst (λ x. T (sameHandle x k)) (handle-same k h u) (and-i (eqb (k .slot) (k .slot)) (eqb (k .gen) (k .gen)) (eqb-refl (k .slot)) (eqb-refl (k .gen))))))
+turned h k t = is-false (not-T (sameHandle k h) (λ u. T-not (sameHandle h k) t (subst (λ x. T (sameHandle x k)) (handle-same k h u) (and-i (eqb (k .slot) (k .slot)) (eqb (k .generation) (k .generation)) (eqb-refl (k .slot)) (eqb-refl (k .generation))))))
 
-apart-new : (h : Handle) (c : ℕ) (l : List Update) → T (not (any (isPermissionOf h) l)) → Each (Apart (permission h c)) l
+apart-new : (h : Handle) (c : ℕ) (l : List Update) → T (not (exists (isPermissionOf h) l)) → Each (Apart (permission h c)) l
 apart-new h c [] t = tt
-apart-new h c (permission k d ∷ l) t = let (a, b) = or-none (sameHandle h k) (any (isPermissionOf h) l) t in (turned h k a, apart-new h c l b)
+apart-new h c (permission k d ∷ l) t = let (a, b) = or-none (sameHandle h k) (exists (isPermissionOf h) l) t in (turned h k a, apart-new h c l b)
 apart-new h c (cleanup x y ∷ l) t = (tt, apart-new h c l t)
 
 -- ---- the queue
 
-joined : (n : ℕ) (p : Pool) (ds : List (Option Domain)) (q : Queue) (u : Update) → QueueSound n p ds q → length (q .items) < n → QueuedLive p ds u → Each (Apart u) (q .items) → UpdateWords u → QueueSound n p ds (record { first = q .first; items = q .items ++ (u ∷ []) })
+joined : (n : ℕ) (p : Pool) (ds : List (Option Domain)) (q : Queue) (u : Update) → QueueSound n p ds q → length (q .items) < n → QueuedLive p ds u → Each (Apart u) (q .items) → UpdateWords u → QueueSound n p ds (record { readPlace = q .readPlace; items = q .items ++ (u ∷ []) })
 joined n p ds q u h l live apart words = record {
   readPlace = h .readPlace;
   fits = omega (arith, length-append (q .items) (u ∷ []));
@@ -70,11 +64,6 @@ joined n p ds q u h l live apart words = record {
   singly = singly-end (q .items) u (h .singly) apart;
   queuedWords = each-end UpdateWords (q .items) u (h .queuedWords) words;
 }
-
-word-at : (l : List ℕ) (i : ℕ) → Each Word l → Word (getD l i 0)
-word-at [] i e = lit< tt
-word-at (x ∷ l) zero e = e .0
-word-at (x ∷ l) (suc i) e = word-at l i (e .1)
 
 -- only the queue changes
 abbrev pub SameBut : State → State → Type 0
@@ -93,7 +82,7 @@ module _ (own man : Shares) (s : State) (h : Held own man s) where
 
   pub permission-held : (d : ℕ) (x : Domain) → In (s .domains) d x → All (λ t. Held own man t × SameBut s t) (pushPermission d s)
   unfolding pushPermission
-  permission-held d x e = branch-on (any (isPermissionOf (handleOf (s .domainPool) d)) (s .queue .items)) (λ t. accepted (h, (s .queue, refl))) (λ t.
+  permission-held d x e = branch-on (exists (isPermissionOf (handleOf (s .domainPool) d)) (s .queue .items)) (λ t. accepted (h, (s .queue, refl))) (λ t.
       let small = leb→le (s .sizes .domains) 32 (search (and-l, and-r)) in
       let low : d < 32 = omega (arith, h .domainsLength, in-length (s .domains) d x e) in
       push-held (permission (handleOf (s .domainPool) d) (domainAt s d .cores)) (handle-live (s .domainPool) (s .domains) d x e) (apart-new (handleOf (s .domainPool) d) (domainAt s d .cores) (s .queue .items) t)

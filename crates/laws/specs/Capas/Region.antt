@@ -1,4 +1,4 @@
--- The table of regions changes, and the lists stay. A region is written in place, comes into a free slot, or goes: then its generation rises,
+-- The table of regions changes, and the lists stay. A region is written in place, added in a free slot, or removed: then its generation rises,
 -- so that the handles to it become older.
 use mathlib.Core.Path.{_≡_, refl, sym, ap, subst, _∙_}
 use mathlib.Core.Logic.{_≢_}
@@ -13,29 +13,31 @@ use lib.Dec.{T, eqb, eqb→eq}
 use lib.ListN.{length, getD, set, length-set}
 use lib.Seq.{getD-set-same, getD-set-other}
 use lib.Ieee.Fits.{and-l, and-r, and-i}
-use Rattle.model.specs.Lists.{isSome, count, slotOf, In}
+use borrow.Author.Tests.{eq-eqb}
+use Rattle.base.specs.Options.{none-some}
+use Rattle.model.specs.Lists.{isSome, countIf, atSlot, In}
 use Rattle.model.specs.State.{Handle, Pool, Record, Domain, Region, State, withRegions, putRegion}
 use Rattle.model.specs.Pool.{free, handleOf, isLive}
 use Rattle.model.specs.Tree.{isRootKind}
 use Rattle.model.specs.Counts.{noCounts}
 use Rattle.model.specs.Regions.{freeRegion}
-use Rattle.model.specs.Sound.{PoolSound, LiveOrOlder, HandleFit, inUse, isRegionOf}
+use Rattle.model.specs.Sound.{PoolSound, LiveOrOlder, HandleFit, slotUses, isRegionOf}
 use Rattle.laws.specs.Accepted.{All, accepted, bind, both, and-then}
 use Rattle.laws.specs.Answers.{answer}
-use Rattle.laws.specs.Cases.{eqb-t}
 use Rattle.laws.specs.Tracker.Pools.{Moved, free-moves}
-use Rattle.laws.specs.Tree.Slots.{none-some, in-length, is-live, live-is}
-use Rattle.laws.specs.Capas.Slots.{this, that, was, used-same, taken-alive, Next, next-slot, once-take, once-give, once-same, count-none}
+use Rattle.laws.specs.Tree.Slots.{in-length, is-live, live-is}
+use Rattle.laws.specs.Capas.Slots.{this, that, was, used-same, Next, next-slot, once-take, once-give, once-same, count-none}
 use Rattle.laws.specs.Capas.Live.{not-region, live-handle, live-onward, live-fits, older-fits, fits-onward, no-handle, MayRevoke, list-onward}
 use Rattle.laws.specs.Capas.Held.{Shares, Held}
+use Rattle.laws.specs.Keep.Slots.{taken-alive}
 
 -- ---- any change of the table
 
 module _ (own own′ man : Shares) (s : State) (h : Held own man s) (rp : Pool) (rs : List (Option Region))
     (size : length rs ≡ length (s .regions))
-    (pool : PoolSound (s .sizes .regions) (inUse rs) rp)
-    (owners : (j : ℕ) (g : Region) → In rs j g → T (isSome (slotOf (s .domains) (g .owner))))
-    (slots : (j : ℕ) (g : Region) → In rs j g → (d : ℕ) (x : Domain) → In (s .domains) d x → count (isRegionOf (handleOf rp j)) (x .locals .held) ≡ own′ j d)
+    (pool : PoolSound (s .sizes .regions) (slotUses rs) rp)
+    (owners : (j : ℕ) (g : Region) → In rs j g → T (isSome (atSlot (s .domains) (g .owner))))
+    (slots : (j : ℕ) (g : Region) → In rs j g → (d : ℕ) (x : Domain) → In (s .domains) d x → countIf (isRegionOf (handleOf rp j)) (x .locals .held) ≡ own′ j d)
     (fits : (k : Handle) → LiveOrOlder (s .regionPool) (s .regions) k → LiveOrOlder rp rs k)
     (revokes : (k : Handle) → LiveOrOlder (s .regionPool) (s .regions) k → MayRevoke (s .regionPool) (s .regions) k → MayRevoke rp rs k) where
   regions-held : Held own′ man (withRegions rp rs s)
@@ -56,8 +58,8 @@ module _ (own own′ man : Shares) (s : State) (h : Held own man s) (rp : Pool) 
   }
 
 -- a handle whose slot is in use is live where its generation is the slot's
-live-there : {A : Type 0} (p : Pool) (l : List (Option A)) (k : Handle) (x : A) → In l (k .slot) x → T (eqb (getD (p .gens) (k .slot) 0) (k .gen)) → T (isLive p l k)
-live-there p l k x e t = and-i (isSome (slotOf l (k .slot))) (eqb (getD (p .gens) (k .slot) 0) (k .gen)) (is-live (slotOf l (k .slot)) x e) t
+live-there : {A : Type 0} (p : Pool) (l : List (Option A)) (k : Handle) (x : A) → In l (k .slot) x → T (eqb (getD (p .gens) (k .slot) 0) (k .generation)) → T (isLive p l k)
+live-there p l k x e t = and-i (isSome (atSlot l (k .slot))) (eqb (getD (p .gens) (k .slot) 0) (k .generation)) (is-live (atSlot l (k .slot)) x e) t
 
 -- ---- a region written in place, of the same kind: its owner and its child list may change
 
@@ -68,7 +70,7 @@ module _ (own man : Shares) (s : State) (h : Held own man s) (i : ℕ) (g r : Re
   low : i < length (s .regions)
   low = in-length (s .regions) i g e
 
-  alive : (k : ℕ) → isSome (slotOf put k) ≡ isSome (slotOf (s .regions) k)
+  alive : (k : ℕ) → isSome (atSlot put k) ≡ isSome (atSlot (s .regions) k)
   alive = used-same (s .regions) i low (some r) (ap isSome e)
 
   live-put : (k : Handle) → T (isLive (s .regionPool) (s .regions) k) → T (isLive (s .regionPool) put k)
@@ -77,10 +79,10 @@ module _ (own man : Shares) (s : State) (h : Held own man s) (i : ℕ) (g r : Re
   put-live : (k : Handle) → T (isLive (s .regionPool) put k) → T (isLive (s .regionPool) (s .regions) k)
   put-live k t = live-onward (s .regionPool) put (s .regions) (λ j u. subst T (alive j) u) k t
 
-  pub write-region : r .kind ≡ g .kind → T (isSome (slotOf (s .domains) (r .owner))) → Held own man (putRegion i r s)
+  pub write-region : r .kind ≡ g .kind → T (isSome (atSlot (s .domains) (r .owner))) → Held own man (putRegion i r s)
   write-region q live = regions-held own own man s h (s .regionPool) put (length-set (s .regions) i (some r))
       (record { gensLength = h .regionPool .gensLength; gensWords = h .regionPool .gensWords; once = once-same (s .sizes .regions) (s .regions) (h .regionsLength) i (s .regionPool .free) g r e (h .regionPool .once) })
-      (λ j v f. elim (was (s .regions) i r low j v f) [ this o p ↦ subst (λ (w : Region). T (isSome (slotOf (s .domains) (w .owner)))) p live | that o w ↦ h .ownerLive j v w ])
+      (λ j v f. elim (was (s .regions) i r low j v f) [ this o p ↦ subst (λ (w : Region). T (isSome (atSlot (s .domains) (w .owner)))) p live | that o w ↦ h .ownerLive j v w ])
       (λ j v f. elim (was (s .regions) i r low j v f) [ this o p ↦ rw o (h .regionSlots i g e) | that o w ↦ h .regionSlots j v w ])
       (fits-onward (s .regionPool) (s .regionPool) (s .regions) put (λ k t. live-fits (s .regionPool) put k (live-put k t)) (λ j. le-refl _))
       (λ k t u v f l. elim (was (s .regions) i r low (k .slot) v f) [
@@ -88,7 +90,7 @@ module _ (own man : Shares) (s : State) (h : Held own man s) (i : ℕ) (g r : Re
         | that o w ↦ u v w (put-live k l)
       ])
 
--- ---- a region comes into the slot given next
+-- ---- a region is added in the slot given next
 
 abbrev pub grown : ℕ → List ℕ → Region → State → State
 grown i is g s = withRegions (record { gens = s .regionPool .gens; free = is }) (set (s .regions) i (some g)) s
@@ -103,10 +105,10 @@ module _ (own own′ man : Shares) (s : State) (h : Held own man s) (i : ℕ) (i
   pub grow-in : In came i g
   grow-in = getD-set-same (s .regions) i (some g) none (grow-next .low)
 
-  pub grow-held : T (isSome (slotOf (s .domains) (g .owner))) → ((j k : ℕ) → j ≢ i → own j k ≡ own′ j k) → ((k : ℕ) → own′ i k ≡ 0) → Held own′ man (grown i is g s)
+  pub grow-held : T (isSome (atSlot (s .domains) (g .owner))) → ((j k : ℕ) → j ≢ i → own j k ≡ own′ j k) → ((k : ℕ) → own′ i k ≡ 0) → Held own′ man (grown i is g s)
   grow-held live else new = regions-held own own′ man s h (record { gens = s .regionPool .gens; free = is }) came (length-set (s .regions) i (some g))
       (record { gensLength = h .regionPool .gensLength; gensWords = h .regionPool .gensWords; once = once-take (s .sizes .regions) (s .regions) (h .regionsLength) i is g (grow-next .once) })
-      (λ j v f. elim (was (s .regions) i g (grow-next .low) j v f) [ this o p ↦ subst (λ (w : Region). T (isSome (slotOf (s .domains) (w .owner)))) p live | that o w ↦ h .ownerLive j v w ])
+      (λ j v f. elim (was (s .regions) i g (grow-next .low) j v f) [ this o p ↦ subst (λ (w : Region). T (isSome (atSlot (s .domains) (w .owner)))) p live | that o w ↦ h .ownerLive j v w ])
       (λ j v f d x e. elim (was (s .regions) i g (grow-next .low) j v f) [
         | this o p ↦ rw o (count-none (HandleFit (s .regionPool) (s .regions) (s .domainPool) (s .domains)) _ (x .locals .held) (not-region (HandleFit (s .regionPool) (s .regions) (s .domainPool) (s .domains)) (handleOf (s .regionPool) i) (no-handle (s .regionPool) (s .regions) i (grow-next .wasFree))) (h .lists d x e .handlesFit) ∙ sym (new d))
         | that o w ↦ h .regionSlots j v w d x e ∙ else j d o
@@ -117,7 +119,7 @@ module _ (own own′ man : Shares) (s : State) (h : Held own man s) (i : ℕ) (i
         | that o w ↦ u v w (live-there (s .regionPool) (s .regions) k v w (search and-r))
       ])
 
--- ---- a region goes
+-- ---- a region is removed
 
 abbrev freedPool : ℕ → Pool → Pool
 freedPool i p = record { gens = set (p .gens) i (suc (getD (p .gens) i 0)); free = i ∷ p .free }
@@ -142,7 +144,7 @@ module _ (own man : Shares) (s : State) (h : Held own man s) (i : ℕ) (g : Regi
 
   -- whoever is live now is in another slot, and as it was
   apart : (j : ℕ) (v : Region) → In went j v → j ≢ i
-  apart j v f o = none-some (slotOf went i) v (getD-set-same (s .regions) i none none (in-length (s .regions) i g e)) (rw o at f)
+  apart j v f o = none-some (atSlot went i) v (getD-set-same (s .regions) i none none (in-length (s .regions) i g e)) (rw o at f)
 
   still : (j : ℕ) (v : Region) → In went j v → In (s .regions) j v
   still j v f = sym (getD-set-other (s .regions) i j none none (apart j v f)) ∙ f
@@ -151,21 +153,21 @@ module _ (own man : Shares) (s : State) (h : Held own man s) (i : ℕ) (g : Regi
   same-gen j o = getD-set-other (s .regionPool .gens) i j (suc (getD (s .regionPool .gens) i 0)) 0 o
 
   same-handle : (j : ℕ) → j ≢ i → handleOf after j ≡ handleOf (s .regionPool) j
-  same-handle j o = ap (λ n. record { slot = j; gen = n }) (same-gen j o)
+  same-handle j o = ap (λ n. record { slot = j; generation = n }) (same-gen j o)
 
   live-or-older : (k : Handle) → T (isLive (s .regionPool) (s .regions) k) → LiveOrOlder after went k
-  live-or-older k t = let u = eqb→eq (getD (s .regionPool .gens) (k .slot) 0) (k .gen) (search and-r) in elim (ℕ-discrete (k .slot) i) [
+  live-or-older k t = let u = eqb→eq (getD (s .regionPool .gens) (k .slot) 0) (k .generation) (search and-r) in elim (ℕ-discrete (k .slot) i) [
     | yes o ↦ older-fits after went k (omega (arith, ap (λ n. getD (after .gens) n 0) o, ap (λ n. getD (s .regionPool .gens) n 0) o, getD-set-same (s .regionPool .gens) i (suc (getD (s .regionPool .gens) i 0)) 0 low-gen))
-    | no o ↦ let (v, f) = live-is (slotOf (s .regions) (k .slot)) (search and-l) in live-fits after went k (live-there after went k v (getD-set-other (s .regions) i (k .slot) none none o ∙ f) (rw (eqb-t _ _ (same-gen (k .slot) o ∙ u)) tt))
+    | no o ↦ let (v, f) = live-is (atSlot (s .regions) (k .slot)) (search and-l) in live-fits after went k (live-there after went k v (getD-set-other (s .regions) i (k .slot) none none o ∙ f) (rw (eq-eqb _ _ (same-gen (k .slot) o ∙ u)) tt))
   ]
 
   gone-held : Held own man (withRegions after went s)
   gone-held = regions-held own own man s h after went (length-set (s .regions) i none)
       (record { gensLength = moved .gensLength ∙ h .regionPool .gensLength; gensWords = moved .gensWords (h .regionPool .gensWords); once = once-give (s .sizes .regions) (s .regions) (h .regionsLength) i (s .regionPool .free) g e (h .regionPool .once) })
       (λ j v f. h .ownerLive j v (still j v f))
-      (λ j v f d x n. ap (λ k. count (isRegionOf k) (x .locals .held)) (same-handle j (apart j v f)) ∙ h .regionSlots j v (still j v f) d x n)
+      (λ j v f d x n. ap (λ k. countIf (isRegionOf k) (x .locals .held)) (same-handle j (apart j v f)) ∙ h .regionSlots j v (still j v f) d x n)
       (fits-onward (s .regionPool) after (s .regions) went live-or-older (moved .gensRise))
-      (λ k t u v f l. u v (still (k .slot) v f) (live-there (s .regionPool) (s .regions) k v (still (k .slot) v f) (subst (λ n. T (eqb n (k .gen))) (same-gen (k .slot) (apart (k .slot) v f)) (search and-r))))
+      (λ k t u v f l. u v (still (k .slot) v f) (live-there (s .regionPool) (s .regions) k v (still (k .slot) v f) (subst (λ n. T (eqb n (k .generation))) (same-gen (k .slot) (apart (k .slot) v f)) (search and-r))))
 
 -- The generation rises: handles to the region become older, and no region that is live is named by them.
 pub free-held : (own man : Shares) (s : State) → Held own man s → (i : ℕ) (g : Region) → In (s .regions) i g → All (Held own man) (freeRegion i s)

@@ -7,36 +7,36 @@ use mathlib.Core.Option.{Option, none, some}
 use mathlib.Core.List.{List}
 use lib.Dec.{T, eqb}
 use lib.Seq.{getD-set-same}
-use Rattle.model.specs.Lists.{oneIf, isSome, slotOf, In}
+use Rattle.model.specs.Lists.{oneIf, isSome, atSlot, In}
 use Rattle.model.specs.Outcome.{_>>=_}
 use Rattle.model.specs.State.{Handle, Capa, noCapa, region, regionRevoke, management, channel, LocalList, Domain, Region, State, withLocals, withOwner, putRegion, domainAt}
 use Rattle.model.specs.Pool.{handleOf}
 use Rattle.model.specs.Locals.{freeLocal, insertCapa, removeCapa}
-use Rattle.model.specs.Tree.{effectiveRegions}
+use Rattle.model.specs.Tree.{effectiveRanges}
 use Rattle.model.specs.Regions.{sendRanges, sendRegion}
 use Rattle.model.specs.Calls.{sendCapa, send}
 use Rattle.model.specs.Sound.{LiveOrOlder, RevokeFit, HandleFit, isRegionOf, isManagementOf}
 use native.Mathlib.Nat.{le-refl}
 use Rattle.laws.specs.Accepted.{All, refused, bind, bind-any, weaken}
 use Rattle.laws.specs.Tree.Slots.{in-length, is-live}
-use Rattle.laws.specs.Tree.Steps.{region-at}
+use Rattle.laws.specs.Tree.Steps.{region-at, domain-at}
 use Rattle.laws.specs.Capas.Slots.{this, that, was, each-slot}
 use Rattle.laws.specs.Capas.Live.{handle-live, live-fits, fits-onward, handle-onward}
-use Rattle.laws.specs.Capas.Held.{Shares, Held, ownedBy, managedBy, CapasSound, domain-at}
-use Rattle.laws.specs.Capas.Domain.{Stay, stay-then, settle, settle-same, forth, back}
+use Rattle.laws.specs.Capas.Held.{Shares, Held, ownedBy, managedBy, CapasSound}
+use Rattle.laws.specs.Capas.Domain.{SameManagers, same-managers-then, held-capas, same-held-capas, forth, back}
 use Rattle.laws.specs.Capas.Change.{relist, relist-live, capacity, Plus, remove-held, insert-held}
-use Rattle.laws.specs.Capas.Looks.{live-domain, capa-at, live-region, held-owner}
+use Rattle.laws.specs.Capas.Checks.{live-domain, capa-at, live-region, held-owner}
 use Rattle.laws.specs.Capas.Listed.{remove-is, remove-listed, inserted-listed, plus-none}
 use Rattle.laws.specs.Capas.Region.{write-region}
 use Rattle.laws.specs.Capas.Walks.{Walked, ranges-held}
-use Rattle.laws.specs.Capas.Grant.{but, but-here, but-else, with, with-one, with-else, region-plus}
-use Rattle.laws.specs.Capas.Create.{room-capas, room-in}
+use Rattle.laws.specs.Capas.NewRegion.{sharesWithout, without-here, without-else, sharesWith, with-here, with-elsewhere, region-plus}
+use Rattle.laws.specs.Capas.Room.{room-capas, room-in}
 
 -- ---- a slot moves from list d to list `to`
 
 -- The lists changed, and nothing else.
 abbrev Relisted : State → State → Type 0
-Relisted s t = Stay (t .domains) (s .domains) × (t .regions ≡ s .regions)
+Relisted s t = SameManagers (t .domains) (s .domains) × (t .regions ≡ s .regions)
 
 module _ (own man : Shares) (s : State) (h : Held own man s) (d to l : ℕ) (x y : Domain) (e : In (s .domains) d x) (f : In (s .domains) to y) (c : Capa) (slot : In (x .locals .held) l c) where
   abbrev cut : Domain
@@ -58,7 +58,7 @@ module _ (own man : Shares) (s : State) (h : Held own man s) (d to l : ℕ) (x y
       let rest = remove-listed s d l x e in
       weaken (insert-held own₀ man u (remove-held own man s h d x e own₀ man c l slot p) to w there own′ man c revokes fits q) (λ z (n, t).
       let b = inserted-listed u to w c (z .0) (z .1) there n in
-      (t, (stay-then (z .1 .domains) (u .domains) (s .domains) (b .stay) (rest .stay), b .regions ∙ rest .regions)))
+      (t, (same-managers-then (z .1 .domains) (u .domains) (s .domains) (b .managers) (rest .managers), b .regions ∙ rest .regions)))
 
 -- ---- what is sent
 
@@ -70,12 +70,12 @@ record Sent (s : State) (k : Handle) (to : ℕ) (t : State) : Type 0 where
   handle : handleOf (s .regionPool) slot ≡ k
   walked : Walked (ownedBy s) (managedBy s) (putRegion slot (withOwner to sent) s) t
 
-send-region : (s : State) → CapasSound s → (i to : ℕ) (g : Region) → In (s .regions) i g → T (isSome (slotOf (s .domains) to)) → All (Walked (ownedBy s) (managedBy s) (putRegion i (withOwner to g) s)) (sendRegion i to s)
+send-region : (s : State) → CapasSound s → (i to : ℕ) (g : Region) → In (s .regions) i g → T (isSome (atSlot (s .domains) to)) → All (Walked (ownedBy s) (managedBy s) (putRegion i (withOwner to g) s)) (sendRegion i to s)
 unfolding sendRegion
 send-region s h i to g e l =
     let w = putRegion i (withOwner to g) s in
-    subst (λ (v : Region). All (Walked (ownedBy s) (managedBy s) w) (sendRanges (v .owner) to (v .rights) (effectiveRegions s v) (putRegion i (withOwner to v) s))) (sym (region-at s i g e))
-    (ranges-held (ownedBy s) (managedBy s) (g .owner) to (g .rights) (effectiveRegions s g) w (write-region (ownedBy s) (managedBy s) s h i g (withOwner to g) e refl l) (h .ownerLive i g e) l)
+    subst (λ (v : Region). All (Walked (ownedBy s) (managedBy s) w) (sendRanges (v .owner) to (v .rights) (effectiveRanges s v) (putRegion i (withOwner to v) s))) (sym (region-at s i g e))
+    (ranges-held (ownedBy s) (managedBy s) (g .owner) to (g .rights) (effectiveRanges s g) w (write-region (ownedBy s) (managedBy s) s h i g (withOwner to g) e refl l) (h .ownerLive i g e) l)
 
 module _ (s : State) (h : CapasSound s) (d to l : ℕ) (x y : Domain) (e : In (s .domains) d x) (f : In (s .domains) to y) where
   abbrev own : Shares
@@ -87,7 +87,7 @@ module _ (s : State) (h : CapasSound s) (d to l : ℕ) (x y : Domain) (e : In (s
       weaken (move-held own (managedBy s) s h d to l x y e f c u own own (plus-none s d c own (managedBy s) a b) (plus-none (removeCapa d l s) to c own (managedBy s) a b)
       (each-slot (RevokeFit (s .regionPool) (s .regions)) (x .locals .held) l c (h .lists d x e .revokesFit) u)
       (each-slot (HandleFit (s .regionPool) (s .regions) (s .domainPool) (s .domains)) (x .locals .held) l c (h .lists d x e .handlesFit) u))
-      (λ z (t, (stay, same)). settle-same s (z .1) stay same t)
+      (λ z (t, (managers, same)). same-held-capas s (z .1) managers same t)
 
   -- a region's has its new owner's list from then on
   moved : (k : Handle) (t : State) → In (x .locals .held) l (region k) → Sent s k to t → All (λ (z : ℕ × State). CapasSound (z .1)) (insertCapa to (region k) (removeCapa d l t))
@@ -96,28 +96,28 @@ module _ (s : State) (h : CapasSound s) (d to l : ℕ) (x y : Domain) (e : In (s
       let i = n .slot in
       let g = n .sent in
       let w = n .walked in
-      let (x₂, e₂, p₂) = w .steady .forth d x e in
-      let (y₂, f₂, q₂) = w .steady .forth to y f in
+      let (x₂, e₂, p₂) = w .sameLists .forth d x e in
+      let (y₂, f₂, q₂) = w .sameLists .forth to y f in
       let slot₂ : In (x₂ .locals .held) l (region k) = subst (λ (m : LocalList). In (m .held) l (region k)) (sym p₂) u in
       let same : handleOf (t .regionPool) i ≡ k = ap (λ p. handleOf p i) (w .regionPool) ∙ n .handle in
       let u₀ : In (domainAt s d .locals .held) l (region (handleOf (s .regionPool) i)) = subst (λ (v : Domain). In (v .locals .held) l (region (handleOf (s .regionPool) i))) (sym (domain-at s d x e)) (u ∙ ap (λ m. some (region m)) (sym (n .handle))) in
       let mine : g .owner ≡ d = held-owner s d l i x h e (record { region = g; is = n .is; slot = u₀ }) in
       let one : (m : ℕ) → own i m ≡ oneIf (eqb d m) = λ m. ap (λ (v : Region). oneIf (eqb (v .owner) m)) (region-at s i g (n .is)) ∙ ap (λ o. oneIf (eqb o m)) mine in
-      let now : In (t .regions) i (withOwner to g) = ap (λ rs. slotOf rs i) (w .regions) ∙ getD-set-same (s .regions) i (some (withOwner to g)) none (in-length (s .regions) i g (n .is)) in
-      weaken (move-held own (managedBy s) t (w .held) d to l x₂ y₂ e₂ f₂ (region k) slot₂ (but i own) (with i to own)
-      (subst (λ m. Plus t d (region m) (but i own) (managedBy s) own (managedBy s)) same (region-plus t d i (but i own) own (managedBy s) (but-here i own) (but-else i own) one))
-      (subst (λ m. Plus (removeCapa d l t) to (region m) (but i own) (managedBy s) (with i to own) (managedBy s)) same (region-plus (removeCapa d l t) to i (but i own) (with i to own) (managedBy s) (but-here i own) (λ j m o. but-else i own j m o ∙ sym (with-else i to own j m o)) (with-one i to own)))
+      let now : In (t .regions) i (withOwner to g) = ap (λ rs. atSlot rs i) (w .regions) ∙ getD-set-same (s .regions) i (some (withOwner to g)) none (in-length (s .regions) i g (n .is)) in
+      weaken (move-held own (managedBy s) t (w .held) d to l x₂ y₂ e₂ f₂ (region k) slot₂ (sharesWithout i own) (sharesWith i to own)
+      (subst (λ m. Plus t d (region m) (sharesWithout i own) (managedBy s) own (managedBy s)) same (region-plus t d i (sharesWithout i own) own (managedBy s) (without-here i own) (without-else i own) one))
+      (subst (λ m. Plus (removeCapa d l t) to (region m) (sharesWithout i own) (managedBy s) (sharesWith i to own) (managedBy s)) same (region-plus (removeCapa d l t) to i (sharesWithout i own) (sharesWith i to own) (managedBy s) (without-here i own) (λ j m o. without-else i own j m o ∙ sym (with-elsewhere i to own j m o)) (with-here i to own)))
       tt (subst (LiveOrOlder (t .regionPool) (t .regions)) same (live-fits (t .regionPool) (t .regions) (handleOf (t .regionPool) i) (handle-live (t .regionPool) (t .regions) i (withOwner to g) now))))
-      (λ z (b, (stay, rs)). settle (with i to own) s (z .1) (stay-then (z .1 .domains) (t .domains) (s .domains) stay (w .steady .back))
-      (λ j v a m. elim (was (s .regions) i (withOwner to g) (in-length (s .regions) i g (n .is)) j v (ap (λ r. slotOf r j) (sym (w .regions) ∙ sym rs) ∙ a)) [
-        | this o q ↦ rw o (with-one i to own m ∙ ap (λ (r : Region). oneIf (eqb (r .owner) m)) q)
-        | that o q ↦ with-else i to own j m o ∙ ap (λ (r : Region). oneIf (eqb (r .owner) m)) (region-at s j v q)
+      (λ z (b, (managers, rs)). held-capas (sharesWith i to own) s (z .1) (same-managers-then (z .1 .domains) (t .domains) (s .domains) managers (w .sameLists .back))
+      (λ j v a m. elim (was (s .regions) i (withOwner to g) (in-length (s .regions) i g (n .is)) j v (ap (λ r. atSlot r j) (sym (w .regions) ∙ sym rs) ∙ a)) [
+        | this o q ↦ rw o (with-here i to own m ∙ ap (λ (r : Region). oneIf (eqb (r .owner) m)) q)
+        | that o q ↦ with-elsewhere i to own j m o ∙ ap (λ (r : Region). oneIf (eqb (r .owner) m)) (region-at s j v q)
       ]) b)
 
   send-go : (c : Capa) → In (x .locals .held) l c → All (λ (z : ℕ × State). CapasSound (z .1)) (sendCapa c to s >>= λ t. insertCapa to c (removeCapa d l t))
   unfolding sendCapa _>>=_
   send-go noCapa u = plain noCapa u (λ k. refl) (λ k. refl)
-  send-go (region k) u = bind {P = Sent s k to} (bind (live-region s k) (λ i r. weaken (send-region s h i to (r .region) (r .is) (is-live (slotOf (s .domains) to) y f)) (λ t w. record { slot = i; sent = r .region; is = r .is; handle = r .handle; walked = w }))) (λ t n. moved k t u n)
+  send-go (region k) u = bind {P = Sent s k to} (bind (live-region s k) (λ i r. weaken (send-region s h i to (r .region) (r .is) (is-live (atSlot (s .domains) to) y f)) (λ t w. record { slot = i; sent = r .region; is = r .is; handle = r .handle; walked = w }))) (λ t n. moved k t u n)
   send-go (regionRevoke k) u = plain (regionRevoke k) u (λ m. refl) (λ m. refl)
   send-go (management k) u = refused
   send-go (channel k) u = plain (channel k) u (λ m. refl) (λ m. refl)

@@ -2,7 +2,7 @@
 use mathlib.Core.Path.{_≡_, refl, sym, ap, subst, _∙_}
 use Prim.Native.Nat.{ℕ}
 use mathlib.Core.Option.{Option, none, some}
-use Rattle.model.specs.Lists.{isSome, slotOf, In}
+use Rattle.model.specs.Lists.{isSome, atSlot, In}
 use Rattle.model.specs.State.{State, Sizes, Word, Pool, Domain, cleanup}
 use Rattle.model.specs.Updates.{push}
 use Rattle.model.specs.Sound.{Sound}
@@ -10,7 +10,7 @@ use Rattle.laws.specs.Accepted.{All, weaken, both}
 use Rattle.laws.specs.Keep.SameDomains.{untracked, SameDomains, SameOutside, same-domains-turned, same-domains-in, same-domains-live}
 use Rattle.laws.specs.Keep.Tracked.{push-queue}
 use Rattle.laws.specs.Keep.Pools.{Table, table-same}
-use Rattle.laws.specs.Keep.Ring.{Ring, sound-ring, calm-ring, cleanup-ring}
+use Rattle.laws.specs.Keep.Ring.{Ring, sound-ring, queue-kept-ring, cleanup-ring}
 
 abbrev pub RegionTable : State → Type 0
 RegionTable s = Table (s .sizes .regions) (s .regions) (s .regionPool)
@@ -34,7 +34,7 @@ same-domains-cores s t b r d y e =
     subst Word (ap (λ (z : Domain). z .cores) m) (r .cores d x i)
 
 same-domains-ring : (s t : State) → SameDomains s t → t .queue ≡ s .queue → Ring s → Ring t
-same-domains-ring s t b q r = calm-ring s t (record {
+same-domains-ring s t b q r = queue-kept-ring s t (record {
   sizes = b .sizes;
   gens = ap (λ (p : Pool). p .gens) (b .domainPool);
   size = b .size;
@@ -49,7 +49,7 @@ some-untracked (some x) = refl
 
 same-domains-domains : (s t : State) → SameDomains s t → DomainTable s → DomainTable t
 same-domains-domains s t b k =
-    let same : (d : ℕ) → isSome (slotOf (t .domains) d) ≡ isSome (slotOf (s .domains) d) = λ d. sym (some-untracked (slotOf (t .domains) d)) ∙ ap isSome (b .domains d) ∙ some-untracked (slotOf (s .domains) d) in
+    let same : (d : ℕ) → isSome (atSlot (t .domains) d) ≡ isSome (atSlot (s .domains) d) = λ d. sym (some-untracked (atSlot (t .domains) d)) ∙ ap isSome (b .domains d) ∙ some-untracked (atSlot (s .domains) d) in
     subst (λ (p : Pool). Table (t .sizes .domains) (t .domains) p) (sym (b .domainPool)) (subst (λ (z : Sizes). Table (z .domains) (t .domains) (s .domainPool)) (sym (b .sizes)) (table-same (s .sizes .domains) (s .domains) (t .domains) (s .domainPool) (b .size) same k))
 
 pub same-domains-base : (s t : State) → SameDomains s t → t .queue ≡ s .queue → RegionTable t → Base s → Base t

@@ -6,13 +6,13 @@ use mathlib.Core.Option.{Option, none, some}
 use mathlib.Core.List.{List, []}
 use native.Mathlib.Nat.{le-refl}
 use lib.Dec.{T, eqb}
-use Rattle.model.specs.Lists.{oneIf, isSome, count, slotOf, In}
+use Rattle.model.specs.Lists.{oneIf, isSome, countIf, atSlot, In}
 use Rattle.model.specs.State.{Word, Sizes, Handle, Pool, Domain, Queue, State, withTracker}
 use Rattle.model.specs.Pool.{handleOf}
 use Rattle.model.specs.Sound.{Sound, OutsideSound, TrackersSound, QueueSound, ManagerSound, ListSound, LiveOrOlder, names, isRegionOf, isManagementOf}
 use Rattle.laws.specs.Keep.SameDomains.{untracked, SameDomains, SameOutside, same-domains-turned, same-domains-in, same-domains-live}
 use Rattle.laws.specs.Capas.Live.{live-onward, live-fits, fits-onward, list-onward, queue-onward}
-use Rattle.laws.specs.Capas.Domain.{Stay, managed-onward}
+use Rattle.laws.specs.Capas.Domain.{SameManagers, managed-onward}
 
 -- s with other domains, record pool and queue
 abbrev moved : State → List (Option Domain) → Pool → Queue → State
@@ -33,14 +33,14 @@ module _ (s : State) (ds : List (Option Domain)) (p : Pool) (q : Queue) (b : Sam
   was : (d : ℕ) (y : Domain) → In ds d y → (x : Domain) × In (s .domains) d x × (withTracker [] x ≡ withTracker [] y)
   was d y f = same-domains-in (same-domains-turned b) d y f
 
-  alive : (k : ℕ) → T (isSome (slotOf (s .domains) k)) → T (isSome (slotOf ds k))
+  alive : (k : ℕ) → T (isSome (atSlot (s .domains) k)) → T (isSome (atSlot ds k))
   alive = same-domains-live b
 
   fits : (k : Handle) → LiveOrOlder (s .domainPool) (s .domains) k → LiveOrOlder (s .domainPool) ds k
   fits = fits-onward (s .domainPool) (s .domainPool) (s .domains) ds (λ k l. live-fits (s .domainPool) ds k (live-onward (s .domainPool) (s .domains) ds alive k l)) (λ i. le-refl _)
 
-  stay : Stay (s .domains) ds
-  stay k x e = let (y, i, r) = same-domains-in b k x e in (y, i, ap (λ (z : Domain). z .manager) r)
+  managers : SameManagers (s .domains) ds
+  managers k x e = let (y, i, r) = same-domains-in b k x e in (y, i, ap (λ (z : Domain). z .manager) r)
 
   manager : (d : ℕ) (y : Domain) → In ds d y → ManagerSound (s .domainPool) ds d y
   manager d y f =
@@ -49,8 +49,8 @@ module _ (s : State) (ds : List (Option Domain)) (p : Pool) (q : Queue) (b : Sam
       let m = ap (λ (z : Domain). z .manager) r in
       record {
         managerLive = λ n g. alive n (k .managerLive n (m ∙ g));
-        oneManagement = λ c z g. let (w, i, u) = was c z g in ap (λ (o : Domain). count (isManagementOf (handleOf (s .domainPool) d)) (o .locals .held)) (sym u) ∙ k .oneManagement c w i ∙ ap (λ o. oneIf (names o c)) m;
-        managed = managed-onward (s .domains) ds stay d (k .managed);
+        oneManagement = λ c z g. let (w, i, u) = was c z g in ap (λ (o : Domain). countIf (isManagementOf (handleOf (s .domainPool) d)) (o .locals .held)) (sym u) ∙ k .oneManagement c w i ∙ ap (λ o. oneIf (names o c)) m;
+        managed = managed-onward (s .domains) ds managers d (k .managed);
       }
 
   pub moved-sound : OutsideSound t
@@ -61,13 +61,13 @@ module _ (s : State) (ds : List (Option Domain)) (p : Pool) (q : Queue) (b : Sam
     domainPool = record {
       gensLength = h .domainPool .gensLength;
       gensWords = h .domainPool .gensWords;
-      once = λ i. ap (λ n. n + count (eqb i) (s .domainPool .free)) (used (slotOf ds i) (slotOf (s .domains) i) (b .domains i)) ∙ h .domainPool .once i;
+      once = λ i. ap (λ n. n + countIf (eqb i) (s .domainPool .free)) (used (atSlot ds i) (atSlot (s .domains) i) (b .domains i)) ∙ h .domainPool .once i;
     };
     regionPool = h .regionPool;
     regions = h .regions;
     owners = λ i g e. let o = h .owners i g e in record {
       ownerLive = alive (g .owner) (o .ownerLive);
-      oneSlot = λ d y f. let (x, k, r) = was d y f in ap (λ (z : Domain). count (isRegionOf (handleOf (s .regionPool) i)) (z .locals .held)) (sym r) ∙ o .oneSlot d x k;
+      oneSlot = λ d y f. let (x, k, r) = was d y f in ap (λ (z : Domain). countIf (isRegionOf (handleOf (s .regionPool) i)) (z .locals .held)) (sym r) ∙ o .oneSlot d x k;
     };
     managers = manager;
     lists = λ d y f. let (x, e, r) = was d y f in subst (ListSound (s .sizes .slots) (s .regionPool) (s .regions) (s .domainPool) ds) (ap (λ (z : Domain). z .locals) r) (list-onward (s .regionPool) (s .regionPool) (s .regions) (s .regions) (s .domainPool) (s .domainPool) (s .domains) ds (λ k l. l) (λ k l m. m) fits (s .sizes .slots) (x .locals) (h .lists d x e));

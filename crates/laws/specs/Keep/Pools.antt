@@ -9,32 +9,32 @@ use native.Mathlib.Decide.{ℕ-discrete}
 use lib.Dec.{eqb}
 use lib.ListN.{length, set, length-set}
 use lib.Seq.{getD-set-same, getD-set-other}
-use Rattle.model.specs.Lists.{oneIf, count, isSome, slotOf, In, Each}
-use Rattle.model.specs.Outcome.{Refusal}
+use borrow.Author.Tests.{eq-eqb, ne-eqb}
+use Rattle.model.specs.Lists.{oneIf, countIf, isSome, atSlot, In, Each}
+use Rattle.refusals.specs.declared.Refusal.{Refusal}
 use Rattle.model.specs.State.{Word, Pool}
 use Rattle.model.specs.Pool.{allocate, free}
 use Rattle.model.specs.Counts.{noCounts}
-use Rattle.model.specs.Sound.{PoolSound, inUse}
+use Rattle.model.specs.Sound.{PoolSound, slotUses}
 use Rattle.laws.specs.Accepted.{All, accepted, refused, weaken, both}
 use Rattle.laws.specs.Answers.{answer}
-use Rattle.laws.specs.Cases.{eqb-t, eqb-f}
 use Rattle.laws.specs.Tracker.Pools.{free-moves}
 use Rattle.laws.specs.Keep.Locals.{allocate-free}
 
 -- a table of n slots and its pool
 pub record Table {A : Type 0} (n : ℕ) (l : List (Option A)) (p : Pool) : Type 0 where
   pub size : length l ≡ n
-  pub pool : PoolSound n (inUse l) p
+  pub pool : PoolSound n (slotUses l) p
 
 module _ {A : Type 0} (l : List (Option A)) (i : ℕ) (low : i < length l) where
-  use-here : (o : Option A) → inUse (set l i o) i ≡ oneIf (isSome o)
+  use-here : (o : Option A) → slotUses (set l i o) i ≡ oneIf (isSome o)
   use-here o = ap (λ (z : Option A). oneIf (isSome z)) (getD-set-same l i o none low)
 
-  use-there : (o : Option A) (k : ℕ) → k ≢ i → inUse (set l i o) k ≡ inUse l k
+  use-there : (o : Option A) (k : ℕ) → k ≢ i → slotUses (set l i o) k ≡ slotUses l k
   use-there o k m = ap (λ (z : Option A). oneIf (isSome z)) (getD-set-other l i k o none m)
 
 -- the same slots are in use
-pub table-same : {A : Type 0} (n : ℕ) (l m : List (Option A)) (p : Pool) → length m ≡ length l → ((k : ℕ) → isSome (slotOf m k) ≡ isSome (slotOf l k)) → Table n l p → Table n m p
+pub table-same : {A : Type 0} (n : ℕ) (l m : List (Option A)) (p : Pool) → length m ≡ length l → ((k : ℕ) → isSome (atSlot m k) ≡ isSome (atSlot l k)) → Table n l p → Table n m p
 table-same n l m p z e t = record {
   size = z ∙ t .size;
   pool = record { gensLength = t .pool .gensLength; gensWords = t .pool .gensWords; once = λ k. omega (arith, t .pool .once k, ap oneIf (e k)) };
@@ -48,7 +48,7 @@ module _ {A : Type 0} (n : ℕ) (l : List (Option A)) (p : Pool) (t : Table n l 
     | no m ↦ ap isSome (getD-set-other l i k (some y) none m)
   ]) t
 
-  taken : (r : Refusal) (gs fs : List ℕ) → All (λ (x : ℕ × Pool). (x .1 .gens ≡ gs) × ((k : ℕ) → oneIf (eqb k (x .0)) + count (eqb k) (x .1 .free) ≡ count (eqb k) fs)) (allocate r (record { gens = gs; free = fs }))
+  taken : (r : Refusal) (gs fs : List ℕ) → All (λ (x : ℕ × Pool). (x .1 .gens ≡ gs) × ((k : ℕ) → oneIf (eqb k (x .0)) + countIf (eqb k) (x .1 .free) ≡ countIf (eqb k) fs)) (allocate r (record { gens = gs; free = fs }))
   unfolding allocate
   taken r gs [] = refused
   taken r gs (i ∷ is) = accepted (refl, λ k. refl)
@@ -61,8 +61,8 @@ module _ {A : Type 0} (n : ℕ) (l : List (Option A)) (p : Pool) (t : Table n l 
       gensLength = ap length g ∙ t .pool .gensLength;
       gensWords = subst (Each Word) (sym g) (t .pool .gensWords);
       once = λ k. elim (ℕ-discrete k i) [
-        | yes m ↦ rw m (omega (arith, t .pool .once i, c i, use-here l i low (some y), ap (λ (z : Option A). oneIf (isSome z)) vacant, ap oneIf (eqb-t i i refl)))
-        | no m ↦ omega (arith, t .pool .once k, c k, use-there l i low (some y) k m, ap oneIf (eqb-f k i m))
+        | yes m ↦ rw m (omega (arith, t .pool .once i, c i, use-here l i low (some y), ap (λ (z : Option A). oneIf (isSome z)) vacant, ap oneIf (eq-eqb i i refl)))
+        | no m ↦ omega (arith, t .pool .once k, c k, use-there l i low (some y) k m, ap oneIf (ne-eqb k i m))
       ];
     };
   })
@@ -75,8 +75,8 @@ module _ {A : Type 0} (n : ℕ) (l : List (Option A)) (p : Pool) (t : Table n l 
       gensLength = m .gensLength ∙ t .pool .gensLength;
       gensWords = m .gensWords (t .pool .gensWords);
       once = λ k. elim (ℕ-discrete k i) [
-        | yes v ↦ rw v (omega (arith, t .pool .once i, m .slots i, use-here l i low none, ap (λ (z : Option A). oneIf (isSome z)) e, ap oneIf (eqb-t i i refl)))
-        | no v ↦ omega (arith, t .pool .once k, m .slots k, use-there l i low none k v, ap oneIf (eqb-f k i v))
+        | yes v ↦ rw v (omega (arith, t .pool .once i, m .slots i, use-here l i low none, ap (λ (z : Option A). oneIf (isSome z)) e, ap oneIf (eq-eqb i i refl)))
+        | no v ↦ omega (arith, t .pool .once k, m .slots k, use-there l i low none k v, ap oneIf (ne-eqb k i v))
       ];
     };
   })

@@ -4,9 +4,11 @@ use mathlib.Core.Logic.{_⊎_, inl, inr}
 use Prim.Native.Nat.{ℕ, zero, suc}
 use mathlib.Core.List.{List, [], _∷_}
 use lib.Dec.{eqb}
-use Rattle.model.specs.Lists.{any}
+use Rattle.model.specs.Lists.{exists}
 use Rattle.rights.specs.Rights.{has, CLEANUP}
-use Rattle.model.specs.Outcome.{Outcome, ok, refuse, _>>=_, Refusal, noRegion, noTracker, ringFull, spent}
+use Rattle.model.specs.Outcome.{Outcome, ok, refuse, _>>=_}
+use Rattle.refusals.specs.declared.Refusal.{Refusal}
+use Rattle.refusals.specs.Refusals.{noRegion, noTracker, ringFull, spent}
 use Rattle.model.specs.State.{State, Region, Kind, Root, Alias, Carve, Access, Update, regionAt}
 use Rattle.model.specs.Pool.{allocate, free, handleOf}
 use Rattle.model.specs.Updates.{push, pushPermission, isPermissionOf}
@@ -42,7 +44,7 @@ push-stops u s = gives-checked _ _ (inr (inr refl)) (λ t. gives tt)
 
 permission-stops : (d : ℕ) (s : State) → MayStop (pushPermission d s)
 unfolding pushPermission
-permission-stops d s = gives-branch (any (isPermissionOf (handleOf (s .domainPool) d)) (s .queue .items)) (gives tt) (push-stops _ s)
+permission-stops d s = gives-branch (exists (isPermissionOf (handleOf (s .domainPool) d)) (s .queue .items)) (gives tt) (push-stops _ s)
 
 -- ---- trackers
 

@@ -1,25 +1,27 @@
 -- The update ring through the steps on trackers. Invariant: the ring is sound, and so is what a newly queued domain is queued with: its slot number,
 -- generation and core map are words. An update joins only where the ring has room, and a domain only where it is not queued already.
 use mathlib.Core.Path.{_≡_, refl, sym, ap, ap₂, subst, _∙_}
-use Prim.Native.Nat.{ℕ, zero, suc, _+_, _≤_, _<_}
+use Prim.Native.Nat.{ℕ, _≤_, _<_}
 use mathlib.Core.Bool.{Bool, not, _&&_}
 use mathlib.Core.List.{List, [], _∷_, _++_}
 use native.Mathlib.Omega.{arith}
 use native.Mathlib.Decide.{ℕ-discrete}
-use lib.Dec.{T, eqb, leb, ltb, leb→le, ltb→lt, eqb-refl, lit<, T-not}
+use lib.Dec.{T, eqb, leb, ltb, leb→le, ltb→lt, eqb-refl, T-not}
 use lib.Ieee.Fits.{and-l, and-r, and-i}
 use lib.ListN.{length, getD, length-append}
-use Rattle.model.specs.Lists.{oneIf, any, count, Each, isSome, slotOf, In}
+use borrow.Author.Tests.{lt-ltb, eq-eqb, ne-eqb}
+use Rattle.base.specs.Cases.{lt, ge, cmp}
+use Rattle.model.specs.Lists.{oneIf, exists, countIf, Each, isSome, atSlot, In}
 use Rattle.model.specs.State.{State, Sizes, Word, Handle, Domain, Update, permission, cleanup, Queue, domainAt}
 use Rattle.model.specs.Pool.{handleOf, sameHandle}
 use Rattle.model.specs.Updates.{push, pushPermission, isPermissionOf}
 use Rattle.model.specs.Making.{goodSizes}
 use Rattle.model.specs.Sound.{Sound, QueueSound, QueuedLive, Singly, UpdateWords}
 use Rattle.laws.specs.Accepted.{All, accepted, checked, branch-on}
-use Rattle.laws.specs.Cases.{lt, ge, cmp, ltb-t, eqb-t, eqb-f}
 use Rattle.laws.specs.Stack.{any-count}
 use Rattle.laws.specs.Tree.Slots.{in-length, is-live}
-use Rattle.laws.specs.Keep.Tracked.{domain-at}
+use Rattle.laws.specs.Lists.{word-at, each-weaken, count-end, each-end}
+use Rattle.laws.specs.Tree.Steps.{domain-at}
 
 pub record Ring (s : State) : Type 0 where
   pub queue : QueueSound (s .sizes .updates) (s .domainPool) (s .domains) (s .queue)
@@ -36,28 +38,16 @@ sound-ring s h = record { queue = h .queue; cores = h .outside .coresWords; gens
 
 -- ---- lists with one more at the end
 
-each-end : {A : Type 0} (P : A → Type 0) (l : List A) (u : A) → Each P l → P u → Each P (l ++ (u ∷ []))
-each-end P [] u h k = (k, tt)
-each-end P (x ∷ l) u h k = (h .0, each-end P l u (h .1) k)
-
-count-end : {A : Type 0} (p : A → Bool) (l : List A) (u : A) → count p (l ++ (u ∷ [])) ≡ count p l + oneIf (p u)
-count-end p [] u = omega arith
-count-end p (x ∷ l) u = omega (arith, count-end p l u)
-
-each-map : {A : Type 0} (P Q : A → Type 0) (l : List A) → ((x : A) → P x → Q x) → Each P l → Each Q l
-each-map P Q [] f h = tt
-each-map P Q (x ∷ l) f h = (f x (h .0), each-map P Q l f (h .1))
-
 -- a cleanup, and a domain that is not queued, may join
 abbrev Fresh : Update → List Update → Type 0
-Fresh (permission h c) l = count (isPermissionOf h) l ≡ 0
+Fresh (permission h c) l = countIf (isPermissionOf h) l ≡ 0
 Fresh (cleanup a b) l = Unit {0}
 
 pub eqb-turned : (m n : ℕ) → eqb m n ≡ eqb n m
-eqb-turned m n = elim (ℕ-discrete m n) [ yes e ↦ eqb-t m n e ∙ sym (eqb-t n m (sym e)) | no e ↦ eqb-f m n e ∙ sym (eqb-f n m (λ q. e (sym q))) ]
+eqb-turned m n = elim (ℕ-discrete m n) [ yes e ↦ eq-eqb m n e ∙ sym (eq-eqb n m (sym e)) | no e ↦ ne-eqb m n e ∙ sym (ne-eqb n m (λ q. e (sym q))) ]
 
 same-turned : (h k : Handle) → sameHandle h k ≡ sameHandle k h
-same-turned h k = ap₂ _&&_ (eqb-turned (h .slot) (k .slot)) (eqb-turned (h .gen) (k .gen))
+same-turned h k = ap₂ _&&_ (eqb-turned (h .slot) (k .slot)) (eqb-turned (h .generation) (k .generation))
 
 singly-end : (l : List Update) (u : Update) → Fresh u l → Singly l → Singly (l ++ (u ∷ []))
 singly-end [] (permission h c) f s = (refl, tt)
@@ -90,24 +80,18 @@ join-ring u s r live fresh words = checked (ltb (length (s .queue .items)) (s .s
 pub cleanup-ring : (a b : ℕ) (s : State) → Ring s → Word a → Word b → All Ring (push (cleanup a b) s)
 cleanup-ring a b s r u v = join-ring (cleanup a b) s r tt tt (u, v)
 
--- a number of a list of words, or 0
-word-in : (l : List ℕ) (i : ℕ) → Each Word l → Word (getD l i 0)
-word-in [] i h = lit< tt
-word-in (x ∷ l) zero h = h .0
-word-in (x ∷ l) (suc i) h = word-in l i (h .1)
-
-none-counted : {A : Type 0} (p : A → Bool) (l : List A) → T (not (any p l)) → count p l ≡ 0
-none-counted p l t = elim (cmp 0 (count p l)) [ lt h ↦ absurd (T-not (any p l) t (rw (any-count p l, ltb-t 0 (count p l) h) tt)) | ge h ↦ omega arith ]
+none-counted : {A : Type 0} (p : A → Bool) (l : List A) → T (not (exists p l)) → countIf p l ≡ 0
+none-counted p l t = elim (cmp 0 (countIf p l)) [ lt h ↦ absurd (T-not (exists p l) t (rw (any-count p l, lt-ltb 0 (countIf p l) h) tt)) | ge h ↦ omega arith ]
 
 pub permission-ring : (d : ℕ) (x : Domain) (s : State) → In (s .domains) d x → Ring s → All Ring (pushPermission d s)
 unfolding pushPermission
 permission-ring d x s e r =
     let h = handleOf (s .domainPool) d in
-    branch-on (any (isPermissionOf h) (s .queue .items)) (λ t. accepted r) (λ t.
+    branch-on (exists (isPermissionOf h) (s .queue .items)) (λ t. accepted r) (λ t.
     join-ring (permission h (domainAt s d .cores)) s r
-    (and-i (isSome (slotOf (s .domains) d)) (eqb (h .gen) (h .gen)) (is-live _ x e) (eqb-refl (h .gen)))
+    (and-i (isSome (atSlot (s .domains) d)) (eqb (h .generation) (h .generation)) (is-live _ x e) (eqb-refl (h .generation)))
     (none-counted (isPermissionOf h) (s .queue .items) t)
-    (small d (omega (arith, in-length (s .domains) d x e, r .slots)), word-in (s .domainPool .gens) d (r .gens), rw (domain-at s d x e) (r .cores d x e)))
+    (small d (omega (arith, in-length (s .domains) d x e, r .slots)), word-at (s .domainPool .gens) d (r .gens), rw (domain-at s d x e) (r .cores d x e)))
   where
     small : (n : ℕ) → n < 32 → Word n
     small n l = omega arith
@@ -115,27 +99,27 @@ permission-ring d x s e r =
 -- ---- steps that leave the queue
 
 -- live domains stay live, with the same generations
-pub record Calm (s t : State) : Type 0 where
+pub record QueueKept (s t : State) : Type 0 where
   pub sizes : t .sizes ≡ s .sizes
   pub gens : t .domainPool .gens ≡ s .domainPool .gens
   pub size : length (t .domains) ≡ length (s .domains)
-  pub live : (d : ℕ) → T (isSome (slotOf (s .domains) d)) → T (isSome (slotOf (t .domains) d))
+  pub live : (d : ℕ) → T (isSome (atSlot (s .domains) d)) → T (isSome (atSlot (t .domains) d))
   pub cores : (d : ℕ) (y : Domain) → In (t .domains) d y → Word (y .cores)
   pub queue : t .queue ≡ s .queue
 
-live-kept : (s t : State) → Calm s t → (u : Update) → QueuedLive (s .domainPool) (s .domains) u → QueuedLive (t .domainPool) (t .domains) u
+live-kept : (s t : State) → QueueKept s t → (u : Update) → QueuedLive (s .domainPool) (s .domains) u → QueuedLive (t .domainPool) (t .domains) u
 live-kept s t c (permission h k) l =
-    and-i (isSome (slotOf (t .domains) (h .slot))) (eqb (getD (t .domainPool .gens) (h .slot) 0) (h .gen))
-    (c .live (h .slot) (and-l (isSome (slotOf (s .domains) (h .slot))) (eqb (getD (s .domainPool .gens) (h .slot) 0) (h .gen)) l))
-    (rw (c .gens) (and-r (isSome (slotOf (s .domains) (h .slot))) (eqb (getD (s .domainPool .gens) (h .slot) 0) (h .gen)) l))
+    and-i (isSome (atSlot (t .domains) (h .slot))) (eqb (getD (t .domainPool .gens) (h .slot) 0) (h .generation))
+    (c .live (h .slot) (and-l (isSome (atSlot (s .domains) (h .slot))) (eqb (getD (s .domainPool .gens) (h .slot) 0) (h .generation)) l))
+    (rw (c .gens) (and-r (isSome (atSlot (s .domains) (h .slot))) (eqb (getD (s .domainPool .gens) (h .slot) 0) (h .generation)) l))
 live-kept s t c (cleanup a b) l = tt
 
-pub calm-ring : (s t : State) → Calm s t → Ring s → Ring t
-calm-ring s t c r = record {
+pub queue-kept-ring : (s t : State) → QueueKept s t → Ring s → Ring t
+queue-kept-ring s t c r = record {
   queue = record {
-    readPlace = omega (arith, r .queue .readPlace, ap (λ (q : Queue). q .first) (c .queue), ap (λ (z : Sizes). z .updates) (c .sizes));
+    readPlace = omega (arith, r .queue .readPlace, ap (λ (q : Queue). q .readPlace) (c .queue), ap (λ (z : Sizes). z .updates) (c .sizes));
     fits = omega (arith, r .queue .fits, ap (λ (q : Queue). length (q .items)) (c .queue), ap (λ (z : Sizes). z .updates) (c .sizes));
-    live = subst (λ (q : Queue). Each (QueuedLive (t .domainPool) (t .domains)) (q .items)) (sym (c .queue)) (each-map _ _ (s .queue .items) (live-kept s t c) (r .queue .live));
+    live = subst (λ (q : Queue). Each (QueuedLive (t .domainPool) (t .domains)) (q .items)) (sym (c .queue)) (each-weaken _ _ (s .queue .items) (live-kept s t c) (r .queue .live));
     singly = subst (λ (q : Queue). Singly (q .items)) (sym (c .queue)) (r .queue .singly);
     queuedWords = subst (λ (q : Queue). Each UpdateWords (q .items)) (sym (c .queue)) (r .queue .queuedWords);
   };

@@ -6,9 +6,10 @@ use mathlib.Core.Option.{Option, none, some}
 use mathlib.Core.List.{[]}
 use lib.Dec.{T}
 use lib.ListN.{length}
-use Rattle.model.specs.Lists.{isSome, slotOf, In}
+use Rattle.base.specs.Options.{none-some}
+use Rattle.model.specs.Lists.{isSome, atSlot, In}
 use Rattle.model.specs.State.{State, Domain, withTracker}
-use Rattle.laws.specs.Tree.Slots.{none-some, live-is, is-live}
+use Rattle.laws.specs.Tree.Slots.{live-is, is-live}
 
 -- a slot's domain without its tracker
 abbrev pub untracked : Option Domain → Option Domain
@@ -20,7 +21,7 @@ pub record SameDomains (s t : State) : Type 0 where
   pub sizes : t .sizes ≡ s .sizes
   pub domainPool : t .domainPool ≡ s .domainPool
   pub size : length (t .domains) ≡ length (s .domains)
-  pub domains : (d : ℕ) → untracked (slotOf (t .domains) d) ≡ untracked (slotOf (s .domains) d)
+  pub domains : (d : ℕ) → untracked (atSlot (t .domains) d) ≡ untracked (atSlot (s .domains) d)
 
 -- and the regions
 pub record SameOutside (s t : State) : Type 0 where
@@ -50,14 +51,14 @@ same-outside-then h k = record { sameDomains = same-domains-then (h .sameDomains
 
 -- a domain that is there is there still, with the same manager, cores and list
 pub same-domains-in : {s t : State} → SameDomains s t → (d : ℕ) (x : Domain) → In (s .domains) d x → (y : Domain) × In (t .domains) d y × (withTracker [] y ≡ withTracker [] x)
-same-domains-in {s} {t} h d x e = go (slotOf (t .domains) d) refl (h .domains d ∙ ap untracked e)
+same-domains-in {s} {t} h d x e = go (atSlot (t .domains) d) refl (h .domains d ∙ ap untracked e)
   where
-    go : (o : Option Domain) → slotOf (t .domains) d ≡ o → untracked o ≡ some (withTracker [] x) → (y : Domain) × In (t .domains) d y × (withTracker [] y ≡ withTracker [] x)
+    go : (o : Option Domain) → atSlot (t .domains) d ≡ o → untracked o ≡ some (withTracker [] x) → (y : Domain) × In (t .domains) d y × (withTracker [] y ≡ withTracker [] x)
     go none q k = absurd (none-some none (withTracker [] x) refl k)
     go (some y) q k = (y, q, cc)
 
-pub same-domains-live : {s t : State} → SameDomains s t → (d : ℕ) → T (isSome (slotOf (s .domains) d)) → T (isSome (slotOf (t .domains) d))
+pub same-domains-live : {s t : State} → SameDomains s t → (d : ℕ) → T (isSome (atSlot (s .domains) d)) → T (isSome (atSlot (t .domains) d))
 same-domains-live {s} {t} h d l =
-    let x = live-is (slotOf (s .domains) d) l in
+    let x = live-is (atSlot (s .domains) d) l in
     let y = same-domains-in h d (x .0) (x .1) in
-    is-live (slotOf (t .domains) d) (y .0) (y .1)
+    is-live (atSlot (t .domains) d) (y .0) (y .1)

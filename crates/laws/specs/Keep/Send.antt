@@ -1,85 +1,39 @@
--- A send of a region keeps the tables good: the region is the new domain's, and each effective range leaves the old domain's tracker and joins the new
--- one's. Between two ranges the trackers store what they store; that this is what the regions count in the end is `send-agrees`.
-use mathlib.Core.Path.{_≡_, refl, sym, subst}
-use Prim.Native.Nat.{ℕ, _+_, _-_, _≤_, _<_}
-use mathlib.Core.Option.{Option, some}
-use mathlib.Core.List.{List}
-use native.Mathlib.Omega.{arith}
-use lib.Dec.{T}
-use lib.ListN.{set}
-use Rattle.model.specs.Lists.{isSome, slotOf, In}
-use Rattle.model.specs.State.{State, Domain, Region, Access, putRegion, withOwner}
-use Rattle.model.specs.Fields.{Field}
-use Rattle.model.specs.Counts.{storedCounts}
-use Rattle.model.specs.Regions.{activate, deactivate, sendRegion}
-use Rattle.laws.specs.Accepted.{All, weaken}
-use Rattle.laws.specs.Tracker.Fields.{Enough}
-use Rattle.laws.specs.Tree.Slots.{in-length, live-is, is-live}
-use Rattle.laws.specs.Tree.Shares.{grant}
-use Rattle.laws.specs.Tree.Facts.{Regions}
-use Rattle.laws.specs.Tree.Laws.{hands-law}
-use Rattle.laws.specs.Tree.Send.{held, Loses, Receives, send-agrees}
-use Rattle.laws.specs.Keep.SameDomains.{SameDomains, SameOutside, same-domains-then, same-domains-live}
-use Rattle.laws.specs.Keep.Tracked.{Tracked, tracked-same, activate-tracked, deactivate-tracked, lost-le}
-use Rattle.laws.specs.Keep.Coupled.{told, Good}
-use Rattle.laws.specs.Keep.Slots.{every-put}
+-- Send: the region changes its owner with its ranges, the slot leaves one list and goes into another.
+use mathlib.Core.Path.{ap, _∙_}
+use Prim.Native.Nat.{ℕ}
+use Rattle.model.specs.Lists.{atSlot, In}
+use Rattle.model.specs.State.{State, Handle, Domain, Capa, noCapa, region, regionRevoke, management, channel}
+use Rattle.model.specs.Locals.{removeCapa}
+use Rattle.model.specs.Calls.{sendCapa, send}
+use Rattle.laws.specs.Accepted.{All, accepted, refused, bind, bind-any}
+use Rattle.laws.specs.Tree.Slots.{live-is, is-live}
+use Rattle.laws.specs.Keep.SameDomains.{same-domains-self, same-domains-live}
+use Rattle.laws.specs.Keep.Locals.{insert-all, capacity-all}
+use Rattle.laws.specs.Keep.Checks.{domain-live, region-live}
+use Rattle.laws.specs.Keep.BaseSteps.{Live}
+use Rattle.laws.specs.Keep.Whole.{Whole, StaysWhole, live-slot, list-whole, remove-whole}
+use Rattle.laws.specs.Keep.SendRegion.{send-whole}
 
--- the trackers have the form and the record pool is sound, whatever they store
-abbrev Formed : State → State → Type 0
-Formed s t = Tracked t (held t) × SameDomains s t
+module _ (s : State) (whole : Whole s) where
+  pub send-capa : (c : Capa) (o : ℕ) (x : Domain) → In (s .domains) o x → All (StaysWhole s) (sendCapa c o s)
+  unfolding sendCapa
+  send-capa noCapa o x at = accepted (whole, same-domains-self s)
+  send-capa (region h) o x at = bind (region-live s h) (λ i (n, t). let (g, e) = live-slot s h t in send-whole s whole i g (ap (atSlot (s .regions)) n ∙ e) o x at)
+  send-capa (regionRevoke h) o x at = accepted (whole, same-domains-self s)
+  send-capa (management h) o x at = refused
+  send-capa (channel h) o x at = accepted (whole, same-domains-self s)
 
-module _ (s : State) (d : ℕ) (x : Domain) (e : In (s .domains) d x) (r : ℕ) where
-  module _ (t : State) (q : Formed s t) (b c : ℕ) (z : b < c) where
-    abbrev range : Access
-    range = record { start = b; end = c; rights = r }
-
-    there : (y : Domain) × In (t .domains) d y
-    there = live-is (slotOf (t .domains) d) (same-domains-live (q .1) d (is-live _ x e))
-
-    own : (T : Field → ℕ → ℕ → ℕ) (u : State) → Tracked u T × SameOutside t u → Formed s u × ((f : Field) (k a : ℕ) → held u f k a ≡ T f k a)
-    own T u (k, v) = ((tracked-same u T (held u) (k .counts) k, same-domains-then (q .1) (v .sameDomains)), k .counts)
-
-    gained : All (λ u. Formed s u × ((f : Field) (k a : ℕ) → held u f k a ≡ held t f k a + grant f d b c r k a)) (activate d range t)
-    gained = weaken (activate-tracked t (held t) (λ f k a. held t f k a + grant f d b c r k a) (q .0) d (there .0) (there .1) range z (λ f k a. refl)) (own _)
-
-    module _ (had : (a : ℕ) → b ≤ a → a < c → Enough r (storedCounts t d a)) where
-      abbrev left : Field → ℕ → ℕ → ℕ
-      left f k a = held t f k a - grant f d b c r k a
-
-      counted : (f : Field) (k a : ℕ) → grant f d b c r k a ≤ held t f k a
-      counted = lost-le t (held t) left (q .0) d (there .0) (there .1) range z had
-
-      lost : All (λ u. Formed s u × ((f : Field) (k a : ℕ) → held u f k a + grant f d b c r k a ≡ held t f k a)) (deactivate d range t)
-      lost = weaken (deactivate-tracked t (held t) left (q .0) d (there .0) (there .1) range z (λ f k a. omega (arith, counted f k a)) had) (λ u h. let (k, m) = own left u h in (k, λ f j a. omega (arith, m f j a, counted f j a)))
-
-  receives : Receives (Formed s) d r
-  unfolding Receives
-  receives t b c q z = gained t q b c z
-
-  loses : Loses (Formed s) d r
-  unfolding Loses
-  loses t b c q z had = lost t q b c z had
-
--- ---- region g in slot i becomes domain o's
-
-module _ (s : State) (good : Good s) (i : ℕ) (g : Region) (e : In (s .regions) i g) (o : ℕ) (x : Domain) (at : In (s .domains) o x) where
-  abbrev moved : List (Option Region)
-  moved = set (s .regions) i (some (withOwner o g))
-
-  formed : Formed s (putRegion i (withOwner o g) s)
-  formed = (record { form = good .tracked .form; counts = λ f d a. refl; pool = good .tracked .pool }, record { sizes = refl; domainPool = refl; size = refl; domains = λ d. refl })
-
-  pub send-good : All (λ t. Good t × SameDomains s t × (t .regions ≡ moved)) (sendRegion i o s)
-  send-good =
-      let y = live-is (slotOf (s .domains) (g .owner)) (good .owners i g e) in
-      weaken (send-agrees (Formed s) s (good .regions) i o g e (loses s (g .owner) (y .0) (y .1) (g .rights)) (receives s o x at (g .rights)) formed (good .tracked .counts))
-      (λ t ((k, b), r, agrees). (
-        record {
-          tracked = tracked-same t (held t) (told (t .regions)) (λ f d a. sym (agrees f d a)) k;
-          regions = subst Regions (sym r) (hands-law s (good .regions) i g e o .0);
-          owners = subst (λ (rs : List (Option Region)). (j : ℕ) (z : Region) → In rs j z → T (isSome (slotOf (t .domains) (z .owner)))) (sym r)
-              (every-put (λ z. T (isSome (slotOf (t .domains) (z .owner)))) (s .regions) i (in-length (s .regions) i g e) (λ j z m. same-domains-live b (z .owner) (good .owners j z m)) (withOwner o g) (same-domains-live b o (is-live _ x at)));
-        },
-        b,
-        r,
-      ))
+module _ (s : State) (whole : Whole s) (h : Handle) (l : ℕ) where
+  pub send-keeps : (target : ℕ) → All (λ (y : ℕ × State). Whole (y .1)) (send h l target s)
+  unfolding send
+  send-keeps target =
+      bind (domain-live s h) (λ d (x, e).
+      bind-any _ (λ t.
+      bind-any _ (λ k.
+      bind (domain-live s k) (λ o (y, at).
+      bind (capacity-all o s (λ u. Whole u × Live u d × Live u o) (λ m. let r = list-whole s whole o (is-live _ y at) m in (r .0, r .1 d (is-live _ x e), r .1 o (is-live _ y at)))) (λ s₁ (g, ld, lo).
+      bind-any _ (λ c.
+      let z = live-is _ lo in
+      bind (send-capa s₁ g c o (z .0) (z .1)) (λ s₂ (g₂, b).
+      let r = remove-whole s₂ g₂ d l (same-domains-live b d ld) in
+      insert-all o (removeCapa d l s₂) c (λ (v : ℕ × State). Whole (v .1)) (λ n m. list-whole (removeCapa d l s₂) (r .0) o (r .1 o (same-domains-live b o lo)) m .0))))))))

@@ -7,12 +7,12 @@ use native.Mathlib.Decide.{ℕ-discrete}
 use lib.Dec.{T}
 use lib.ListN.{length, set}
 use lib.Seq.{getD-set-same, getD-set-other}
-use Rattle.model.specs.Lists.{isSome, slotOf, In}
-use Rattle.laws.specs.Tree.Slots.{none-some, some-same}
+use Rattle.base.specs.Options.{none-some, some-same}
+use Rattle.model.specs.Lists.{isSome, atSlot, In}
 
 -- what is live stays live
-pub live-put : {A : Type 0} (l : List (Option A)) (i : ℕ) (x : A) → i < length l → (k : ℕ) → T (isSome (slotOf l k)) → T (isSome (slotOf (set l i (some x)) k))
-live-put l i x low k t = elim (ℕ-discrete k i) [
+pub taken-alive : {A : Type 0} (l : List (Option A)) (i : ℕ) (x : A) → i < length l → (k : ℕ) → T (isSome (atSlot l k)) → T (isSome (atSlot (set l i (some x)) k))
+taken-alive l i x low k t = elim (ℕ-discrete k i) [
   | yes m ↦ rw (m, getD-set-same l i (some x) none low) tt
   | no m ↦ rw (getD-set-other l i k (some x) none m) t
 ]

@@ -4,14 +4,17 @@
 use mathlib.Core.Path.{_≡_, refl, sym, ap, _∙_}
 use mathlib.Core.Logic.{_≢_}
 use Prim.Native.Nat.{ℕ, zero, suc, _+_, _≤_, _<_}
-use mathlib.Core.Option.{Option, none, some}
+use mathlib.Core.Option.{Option, none, some, Option·getD}
 use mathlib.Core.List.{List, [], _∷_}
 use native.Mathlib.Omega.{arith}
 use native.Mathlib.Decide.{ℕ-discrete}
 use lib.Dec.{T, eqb}
 use lib.ListN.{length, set, length-set}
 use lib.Seq.{getD-set-same, getD-set-other}
-use Rattle.model.specs.Lists.{if_then_else_, any, orElse, slotOf, In}
+use borrow.Author.Tests.{eq-eqb, ne-eqb}
+use Rattle.base.specs.Cases.{below, inside, above, pos}
+use Rattle.base.specs.Options.{none-some}
+use Rattle.model.specs.Lists.{exists, atSlot, In, if_then_else_}
 use Rattle.model.specs.State.{State, Domain, Record, Access, Update, Queue, noneDomain, domainAt, putDomain, withTracker, withRecordPool, withQueue}
 use Rattle.model.specs.Fields.{Field, counter}
 use Rattle.model.specs.Pool.{handleOf}
@@ -20,17 +23,18 @@ use Rattle.model.specs.Updates.{push, pushPermission, isPermissionOf}
 use Rattle.model.specs.Counts.{storedCounts}
 use Rattle.model.specs.Sound.{PoolSound, recordUses}
 use Rattle.model.specs.Regions.{putWalk, activate, deactivate}
-use Rattle.laws.specs.Accepted.{All, accepted, bind, bind-any, and-then, branch, both}
-use Rattle.laws.specs.Cases.{within, within-lo, within-in, within-hi, within-same, below, inside, above, pos, eqb-t, eqb-f}
+use Rattle.laws.specs.Accepted.{All, accepted, bind, and-then, branch, both}
 use Rattle.laws.specs.Words.SameTrackers.{uses}
 use Rattle.laws.specs.Tracker.Fields.{countAt, Enough, gain-count, lose-count}
 use Rattle.laws.specs.Tracker.Form.{Form, gain-form, lose-form}
 use Rattle.laws.specs.Tracker.Pools.{Moved}
 use Rattle.laws.specs.Tracker.Slots.{gain-slots, lose-slots}
-use Rattle.laws.specs.Tree.Slots.{none-some, in-length}
+use Rattle.laws.specs.Tree.Slots.{in-length}
 use Rattle.laws.specs.Tree.Shares.{grant}
 use Rattle.laws.specs.Tree.Send.{held}
 use Rattle.laws.specs.Keep.SameDomains.{untracked, SameOutside}
+use Rattle.laws.specs.Tree.Steps.{domain-at}
+use Rattle.laws.specs.Within.{within, within-lo, within-in, within-hi, within-same}
 
 pub record Tracked (s : State) (T : Field → ℕ → ℕ → ℕ) : Type 0 where
   pub form : (d : ℕ) → Form (domainAt s d .tracker)
@@ -43,17 +47,14 @@ tracked-same s T T′ e h = record { form = h .form; counts = λ f d a. h .count
 -- ---- one slot of the domains is written
 
 abbrev pub trackerIn : List (Option Domain) → ℕ → List Record
-trackerIn ds d = orElse (slotOf ds d) noneDomain .tracker
-
-pub domain-at : (s : State) (d : ℕ) (x : Domain) → In (s .domains) d x → domainAt s d ≡ x
-domain-at s d x e = rw e
+trackerIn ds d = Option·getD (atSlot ds d) noneDomain .tracker
 
 module _ (ds : List (Option Domain)) (d : ℕ) (y : Domain) where
   pub tracker-here : d < length ds → trackerIn (set ds d (some y)) d ≡ y .tracker
-  tracker-here l = ap (λ (o : Option Domain). orElse o noneDomain .tracker) (getD-set-same ds d (some y) none l)
+  tracker-here l = ap (λ (o : Option Domain). Option·getD o noneDomain .tracker) (getD-set-same ds d (some y) none l)
 
   pub tracker-there : (e : ℕ) → e ≢ d → trackerIn (set ds d (some y)) e ≡ trackerIn ds e
-  tracker-there e n = ap (λ (o : Option Domain). orElse o noneDomain .tracker) (getD-set-other ds d e (some y) none n)
+  tracker-there e n = ap (λ (o : Option Domain). Option·getD o noneDomain .tracker) (getD-set-other ds d e (some y) none n)
 
 -- the record slots in use
 pub uses-set : (ds : List (Option Domain)) (d : ℕ) (x y : Domain) → In ds d x → (i : ℕ) → recordUses (set ds d (some y)) i + uses i (x .tracker) ≡ recordUses ds i + uses i (y .tracker)
@@ -71,7 +72,7 @@ push-queue P u s h = and-then _ (accepted (h _))
 
 permission-queue : (P : State → Type 0) (d : ℕ) (s : State) → ((q : Queue) → P (withQueue q s)) → All P (pushPermission d s)
 unfolding pushPermission
-permission-queue P d s h = branch (any (isPermissionOf (handleOf (s .domainPool) d)) (s .queue .items)) (accepted (h (s .queue))) (push-queue P _ s h)
+permission-queue P d s h = branch (exists (isPermissionOf (handleOf (s .domainPool) d)) (s .queue .items)) (accepted (h (s .queue))) (push-queue P _ s h)
 
 module _ (s : State) (d : ℕ) (w : Walk) where
   abbrev pub put : State
@@ -120,22 +121,12 @@ module _ (s : State) (d : ℕ) (x : Domain) (e : In (s .domains) d x) (w : Walk)
 
 -- ---- gain and loss
 
--- whatever the trackers are
-module _ (s : State) (d : ℕ) (x : Domain) (e : In (s .domains) d x) (a : Access) where
-  pub activate-beside : All (SameOutside s) (activate d a s)
-  unfolding activate
-  activate-beside = bind-any _ (λ w. put-queue s d w (SameOutside s) (put-beside s d x e w))
-
-  pub deactivate-beside : All (SameOutside s) (deactivate d a s)
-  unfolding deactivate
-  deactivate-beside = bind-any _ (λ w. put-queue s d w (SameOutside s) (put-beside s d x e w))
-
 -- a range of domain d counts for no other
 grant-other : (f : Field) (d b e r k a : ℕ) → k ≢ d → grant f d b e r k a ≡ 0
-grant-other f d b e r k a n = within-same b e a _ 0 (rw (eqb-f d k (λ m. n (sym m))))
+grant-other f d b e r k a n = within-same b e a _ 0 (rw (ne-eqb d k (λ m. n (sym m))))
 
 grant-own : (f : Field) (d b e r a : ℕ) → grant f d b e r d a ≡ within b e a (counter f r) 0
-grant-own f d b e r a = rw (eqb-t d d refl)
+grant-own f d b e r a = rw (eq-eqb d d refl)
 
 module _ (s : State) (T T′ : Field → ℕ → ℕ → ℕ) (h : Tracked s T) (d : ℕ) (x : Domain) (e : In (s .domains) d x) (a : Access) (z : a .start < a .end) where
   abbrev range : Field → ℕ → ℕ → ℕ

@@ -1,102 +1,54 @@
--- A send and a revoke of a region keep the ring and the pools sound, with the rest. The domains that lose and gain are owners of live regions, so they are live;
--- the range that a revoke queues is a live region's, so its ends are words.
-use mathlib.Core.Path.{_≡_, refl, sym, subst, _∙_}
+-- What every call keeps (`Whole`): the trackers store the counts of the regions, and the ring and the pools are sound. The steps on a capability list keep it.
 use Prim.Native.Nat.{ℕ}
-use mathlib.Core.Option.{Option, some}
-use mathlib.Core.List.{List, []}
 use lib.Dec.{T}
-use Rattle.model.specs.Lists.{isSome, slotOf, In}
-use Rattle.rights.specs.Rights.{has, CLEANUP}
-use Rattle.model.specs.State.{State, Sizes, Pool, Domain, Region, parentOf, putRegion, withOwner}
-use Rattle.model.specs.Tree.{accessOf, removeChild}
-use Rattle.model.specs.Regions.{giveBack, leaveParent, freeRegion, sendRegion, revokeLeaf, revokeRegion, liveRegions}
-use Rattle.laws.specs.Accepted.{All, accepted, bind, weaken, both, branch}
-use Rattle.laws.specs.Tree.Slots.{in-length, live-is, is-live}
-use Rattle.laws.specs.Tree.Change.{childOut}
-use Rattle.laws.specs.Tree.Steps.{region-at, leave-regions}
-use Rattle.laws.specs.Tree.Below.{Revoked}
-use Rattle.laws.specs.Tree.Revoke.{Leaves, revoke-all}
-use Rattle.laws.specs.Keep.SameDomains.{SameDomains, SameOutside, same-domains-self, same-domains-then, same-domains-live, same-outside-self, same-outside-then}
-use Rattle.laws.specs.Keep.Coupled.{Good}
-use Rattle.laws.specs.Keep.Revoke.{leave-all, give-all, out-beside, parent, parent-there, leaf-good}
-use Rattle.laws.specs.Keep.Send.{send-good}
-use Rattle.laws.specs.Keep.Slots.{live-put}
-use Rattle.laws.specs.Keep.Pools.{Table, table-put, table-frees}
-use Rattle.laws.specs.Keep.Base.{Base, same-domains-base, cleanup-base}
-use Rattle.laws.specs.Keep.BaseSteps.{gained-base, lost-base, ranges-base, region-base}
+use Rattle.model.specs.Lists.{atSlot, In}
+use Rattle.model.specs.State.{State, Region, Handle, Capa, LocalList, domainAt, putDomain, withLocals}
+use Rattle.laws.specs.Accepted.{All}
+use Rattle.laws.specs.Tree.Slots.{live-is}
+use Rattle.laws.specs.Keep.SameDomains.{SameDomains}
+use Rattle.laws.specs.Keep.Agreement.{TrackersAgree}
+use Rattle.laws.specs.Keep.Base.{Base}
+use Rattle.laws.specs.Keep.BaseSteps.{Live, listed-base}
+use Rattle.laws.specs.Keep.Locals.{listed-agree, insert-all, listed-live, capacity-all}
+use lib.Ieee.Fits.{and-l}
+use Rattle.model.specs.Pool.{isLive}
+use Rattle.model.specs.Locals.{removeCapa, emptyCapa, hasCapacity, insertCapa}
 
 -- what every call keeps
 abbrev pub Whole : State → Type 0
-Whole s = Good s × Base s
+Whole s = TrackersAgree s × Base s
 
--- ---- a region without children is revoked
+-- of the state beside an answer
+abbrev pub After : {A : Type 0} → A × State → Type 0
+After y = Whole (y .1)
 
-leave-same : (i : ℕ) (s : State) → (leaveParent i s .queue ≡ s .queue) × (leaveParent i s .regionPool ≡ s .regionPool) × (leaveParent i s .sizes ≡ s .sizes)
-unfolding removeChild
-leave-same i s = leave-all (λ t. (t .queue ≡ s .queue) × (t .regionPool ≡ s .regionPool) × (t .sizes ≡ s .sizes)) i s (refl, refl, refl) (λ p. (refl, refl, refl))
+-- and the domains differ in their trackers only
+abbrev pub StaysWhole : State → State → Type 0
+StaysWhole s t = Whole t × SameDomains s t
 
-module _ (s : State) (good : Good s) (r : Base s) (i p : ℕ) (g h : Region) (e : In (s .regions) i g) (empty : g .children ≡ []) (n : parentOf (g .kind) ≡ some p) (at : In (s .regions) p h) where
-  left : SameDomains s (leaveParent i s)
-  left = out-beside s good i p g h e empty n at .1
+-- ---- the lists
 
-  abbrev less : List (Option Region)
-  less = childOut (s .regions) i p h
+pub list-whole : (s : State) → Whole s → (d : ℕ) → Live s d → (l : LocalList) → Whole (putDomain d (withLocals l (domainAt s d)) s) × ((k : ℕ) → Live s k → Live (putDomain d (withLocals l (domainAt s d)) s) k)
+list-whole s whole d t l =
+    let x = live-is (atSlot (s .domains) d) t in
+    ((listed-agree s d (x .0) (x .1) l (s .regions) (whole .0), listed-base s d (whole .1) t l .0), listed-live s d (x .0) (x .1) l)
 
-  less-there : leaveParent i s .regions ≡ less
-  less-there = leave-regions i p g h s e n at
+pub remove-whole : (s : State) → Whole s → (d l : ℕ) → Live s d → Whole (removeCapa d l s) × ((k : ℕ) → Live s k → Live (removeCapa d l s) k)
+unfolding removeCapa
+remove-whole s whole d l t = list-whole s whole d t _
 
-  less-table : Table (s .sizes .regions) less (s .regionPool)
-  less-table = table-put (s .sizes .regions) (s .regions) (s .regionPool) (r .regions) p h _ at (in-length (s .regions) p h at)
+pub empty-whole : (s : State) → Whole s → (d l : ℕ) → Live s d → Whole (emptyCapa d l s)
+unfolding emptyCapa
+empty-whole s whole d l t = list-whole s whole d t _ .0
 
-  pub leave-base : Base (leaveParent i s)
-  leave-base =
-      let (q, z, m) = leave-same i s in
-      let k = subst (λ (w : Sizes). Table (w .regions) less (s .regionPool)) (sym m) less-table in
-      let k₁ = subst (λ (w : Pool). Table (leaveParent i s .sizes .regions) less w) (sym z) k in
-      same-domains-base s (leaveParent i s) left q (subst (λ rs. Table (leaveParent i s .sizes .regions) rs (leaveParent i s .regionPool)) (sym less-there) k₁) r
+module _ (s : State) (whole : Whole s) (d : ℕ) (t : Live s d) where
+  pub capacity-whole : All (λ u. Whole u × Live u d) (hasCapacity d s)
+  capacity-whole = capacity-all d s _ (λ l. let r = list-whole s whole d t l in (r .0, r .1 d t))
 
-  pub given-base : (t : State) → Base t → SameOutside (leaveParent i s) t → All (λ u. Base u × SameOutside t u) (giveBack g t)
-  given-base t k b = give-all (λ u. Base u × SameOutside t u) t g p n (λ m. (k, same-outside-self t)) (λ m.
-      rw (region-at t p (parent s good i p g h e empty n at) (parent-there s good i p g h e empty n at t b)) (gained-base t (h .owner) (k, same-domains-live (same-domains-then left (b .sameDomains)) (h .owner) (good .owners p h at)) _))
+  pub insert-whole : (c : Capa) → All After (insertCapa d c s)
+  insert-whole c = insert-all d s c After (λ n l. list-whole s whole d t l .0)
 
-  -- the slot is still in use
-  slot-there : (t : State) → SameOutside (leaveParent i s) t → (y : Region) × In (t .regions) i y
-  slot-there t b = live-is (slotOf (t .regions) i) (subst (λ (rs : List (Option Region)). T (isSome (slotOf rs i))) (sym (b .regions ∙ less-there)) (live-put (s .regions) p _ (in-length (s .regions) p h at) i (is-live _ g e)))
+-- ---- a region's handle
 
-  pub free-base : (t : State) → Base t → SameOutside (leaveParent i s) t → All Base (freeRegion i t)
-  unfolding freeRegion
-  free-base t k b =
-      let (y, m) = slot-there t b in
-      bind (table-frees (t .sizes .regions) (t .regions) (t .regionPool) (k .regions) i y m (in-length (t .regions) i y m)) (λ q z. accepted (same-domains-base t _ (record { sizes = refl; domainPool = refl; size = refl; domains = λ d. refl }) refl z k))
-
-  leaf-base : All Base (revokeLeaf i s)
-  unfolding revokeLeaf
-  leaf-base =
-      let z = good .regions i g e in
-      rw (region-at s i g e) (
-      bind (lost-base (leaveParent i s) (g .owner) (leave-base, same-domains-live left (g .owner) (good .owners i g e)) (accessOf g)) (λ s₁ (k, b).
-      bind (given-base s₁ k b) (λ s₂ (k₂, b₂).
-      bind (free-base s₂ k₂ (same-outside-then b b₂)) (λ s₃ k₃.
-      branch (has (g .rights) CLEANUP) (cleanup-base (g .start) (g .end) s₃ k₃ (z .startWord) (z .endWord)) (accepted k₃)))))
-
--- ---- the region and all below it
-
-pub leaves-whole : (s : State) → Leaves (λ t. Whole t × SameDomains s t)
-unfolding Leaves
-leaves-whole s t i p g h ((k, r), b) q e empty n at = weaken (both (leaf-good t k i p g h e empty n at) (leaf-base t k r i p g h e empty n at)) (λ u ((j, c), v). ((j, v), same-domains-then b c))
-
-pub revoke-whole : (s : State) → Whole s → (i p : ℕ) (g : Region) → In (s .regions) i g → parentOf (g .kind) ≡ some p → All (λ t. (Whole t × SameDomains s t) × Revoked (s .regions) i (t .regions)) (revokeRegion (liveRegions s) i s)
-revoke-whole s k i p g e n = revoke-all (λ t. Whole t × SameDomains s t) (leaves-whole s) s i p g (k, same-domains-self s) (k .0 .regions) e n
-
--- ---- a region is sent
-
-module _ (s : State) (k : Whole s) (i : ℕ) (g : Region) (e : In (s .regions) i g) (o : ℕ) (x : Domain) (at : In (s .domains) o x) where
-  sent-base : All Base (sendRegion i o s)
-  unfolding sendRegion
-  sent-base =
-      let live = k .0 .owners i g e in
-      let t = region-base s (g .owner) (k .1) live i g (withOwner o g) e in
-      rw (region-at s i g e) (weaken (ranges-base (g .owner) o (g .rights) _ (putRegion i (withOwner o g) s) (t .0) live (is-live _ x at)) (λ u z. z .0))
-
-  pub send-whole : All (λ t. Whole t × SameDomains s t) (sendRegion i o s)
-  send-whole = weaken (both (send-good s (k .0) i g e o x at) sent-base) (λ t (u, r). ((u .0, r), u .1))
+pub live-slot : (s : State) (h : Handle) → T (isLive (s .regionPool) (s .regions) h) → (g : Region) × In (s .regions) (h .slot) g
+live-slot s h t = live-is (atSlot (s .regions) (h .slot)) (search and-l)

@@ -1,20 +1,21 @@
 -- The points at which what counts for a domain can change. It depends on the domain's own regions and on the carves of these alone, so their edges are
--- enough; and so are the edges of all regions. A program that looks at the former only looks at a region's edges for one domain or two.
+-- enough: a region's edges are looked at for one domain or two.
 use mathlib.Core.Path.{_≡_, refl, sym, ap, _∙_}
 use Prim.Native.Nat.{ℕ, suc, _+_, _≤_, _<_}
 use mathlib.Core.Bool.{Bool, true, false, _||_}
-use mathlib.Core.Option.{Option, none, some}
+use mathlib.Core.Option.{Option, none, some, Option·getD}
 use mathlib.Core.List.{List, [], _∷_}
 use native.Mathlib.Omega.{arith}
 use lib.Dec.{T, leb, ltb, eqb, eqb→eq}
-use Rattle.model.specs.Lists.{if_then_else_, any, Each, orElse, slotOf}
+use borrow.Author.Tests.{lt-ltb, le-ltb, eq-eqb, le-leb, lt-leb}
+use Rattle.base.specs.Cases.{lt, ge, cmp}
+use Rattle.base.specs.Cases as cases
+use Rattle.base.specs.Tests.{true-is, false-is, or-l, or-r}
+use Rattle.model.specs.Lists.{exists, Each, atSlot, if_then_else_}
 use Rattle.model.specs.State.{Region, Kind, Root, Alias, Carve, noneRegion, regionIn}
 use Rattle.model.specs.Counts.{holds, carves, tally}
-use Rattle.laws.specs.SoundTest.{edgesOf}
-use Rattle.laws.specs.Cases as cases
-use Rattle.laws.specs.Cases.{lt, ge, cmp, ltb-t, ltb-f, eqb-t, true-is, false-is}
-use Rattle.laws.specs.Test.Lists.{or-l, or-r}
-use Rattle.laws.specs.Test.Floor.{leb-t, leb-f, Free}
+use Rattle.base.specs.Cases as cases
+use Rattle.laws.specs.Test.Floor.{Free}
 
 -- Is region g domain d's, or a carve of a region of d's?
 abbrev pub carvedFrom : List (Option Region) → ℕ → Kind → Bool
@@ -60,10 +61,10 @@ pub holds-same : (f a s e : ℕ) → f ≤ a → (f < s → a < s) → (f < e �
 holds-same f a s e h u v = rw (le-part, lt-part)
   where
     le-part : leb s f ≡ leb s a
-    le-part = elim (cmp f s) [ lt k ↦ leb-f s f k ∙ sym (leb-f s a (u k)) | ge k ↦ leb-t s f k ∙ sym (leb-t s a (omega arith)) ]
+    le-part = elim (cmp f s) [ lt k ↦ lt-leb s f k ∙ sym (lt-leb s a (u k)) | ge k ↦ le-leb s f k ∙ sym (le-leb s a (omega arith)) ]
 
     lt-part : ltb f e ≡ ltb a e
-    lt-part = elim (cmp f e) [ lt k ↦ ltb-t f e k ∙ sym (ltb-t a e (v k)) | ge k ↦ ltb-f f e k ∙ sym (ltb-f a e (omega arith)) ]
+    lt-part = elim (cmp f e) [ lt k ↦ lt-ltb f e k ∙ sym (lt-ltb a e (v k)) | ge k ↦ le-ltb f e k ∙ sym (le-ltb a e (omega arith)) ]
 
 module _ (rs : List (Option Region)) (d f a : ℕ) (h : f ≤ a) where
   -- the carves of a region of d's
@@ -73,7 +74,7 @@ module _ (rs : List (Option Region)) (d f a : ℕ) (h : f ≤ a) where
     carve-same g (Alias p) e n = rw e
     carve-same g (Carve p) e n = elim (cases.test (eqb p i)) [
       | cases.holds t ↦
-          let o : T (carvedFrom rs d (Carve p)) = true-is (eqb-t (regionIn rs p .owner) d (ap (λ j. regionIn rs j .owner) (eqb→eq p i (true-is t)) ∙ own)) in
+          let o : T (carvedFrom rs d (Carve p)) = true-is (eq-eqb (regionIn rs p .owner) d (ap (λ j. regionIn rs j .owner) (eqb→eq p i (true-is t)) ∙ own)) in
           let c = n (or-r (eqb (g .owner) d) (carvedFrom rs d (g .kind)) (rw e o)) in
           rw (e, t) (holds-same f a (g .start) (g .end) h (c .0) (c .1))
       | cases.fails t ↦ rw (e, t)
@@ -83,36 +84,24 @@ module _ (rs : List (Option Region)) (d f a : ℕ) (h : f ≤ a) where
     carves-same none n = refl
     carves-same (some g) n = carve-same g (g .kind) refl n
 
-    any-same : (l : List (Option Region)) → Each (Near rs d f a) l → any (carves i f) l ≡ any (carves i a) l
+    any-same : (l : List (Option Region)) → Each (Near rs d f a) l → exists (carves i f) l ≡ exists (carves i a) l
     any-same [] n = refl
     any-same (x ∷ l) n = rw (carves-same x (n .0), any-same l (n .1))
 
   -- l are the regions from slot i on
-  tally-same : Each (Near rs d f a) rs → (t : ℕ → Bool) (i : ℕ) (l : List (Option Region)) → Each (Near rs d f a) l → ((k : ℕ) → slotOf l k ≡ slotOf rs (i + k)) → tally rs d f t i l ≡ tally rs d a t i l
+  tally-same : Each (Near rs d f a) rs → (t : ℕ → Bool) (i : ℕ) (l : List (Option Region)) → Each (Near rs d f a) l → ((k : ℕ) → atSlot l k ≡ atSlot rs (i + k)) → tally rs d f t i l ≡ tally rs d a t i l
   tally-same n t i [] m at = refl
-  tally-same n t i (none ∷ l) m at = tally-same n t (suc i) l (m .1) (λ k. at (suc k) ∙ ap (slotOf rs) (omega arith))
+  tally-same n t i (none ∷ l) m at = tally-same n t (suc i) l (m .1) (λ k. at (suc k) ∙ ap (atSlot rs) (omega arith))
   tally-same n t i (some g ∷ l) m at = elim (cases.test (eqb (g .owner) d)) [
     | cases.holds o ↦
         let c = m .0 (or-l (eqb (g .owner) d) (carvedFrom rs d (g .kind)) (true-is o)) in
         let z : i + 0 ≡ i = omega arith in
-        let own : regionIn rs i .owner ≡ d = ap (λ (x : Option Region). orElse x noneRegion .owner) (sym (at 0 ∙ ap (slotOf rs) z)) ∙ eqb→eq (g .owner) d (true-is o) in
-        rw (holds-same f a (g .start) (g .end) h (c .0) (c .1), any-same i own rs n, tally-same n t (suc i) l (m .1) (λ k. at (suc k) ∙ ap (slotOf rs) (omega arith)))
-    | cases.fails o ↦ rw (o, tally-same n t (suc i) l (m .1) (λ k. at (suc k) ∙ ap (slotOf rs) (omega arith)))
+        let own : regionIn rs i .owner ≡ d = ap (λ (x : Option Region). Option·getD x noneRegion .owner) (sym (at 0 ∙ ap (atSlot rs) z)) ∙ eqb→eq (g .owner) d (true-is o) in
+        rw (holds-same f a (g .start) (g .end) h (c .0) (c .1), any-same i own rs n, tally-same n t (suc i) l (m .1) (λ k. at (suc k) ∙ ap (atSlot rs) (omega arith)))
+    | cases.fails o ↦ rw (o, tally-same n t (suc i) l (m .1) (λ k. at (suc k) ∙ ap (atSlot rs) (omega arith)))
   ]
 
 pub points-suffice : (rs : List (Option Region)) (d : ℕ) → Suffice rs d (pointsOf rs d)
 points-suffice rs d f a h k t =
     let n = near rs d f a rs k in
-    tally-same rs d f a h n t 0 rs n (λ j. let z : j ≡ 0 + j = omega arith in ap (slotOf rs) z)
-
--- they are among all edges
-fewer : (rs : List (Option Region)) (d f a : ℕ) (l : List (Option Region)) → Free f a (edgesOf l) → Free f a (pointsIn rs d l)
-fewer rs d f a [] h = tt
-fewer rs d f a (none ∷ l) h = fewer rs d f a l h
-fewer rs d f a (some g ∷ l) h = elim (cases.test (concerns rs d g)) [
-  | cases.holds t ↦ rw t (h .0, (h .1 .0, fewer rs d f a l (h .1 .1)))
-  | cases.fails t ↦ rw t (fewer rs d f a l (h .1 .1))
-]
-
-pub edges-suffice : (rs : List (Option Region)) (d : ℕ) → Suffice rs d (edgesOf rs)
-edges-suffice rs d f a h k t = points-suffice rs d f a h (fewer rs d f a rs k) t
+    tally-same rs d f a h n t 0 rs n (λ j. let z : j ≡ 0 + j = omega arith in ap (atSlot rs) z)

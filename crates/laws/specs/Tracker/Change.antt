@@ -8,16 +8,18 @@ use mathlib.Core.Option.{Option, none, some}
 use mathlib.Core.List.{List}
 use native.Mathlib.Omega.{arith}
 use lib.Dec.{T}
+use borrow.Author.Tests.{eq-eqb, ne-eqb}
+use Rattle.base.specs.Cases.{lt, ge, cmp}
 use Rattle.model.specs.Lists.{if_then_else_, Each}
 use Rattle.model.specs.State.{Counts, Record, Pool}
 use Rattle.model.specs.Tracker.{Walk, lower, changes, gain, lose}
 use Rattle.model.specs.Counts.{countsAt}
 use Rattle.model.specs.Sound.{Rising}
 use Rattle.laws.specs.Accepted.{All, weaken}
-use Rattle.laws.specs.Cases.{within-in, lt, ge, cmp, eqb-t, eqb-f}
 use Rattle.laws.specs.Tracker.Look.{look, countsOf, counts-look, Has, has-look}
 use Rattle.laws.specs.Tracker.One.{gained, grows, lost, shrinks}
 use Rattle.laws.specs.Tracker.Laws.{Done, gain-done, lose-done}
+use Rattle.laws.specs.Within.{within-in}
 
 -- some count came to or left 0 at an address of the range
 abbrev pub Crossed : ℕ → ℕ → List Record → List Record → Type 0
@@ -41,8 +43,8 @@ grow-test r (some k) = refl
 shrink-test : (r : ℕ) (x : Option Counts) → Has (λ k. 0 < k .reach) x → shrinks r x ≡ changes (countsOf x) (countsOf (lost r x))
 shrink-test r none h = refl
 shrink-test r (some k) h = elim (cmp 1 (k .reach)) [
-  | lt i ↦ ap (λ b. changes k (countsOf (if b then none else some (lower r k)))) (sym (eqb-f (k .reach - 1) 0 (omega arith)))
-  | ge i ↦ rw (eqb-t (k .reach - 1) 0 (omega arith), eqb-f (k .reach) 0 (omega arith))
+  | lt i ↦ ap (λ b. changes k (countsOf (if b then none else some (lower r k)))) (sym (ne-eqb (k .reach - 1) 0 (omega arith)))
+  | ge i ↦ rw (eq-eqb (k .reach - 1) 0 (omega arith), ne-eqb (k .reach) 0 (omega arith))
 ]
 
 module _ (r s e : ℕ) (l : List Record) (p : Pool) (o : Rising 0 l) (z : s < e) where

@@ -8,14 +8,16 @@ use mathlib.Core.List.{List, [], _∷_}
 use native.Mathlib.Omega.{arith}
 use native.Mathlib.Nat.{le-refl}
 use lib.Dec.{ltb, ltb→lt, nltb→le}
+use Rattle.base.specs.Cases.{lt, ge, cmp}
+use Rattle.base.specs.Tests.{is-true, is-false}
 use Rattle.model.specs.Lists.{isEmpty}
 use Rattle.model.specs.Outcome.{Outcome, _>>=_}
 use Rattle.model.specs.State.{Counts, Record, Pool}
 use Rattle.model.specs.Tracker.{newCounts, splitAt, cutBefore, cutAfter, fillGap}
 use Rattle.laws.specs.Accepted.{All, accepted, bind, bind-any, branch-on}
-use Rattle.laws.specs.Cases.{within, W, lt, ge, cmp, is-true, is-false}
 use Rattle.laws.specs.Tracker.Look.{look}
 use Rattle.laws.specs.Tracker.Span.{Span}
+use Rattle.laws.specs.Within.{within, W}
 
 -- these records are one range with these counts, or none if the range is empty or there are no counts
 abbrev pub Reads : List Record → ℕ → ℕ → Option Counts → Type 0

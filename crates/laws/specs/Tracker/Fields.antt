@@ -5,17 +5,19 @@ use Prim.Native.Nat.{ℕ, _+_, _-_, _≤_, _<_}
 use mathlib.Core.Option.{Option, none, some}
 use mathlib.Core.List.{List}
 use native.Mathlib.Omega.{arith}
+use borrow.Author.Tests.{eq-eqb, ne-eqb}
+use Rattle.base.specs.Cases.{lt, ge, cmp, below, inside, above, pos}
 use Rattle.model.specs.State.{Counts, Record, Pool}
 use Rattle.model.specs.Fields.{Field, get, counter}
 use Rattle.model.specs.Tracker.{gain, lose}
 use Rattle.model.specs.Counts.{countsAt}
 use Rattle.model.specs.Sound.{Rising}
 use Rattle.laws.specs.Accepted.{All, weaken}
-use Rattle.laws.specs.Cases.{within, W, lt, ge, cmp, below, inside, above, pos, eqb-t, eqb-f}
 use Rattle.laws.specs.Fields.{get-none, get-new, get-raise, get-lower}
 use Rattle.laws.specs.Tracker.Look.{look, countsOf, counts-look}
 use Rattle.laws.specs.Tracker.One.{gained, lost}
 use Rattle.laws.specs.Tracker.Laws.{gain-law, lose-law}
+use Rattle.laws.specs.Within.{within, W}
 
 -- the stored count at an address
 abbrev pub countAt : Field → List Record → ℕ → ℕ
@@ -39,8 +41,8 @@ gained-count f r (some k) = get-raise f r k
 lost-count : (f : Field) (r : ℕ) (x : Option Counts) → Enough r (countsOf x) → get f (countsOf (lost r x)) + counter f r ≡ get f (countsOf x)
 lost-count f r none h = absurd (omega (arith, h .counted Field.Reach))
 lost-count f r (some k) h = let i = h .counted f in let i′ = h .counted Field.Reach in elim (cmp 1 (k .reach)) [
-  | lt j ↦ rw (eqb-f (k .reach - 1) 0 (omega arith)) (omega (arith, get-lower f r k))
-  | ge j ↦ rw (eqb-t (k .reach - 1) 0 (omega arith)) (omega (arith, get-none f, h .last (omega arith) f))
+  | lt j ↦ rw (ne-eqb (k .reach - 1) 0 (omega arith)) (omega (arith, get-lower f r k))
+  | ge j ↦ rw (eq-eqb (k .reach - 1) 0 (omega arith)) (omega (arith, get-none f, h .last (omega arith) f))
 ]
 
 -- ---- gain and loss

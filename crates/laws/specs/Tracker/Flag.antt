@@ -10,11 +10,13 @@ use native.Mathlib.Omega.{arith}
 use native.Mathlib.Nat.{le-refl}
 use lib.Dec.{T, ltb, ltb→lt, lt→ltb}
 use lib.Ieee.Fits.{and-l, and-r, and-i}
+use Rattle.base.specs.Cases.{lt, ge, cmp, below, inside, above, pos}
+use Rattle.base.specs.Tests.{false-is, or-l, or-r}
 use Rattle.model.specs.State.{Counts, Record}
 use Rattle.model.specs.Tracker.{meets}
 use Rattle.model.specs.Sound.{Rising}
-use Rattle.laws.specs.Cases.{within-in, within-hi, lt, ge, cmp, below, inside, above, pos, false-is}
 use Rattle.laws.specs.Tracker.Look.{look, look-low}
+use Rattle.laws.specs.Within.{within-in, within-hi}
 
 -- an address of the range at which c tells a change
 abbrev pub Changed : (Option Counts → Bool) → ℕ → ℕ → List Record → Type 0
@@ -26,14 +28,6 @@ Flagged c s e l b = T b ↔ Changed c s e l
 or-cases : {X : Type 0} (b d : Bool) → T (b || d) → (T b → X) → (T d → X) → X
 or-cases true d t f g = f tt
 or-cases false d t f g = g t
-
-or-l : (b d : Bool) → T b → T (b || d)
-or-l true d t = tt
-or-l false d t = absurd t
-
-or-r : (b d : Bool) → T d → T (b || d)
-or-r true d t = tt
-or-r false d t = t
 
 -- the test of one look, by what is known of it
 at-look : (c : Option Counts → Bool) {x y : Option Counts} → x ≡ y → T (c y) → T (c x)

@@ -5,13 +5,14 @@ use mathlib.Core.Bool.{Bool}
 use mathlib.Core.Option.{Option, none, some}
 use mathlib.Core.List.{List}
 use native.Mathlib.Omega.{arith}
+use borrow.Author.Tests.{eq-eqb, ne-eqb}
+use Rattle.base.specs.Cases.{lt, ge, cmp}
 use Rattle.rights.specs.Rights.{UNCACHEABLE, has}
 use Rattle.model.specs.Lists.{Each}
 use Rattle.model.specs.State.{Counts, Record, Pool, Region}
 use Rattle.model.specs.Tracker.{Walk, gain, lose, lower}
 use Rattle.model.specs.Sound.{Rising, Merged, TrackerSound}
 use Rattle.laws.specs.Accepted.{All, weaken}
-use Rattle.laws.specs.Cases.{lt, ge, cmp, eqb-t, eqb-f}
 use Rattle.laws.specs.Stack.{one-at-most}
 use Rattle.laws.specs.Tracker.Look.{look, Has, has-within, has-look, each-of-look}
 use Rattle.laws.specs.Tracker.One.{gained, lost}
@@ -54,7 +55,7 @@ gained-bit r (some k) h = h
 
 -- what a loss leaves of counts is the lowered ones, or nothing
 lost-has : (P : Counts → Type 0) (r : ℕ) (k : Counts) → (1 < k .reach → P (lower r k)) → Has P (lost r (some k))
-lost-has P r k h = elim (cmp 1 (k .reach)) [ lt i ↦ rw (eqb-f (k .reach - 1) 0 (omega arith)) (h i) | ge i ↦ rw (eqb-t (k .reach - 1) 0 (omega arith)) tt ]
+lost-has P r k h = elim (cmp 1 (k .reach)) [ lt i ↦ rw (ne-eqb (k .reach - 1) 0 (omega arith)) (h i) | ge i ↦ rw (eq-eqb (k .reach - 1) 0 (omega arith)) tt ]
 
 lost-reached : (r : ℕ) (x : Option Counts) → Has Reached x → Has Reached (lost r x)
 lost-reached r none h = tt

@@ -11,12 +11,12 @@ use Rattle.model.specs.State.{Counts, Record, Pool}
 use Rattle.model.specs.Tracker.{Walk, merged, gain, lose}
 use Rattle.model.specs.Sound.{Rising, Merged}
 use Rattle.laws.specs.Accepted.{All, accepted, bind, weaken}
-use Rattle.laws.specs.Cases.{within}
 use Rattle.laws.specs.Tracker.Look.{look}
 use Rattle.laws.specs.Tracker.One.{gained, grows, lost, shrinks}
 use Rattle.laws.specs.Tracker.Flag.{Flagged}
 use Rattle.laws.specs.Tracker.Walked.{Turned, Walked, add-walked, remove-walked}
 use Rattle.laws.specs.Tracker.Merge.{coalesce-law}
+use Rattle.laws.specs.Within.{within}
 
 -- g was made of the counts from s up to e, and c tells where a count came to or left 0
 pub record Done (g : Option Counts → Option Counts) (c : Option Counts → Bool) (s e : ℕ) (l : List Record) (w : Walk) : Type 0 where

@@ -2,16 +2,16 @@
 -- what the list reads as there, and the stored counts follow from that.
 use mathlib.Core.Path.{_≡_, refl}
 use Prim.Native.Nat.{ℕ, _≤_, _<_}
-use mathlib.Core.Bool.{true, false}
 use mathlib.Core.Option.{Option, none, some}
 use mathlib.Core.List.{List, [], _∷_, _++_}
 use native.Mathlib.Omega.{arith}
-use lib.Dec.{leb, le→leb, leb→le, not-T}
+use borrow.Author.Tests.{lt-ltb, le-ltb, le-leb, lt-leb}
+use Rattle.base.specs.Cases.{lt, ge, cmp, below, inside, above, pos}
 use Rattle.model.specs.Lists.{Each}
 use Rattle.model.specs.State.{Counts, Record}
 use Rattle.model.specs.Counts.{noCounts, countsAt}
 use Rattle.model.specs.Sound.{Rising}
-use Rattle.laws.specs.Cases.{within, W, within-in, within-hi, lt, ge, cmp, below, inside, above, pos, ltb-t, ltb-f, is-true, is-false}
+use Rattle.laws.specs.Within.{within, W, within-in, within-hi}
 
 -- the counts of the record that holds a
 abbrev pub look : List Record → ℕ → Option Counts
@@ -50,20 +50,14 @@ abbrev pub countsOf : Option Counts → Counts
 countsOf none = noCounts
 countsOf (some k) = k
 
-leb-t : (m n : ℕ) → m ≤ n → leb m n ≡ true
-leb-t m n h = is-true (le→leb m n h)
-
-leb-f : (m n : ℕ) → n < m → leb m n ≡ false
-leb-f m n h = is-false (not-T (leb m n) λ t. let k = leb→le m n t in omega arith)
-
 pub counts-look : (l : List Record) (a : ℕ) → countsAt l a ≡ countsOf (look l a)
 counts-look [] a = refl
 counts-look (q ∷ l) a = elim (pos (q .start) (q .end) a) [
-  | below h ↦ rw (leb-f (q .start) a h) (simp W (counts-look l a))
-  | inside h k ↦ rw (leb-t (q .start) a h, ltb-t a (q .end) k) (simp W)
+  | below h ↦ rw (lt-leb (q .start) a h) (simp W (counts-look l a))
+  | inside h k ↦ rw (le-leb (q .start) a h, lt-ltb a (q .end) k) (simp W)
   | above h ↦ elim (cmp a (q .start)) [
-    | lt i ↦ rw (leb-f (q .start) a i) (simp W (counts-look l a))
-    | ge i ↦ rw (leb-t (q .start) a i, ltb-f a (q .end) h) (simp W (counts-look l a))
+    | lt i ↦ rw (lt-leb (q .start) a i) (simp W (counts-look l a))
+    | ge i ↦ rw (le-leb (q .start) a i, le-ltb a (q .end) h) (simp W (counts-look l a))
   ]
 ]
 

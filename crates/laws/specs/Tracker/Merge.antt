@@ -8,14 +8,15 @@ use mathlib.Core.List.{List, [], _∷_}
 use native.Mathlib.Omega.{arith}
 use lib.Dec.{T, eqb, eqb→eq, eqb-refl}
 use lib.Ieee.Fits.{and-l, and-r, and-i}
+use Rattle.base.specs.Cases.{lt, ge, cmp, below, inside, above, pos}
 use Rattle.model.specs.State.{Counts, Record, Pool}
 use Rattle.model.specs.Fields.{Field, get, each}
 use Rattle.model.specs.Tracker.{withEnd, sameCounts, mergeable, mergeInto, coalesce}
 use Rattle.model.specs.Sound.{Rising, Merged}
 use Rattle.laws.specs.Fields.{every-field}
 use Rattle.laws.specs.Accepted.{All, accepted, bind, bind-any, weaken, branch-on}
-use Rattle.laws.specs.Cases.{within, W, lt, ge, cmp, below, inside, above, pos}
 use Rattle.laws.specs.Tracker.Look.{look}
+use Rattle.laws.specs.Within.{within, W}
 
 -- ---- when two records may be one
 

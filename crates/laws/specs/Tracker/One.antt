@@ -9,15 +9,18 @@ use native.Mathlib.Omega.{arith}
 use native.Mathlib.Nat.{le-refl}
 use lib.Dec.{T, eqb, ltb→lt}
 use lib.Ieee.Fits.{and-l, and-r}
+use borrow.Author.Tests.{lt-ltb}
+use Rattle.base.specs.Cases.{below, inside, above, pos}
+use Rattle.base.specs.Tests.{is-true, is-false}
 use Rattle.model.specs.Lists.{if_then_else_}
 use Rattle.model.specs.Outcome.{ok, _>>=_}
 use Rattle.model.specs.State.{Counts, Record, Pool}
 use Rattle.model.specs.Tracker.{Walk, newCounts, raise, lower, changes, withCounts, meets, keepOrDrop, addTo, removeFrom}
 use Rattle.laws.specs.Accepted.{All, accepted, bind, bind-any, branch-on}
-use Rattle.laws.specs.Cases.{within, W, within-same, below, inside, above, pos, ltb-t, is-true, is-false}
 use Rattle.laws.specs.Tracker.Look.{look, first-none, look-append}
 use Rattle.laws.specs.Tracker.Span.{Span, span-append}
 use Rattle.laws.specs.Tracker.Cut.{Reads, Cut, cutting}
+use Rattle.laws.specs.Within.{within, W, within-same}
 
 -- what a gain makes of the counts at an address, and whether that is a change
 abbrev pub gained : ℕ → Option Counts → Option Counts
@@ -52,7 +55,7 @@ module _ (g : Option Counts → Option Counts) (c : Option Counts → Bool) (s e
       outside : (a : ℕ) → q .start ≤ a → a < q .end → within s e a (g (some (q .counts))) (some (q .counts)) ≡ some (q .counts)
       outside a i j = elim (pos s e a) [
         | below u ↦ simp W
-        | inside u v ↦ absurd (rw (ltb-t s (q .end) (omega arith), ltb-t (q .start) e (omega arith)) at t)
+        | inside u v ↦ absurd (rw (lt-ltb s (q .end) (omega arith), lt-ltb (q .start) e (omega arith)) at t)
         | above u ↦ simp W
       ]
 

@@ -9,17 +9,18 @@ use native.Mathlib.Omega.{arith}
 use native.Mathlib.Nat.{le-refl}
 use lib.Dec.{eqb, T-not}
 use lib.ListN.{length, getD, set, length-set}
-use Rattle.model.specs.Lists.{oneIf, count, Each}
-use Rattle.model.specs.Outcome.{Refusal, noTracker, spent}
+use borrow.Author.Tests.{eq-eqb}
+use Rattle.model.specs.Lists.{oneIf, countIf, Each}
+use Rattle.refusals.specs.declared.Refusal.{Refusal}
+use Rattle.refusals.specs.Refusals.{noTracker, spent}
 use Rattle.model.specs.State.{Word, Record, Pool}
 use Rattle.model.specs.Pool.{allocate, free}
 use Rattle.laws.specs.Answers.{Gives, gives, refuses, gives-checked}
-use Rattle.laws.specs.Cases.{eqb-t}
 use Rattle.laws.specs.Words.SameTrackers.{uses}
 
 -- From pool p to pool p′, with the records l made into m.
 pub record Moved (p p′ : Pool) (l m : List Record) : Type 0 where
-  pub slots : (i : ℕ) → uses i m + count (eqb i) (p′ .free) ≡ uses i l + count (eqb i) (p .free)
+  pub slots : (i : ℕ) → uses i m + countIf (eqb i) (p′ .free) ≡ uses i l + countIf (eqb i) (p .free)
   pub gensLength : length (p′ .gens) ≡ length (p .gens)
   pub gensRise : (i : ℕ) → getD (p .gens) i 0 ≤ getD (p′ .gens) i 0
   pub gensWords : Each Word (p .gens) → Each Word (p′ .gens)
@@ -34,12 +35,12 @@ uses-append i (q ∷ l) m = omega (arith, uses-append i l m)
 
 -- ---- composition
 
-pub stay : (p : Pool) (l : List Record) → Moved p p l l
-stay p l = record { slots = λ i. refl; gensLength = refl; gensRise = λ i. le-refl _; gensWords = λ h. h }
+pub moved-none : (p : Pool) (l : List Record) → Moved p p l l
+moved-none p l = record { slots = λ i. refl; gensLength = refl; gensRise = λ i. le-refl _; gensWords = λ h. h }
 
 -- two steps, on other records each or on the same
-pub weave : {p p₁ p₂ : Pool} {l m l₁ m₁ l₂ m₂ : List Record} → Moved p p₁ l m → Moved p₁ p₂ l₁ m₁ → ((i : ℕ) → uses i l₂ + uses i m + uses i m₁ ≡ uses i m₂ + uses i l + uses i l₁) → Moved p p₂ l₂ m₂
-weave h k e = record {
+pub moved-then : {p p₁ p₂ : Pool} {l m l₁ m₁ l₂ m₂ : List Record} → Moved p p₁ l m → Moved p₁ p₂ l₁ m₁ → ((i : ℕ) → uses i l₂ + uses i m + uses i m₁ ≡ uses i m₂ + uses i l + uses i l₁) → Moved p p₂ l₂ m₂
+moved-then h k e = record {
   slots = λ i. omega (arith, h .slots i, k .slots i, e i);
   gensLength = k .gensLength ∙ h .gensLength;
   gensRise = λ i. omega (arith, h .gensRise i, k .gensRise i);
@@ -48,7 +49,7 @@ weave h k e = record {
 
 -- one step, with other records beside
 pub frame : {p p₁ : Pool} {l m l₂ m₂ : List Record} → Moved p p₁ l m → ((i : ℕ) → uses i l₂ + uses i m ≡ uses i m₂ + uses i l) → Moved p p₁ l₂ m₂
-frame h e = weave h (stay _ []) (λ i. omega (arith, e i))
+frame h e = moved-then h (moved-none _ []) (λ i. omega (arith, e i))
 
 -- ---- a slot is taken
 
@@ -85,5 +86,5 @@ free-moves q p = gives-checked (not (eqb (getD (p .gens) (q .slot) 0) (2 ^ 64 - 
   slots = λ i. omega arith;
   gensLength = length-set (p .gens) (q .slot) _;
   gensRise = rise-at (p .gens) (q .slot);
-  gensWords = words-at (p .gens) (q .slot) (λ e. T-not (eqb (getD (p .gens) (q .slot) 0) (2 ^ 64 - 1)) t (rw (eqb-t _ _ e) tt));
+  gensWords = words-at (p .gens) (q .slot) (λ e. T-not (eqb (getD (p .gens) (q .slot) 0) (2 ^ 64 - 1)) t (rw (eq-eqb _ _ e) tt));
 }))

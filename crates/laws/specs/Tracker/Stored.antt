@@ -5,14 +5,15 @@ use mathlib.Core.Option.{Option, some}
 use mathlib.Core.List.{List, [], _∷_}
 use native.Mathlib.Omega.{arith}
 use lib.Dec.{T}
-use Rattle.model.specs.Lists.{any, Each}
+use Rattle.base.specs.Cases.{Test, test}
+use Rattle.model.specs.Lists.{exists, Each}
 use Rattle.model.specs.State.{Record, Region}
 use Rattle.model.specs.Fields.{Field}
 use Rattle.model.specs.Counts.{holds, countsAt, Agree}
 use Rattle.model.specs.Sound.{Rising, TrackerSound}
-use Rattle.laws.specs.Cases.{within-in, within-hi, Test, test}
 use Rattle.laws.specs.Tracker.Look.{look, counts-look}
 use Rattle.laws.specs.Tracker.Form.{Form}
+use Rattle.laws.specs.Within.{within-in, within-hi}
 
 module _ (rs : List (Option Region)) (d : ℕ) where
   agree-each : (lo : ℕ) (l : List Record) → Rising lo l → ((a : ℕ) → lo ≤ a → Agree rs d a (countsAt l a)) → Each (λ q. (a : ℕ) → q .start ≤ a → a < q .end → Agree rs d a (q .counts)) l
@@ -26,7 +27,7 @@ module _ (rs : List (Option Region)) (d : ℕ) where
       rest a i = rw (counts-look l a) (rw (counts-look (q ∷ l) a, within-hi (q .start) (q .end) a (some (q .counts)) (look l a) i) at (h a (omega arith)))
 
   -- where something is counted there is a record
-  reach-held : (l : List Record) (a : ℕ) → 0 < countsAt l a .reach → T (any (λ q. holds (q .start) (q .end) a) l)
+  reach-held : (l : List Record) (a : ℕ) → 0 < countsAt l a .reach → T (exists (λ q. holds (q .start) (q .end) a) l)
   reach-held [] a h = absurd (omega arith)
   reach-held (q ∷ l) a h = elim (test (holds (q .start) (q .end) a)) [
     | Test.holds t ↦ rw t tt

@@ -6,15 +6,16 @@ use mathlib.Core.Option.{Option, none, some}
 use mathlib.Core.List.{List, [], _∷_, map}
 use native.Mathlib.Omega.{arith}
 use lib.Dec.{T-not}
+use Rattle.base.specs.Cases.{lt, ge, cmp}
 use Rattle.model.specs.Lists.{Each}
 use Rattle.model.specs.State.{Counts, Record}
 use Rattle.model.specs.Counts.{countsAt}
 use Rattle.model.specs.Tracker.{mergeable}
 use Rattle.model.specs.Sound.{Rising, Merged}
-use Rattle.laws.specs.Cases.{within-in, within-hi, lt, ge, cmp}
 use Rattle.laws.specs.Tracker.Look.{look, look-low, look-head, countsOf, counts-look, Has, has-look}
 use Rattle.laws.specs.Tracker.Span.{weaken-rising}
 use Rattle.laws.specs.Tracker.Merge.{Apart, →mergeable, merged-head, merged-tail}
+use Rattle.laws.specs.Within.{within-in, within-hi}
 
 -- a record without its slot
 abbrev pub stripped : Record → Record

@@ -6,17 +6,18 @@ use mathlib.Core.Bool.{Bool, false, not, _||_}
 use mathlib.Core.Option.{Option, none, some}
 use mathlib.Core.List.{List, [], _∷_, _++_}
 use native.Mathlib.Omega.{arith}
+use Rattle.base.specs.Cases.{lt, ge, cmp, below, inside, above, pos}
 use Rattle.model.specs.Lists.{isEmpty}
 use Rattle.model.specs.State.{Counts, Record, Pool}
 use Rattle.model.specs.Tracker.{Walk, addRegion, removeRegion}
 use Rattle.model.specs.Sound.{Rising}
 use Rattle.laws.specs.Accepted.{All, accepted, bind}
-use Rattle.laws.specs.Cases.{within, W, within-same, lt, ge, cmp, below, inside, above, pos}
 use Rattle.laws.specs.Tracker.Look.{look, first-none, look-append, look-low}
 use Rattle.laws.specs.Tracker.Span.{Span, span-append, span-rising, rising-of}
 use Rattle.laws.specs.Tracker.Cut.{Reads, Gap, gap-law}
 use Rattle.laws.specs.Tracker.One.{gained, grows, lost, shrinks, One, add-one, remove-one}
 use Rattle.laws.specs.Tracker.Flag.{Flagged, gapFlag, flag-nil, flag-cons, flag-late}
+use Rattle.laws.specs.Within.{within, W, within-same}
 
 -- what the list reads as after a change g from s up to e
 abbrev pub Turned : (Option Counts → Option Counts) → ℕ → ℕ → List Record → List Record → Type 0

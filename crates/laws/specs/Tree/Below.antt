@@ -9,15 +9,15 @@ use native.Mathlib.Omega.{arith}
 use native.Mathlib.Decide.{ℕ-discrete}
 use lib.Dec.{eqb}
 use lib.ListN.{length, set}
-use Rattle.model.specs.Lists.{count, slotOf, In}
+use Rattle.base.specs.Options.{none-some, some-same}
+use Rattle.model.specs.Lists.{countIf, atSlot, In}
 use Rattle.model.specs.State.{Region, parentOf}
-use Rattle.laws.specs.Tree.Slots.{none-some, some-same}
 use Rattle.laws.specs.Tree.Shares.{childOf, child}
 use Rattle.laws.specs.Tree.Facts.{Regions}
 use Rattle.laws.specs.Tree.Change.{bare, Changed, childOut}
-use Rattle.laws.specs.Tree.Shape.{child-of, kids-at, to-lists}
+use Rattle.laws.specs.Tree.Shape.{child-of, child-slots-at, to-lists}
 use Rattle.laws.specs.Tree.KeepShape.{bare-like}
-use Rattle.laws.specs.Tree.Keep.{goes, goes-free, goes-kept}
+use Rattle.laws.specs.Tree.Keep.{slot-removed, removed-free, removed-kept}
 use Rattle.laws.specs.Tree.Rank.{Ranked}
 
 -- k is i or below it
@@ -28,10 +28,10 @@ pub data Below (rs : List (Option Region)) (i : ℕ) : ℕ → Type 0 where
 pub record Revoked (rs : List (Option Region)) (i : ℕ) (rs′ : List (Option Region)) : Type 0 where
   pub size : length rs′ ≡ length rs
   pub sound : Regions rs′
-  pub gone : (k : ℕ) → Below rs i k → slotOf rs′ k ≡ none
-  pub kept : (k : ℕ) → (Below rs i k → ⊥) → bare (slotOf rs′ k) ≡ bare (slotOf rs k)
+  pub gone : (k : ℕ) → Below rs i k → atSlot rs′ k ≡ none
+  pub kept : (k : ℕ) → (Below rs i k → ⊥) → bare (atSlot rs′ k) ≡ bare (atSlot rs k)
   -- what is left is as it was
-  pub left : (k : ℕ) (z : Region) → In rs′ k z → bare (slotOf rs′ k) ≡ bare (slotOf rs k)
+  pub left : (k : ℕ) (z : Region) → In rs′ k z → bare (atSlot rs′ k) ≡ bare (atSlot rs k)
 
 -- ---- facts about what is below
 
@@ -45,17 +45,17 @@ below-rank rs r i k q (Below.step p x e c b) = omega (arith, q .child k p x e c,
 
 -- one live region has one parent
 one-parent : (rs : List (Option Region)) (k p p′ : ℕ) (x y : Region) → In rs k x → In rs k y → parentOf (x .kind) ≡ some p → parentOf (y .kind) ≡ some p′ → p ≡ p′
-one-parent rs k p p′ x y e m q n = some-same (parentOf (x .kind)) p p′ q (rw (some-same (slotOf rs k) x y e m) n)
+one-parent rs k p p′ x y e m q n = some-same (parentOf (x .kind)) p p′ q (rw (some-same (atSlot rs k) x y e m) n)
 
 -- what was below is below where it is left
-pub was : (rs rs′ : List (Option Region)) (k : ℕ) (z : Region) → bare (slotOf rs′ k) ≡ bare (slotOf rs k) → In rs′ k z → (w : Region) × In rs k w × (parentOf (w .kind) ≡ parentOf (z .kind))
-was rs rs′ k z e m = let b = bare-like (slotOf rs′ k) (slotOf rs k) z e m in (b .0, b .1, ap parentOf (sym (b .2 .kind)))
+pub was : (rs rs′ : List (Option Region)) (k : ℕ) (z : Region) → bare (atSlot rs′ k) ≡ bare (atSlot rs k) → In rs′ k z → (w : Region) × In rs k w × (parentOf (w .kind) ≡ parentOf (z .kind))
+was rs rs′ k z e m = let b = bare-like (atSlot rs′ k) (atSlot rs k) z e m in (b .0, b .1, ap parentOf (sym (b .2 .kind)))
 
-below-sub : (rs rs′ : List (Option Region)) (i k : ℕ) → ((k : ℕ) (z : Region) → In rs′ k z → bare (slotOf rs′ k) ≡ bare (slotOf rs k)) → Below rs′ i k → Below rs i k
+below-sub : (rs rs′ : List (Option Region)) (i k : ℕ) → ((k : ℕ) (z : Region) → In rs′ k z → bare (atSlot rs′ k) ≡ bare (atSlot rs k)) → Below rs′ i k → Below rs i k
 below-sub rs rs′ i k s (Below.here e) = Below.here e
 below-sub rs rs′ i k s (Below.step p x e q r) = let w = was rs rs′ k x (s k x e) e in Below.step p (w .0) (w .1) (w .2 ∙ q) (below-sub rs rs′ i p s r)
 
-below-alone : (rs : List (Option Region)) (i k : ℕ) → ((k : ℕ) → child (slotOf rs k) i ≡ 0) → Below rs i k → k ≡ i
+below-alone : (rs : List (Option Region)) (i k : ℕ) → ((k : ℕ) → child (atSlot rs k) i ≡ 0) → Below rs i k → k ≡ i
 below-alone rs i k c (Below.here e) = e
 below-alone rs i k c (Below.step p x e q r) =
     let z = below-alone rs i p c r in
@@ -68,21 +68,21 @@ module _ (rs : List (Option Region)) (s : Regions rs) (i : ℕ) (g : Region) (e 
   after = set (childOut rs i p h) i none
 
   change : Changed rs after i (some g) none
-  change = goes rs s i g e empty p h at q
+  change = slot-removed rs s i g e empty p h at q
 
-  dead : slotOf after i ≡ none
-  dead = goes-free rs s i g e empty p h at q
+  dead : atSlot after i ≡ none
+  dead = removed-free rs s i g e empty p h at q
 
-  childless : (k : ℕ) → child (slotOf rs k) i ≡ 0
-  childless k = sym (to-lists rs s .listing i k) ∙ ap (count (eqb k)) (kids-at rs i g e ∙ empty)
+  childless : (k : ℕ) → child (atSlot rs k) i ≡ 0
+  childless k = sym (to-lists rs s .listing i k) ∙ ap (countIf (eqb k)) (child-slots-at rs i g e ∙ empty)
 
   pub revoked-last : Revoked rs i after
   revoked-last = record {
     size = change .size;
-    sound = goes-kept rs s i g e empty p h at q;
+    sound = removed-kept rs s i g e empty p h at q;
     gone = λ k b. let o = below-alone rs i k childless b in rw o dead;
     kept = λ k n. change .others k (λ o. n (Below.here o));
-    left = λ k z m. change .others k (λ o. none-some (slotOf after i) z dead (rw o at m));
+    left = λ k z m. change .others k (λ o. none-some (atSlot after i) z dead (rw o at m));
   }
 
 -- ---- the first child, and then again
@@ -117,15 +117,15 @@ module _ (rs a b : List (Option Region)) (r : ℕ → ℕ) (i c : ℕ) (q : Rank
   split k (Below.step p x m n z) = split-step k p x m n (split p z)
 
   module _ (v : Revoked a i b) where
-    dead-stays : (k : ℕ) (x : Option Region) → slotOf b k ≡ x → slotOf a k ≡ none → slotOf b k ≡ none
+    dead-stays : (k : ℕ) (x : Option Region) → atSlot b k ≡ x → atSlot a k ≡ none → atSlot b k ≡ none
     dead-stays k none m d = m
-    dead-stays k (some x) m d = let w = was a b k x (v .left k x m) m in absurd (none-some (slotOf a k) (w .0) d (w .1))
+    dead-stays k (some x) m d = let w = was a b k x (v .left k x m) m in absurd (none-some (atSlot a k) (w .0) d (w .1))
 
-    gone-both : (k : ℕ) → Split rs a i c k → slotOf b k ≡ none
-    gone-both k (inner z) = dead-stays k (slotOf b k) refl (u .gone k z)
+    gone-both : (k : ℕ) → Split rs a i c k → atSlot b k ≡ none
+    gone-both k (inner z) = dead-stays k (atSlot b k) refl (u .gone k z)
     gone-both k (outer z f) = v .gone k z
 
-    left-both : (k : ℕ) (z : Region) → In b k z → bare (slotOf b k) ≡ bare (slotOf rs k)
+    left-both : (k : ℕ) (z : Region) → In b k z → bare (atSlot b k) ≡ bare (atSlot rs k)
     left-both k z m = let w = was a b k z (v .left k z m) m in v .left k z m ∙ u .left k (w .0) (w .1)
 
     pub revoked-both : Revoked rs i b

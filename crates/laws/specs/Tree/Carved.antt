@@ -5,13 +5,15 @@ use mathlib.Core.Option.{Option, none, some}
 use mathlib.Core.List.{List}
 use native.Mathlib.Omega.{arith}
 use lib.ListN.{length}
-use Rattle.model.specs.Lists.{slotOf, In}
+use Rattle.base.specs.Cases.{lt, ge, cmp, below, inside, above, pos}
+use Rattle.base.specs.Options.{none-some}
+use Rattle.model.specs.Lists.{atSlot, In}
 use Rattle.model.specs.State.{Region}
-use Rattle.laws.specs.Cases.{within, W, within-in, lt, ge, cmp, below, inside, above, pos}
 use Rattle.laws.specs.Tree.Sum.{sum-get, sum-find, sum-unique}
-use Rattle.laws.specs.Tree.Slots.{none-some, in-length}
+use Rattle.laws.specs.Tree.Slots.{in-length}
 use Rattle.laws.specs.Tree.Shares.{carve, carveOf, carved, carved-is, clear, clear-0, clear-s, within-pos}
 use Rattle.laws.specs.Tree.Facts.{Regions, Under, under, apart, carve-child, child-le}
+use Rattle.laws.specs.Within.{within, W, within-in}
 
 -- 1 where the slot's region covers a
 abbrev pub cover : Option Region → ℕ → ℕ
@@ -31,15 +33,15 @@ carve-le none p a = omega arith
 carve-le (some g) p a = elim (pos (g .start) (g .end) a) [ below u ↦ simp W (omega arith) | inside u k ↦ simp W (omega (arith, carve-child (g .kind) p, child-le (some g) p)) | above u ↦ simp W (omega arith) ]
 
 module _ (rs : List (Option Region)) (p a : ℕ) where
-  carving-go : (k : ℕ) (x : Option Region) → slotOf rs k ≡ x → 0 < carve x p a → Carving rs p a k
+  carving-go : (k : ℕ) (x : Option Region) → atSlot rs k ≡ x → 0 < carve x p a → Carving rs p a k
   carving-go k none e h = absurd (omega arith)
   carving-go k (some g) e h = let w = within-pos (g .start) (g .end) a (carveOf (g .kind) p) h in record { region = g; is = e; low = w .0; high = w .1; of = w .2 }
 
-  carving : (k : ℕ) → 0 < carve (slotOf rs k) p a → Carving rs p a k
-  carving k h = carving-go k (slotOf rs k) refl h
+  carving : (k : ℕ) → 0 < carve (atSlot rs k) p a → Carving rs p a k
+  carving k h = carving-go k (atSlot rs k) refl h
 
   pub carved-find : 0 < carved rs p a → (k : ℕ) × Carving rs p a k
-  carved-find h = let r = sum-find (λ k. carve (slotOf rs k) p a) (length rs) (omega (arith, carved-is rs p a)) in (r .at, carving (r .at) (r .counts))
+  carved-find h = let r = sum-find (λ k. carve (atSlot rs k) p a) (length rs) (omega (arith, carved-is rs p a)) in (r .at, carving (r .at) (r .counts))
 
   pub carved-none : ((k : ℕ) → Carving rs p a k → ⊥) → carved rs p a ≡ 0
   carved-none h = elim (cmp 0 (carved rs p a)) [
@@ -49,8 +51,8 @@ module _ (rs : List (Option Region)) (p a : ℕ) where
 
   pub carved-get : (k : ℕ) → Carving rs p a k → 0 < carved rs p a
   carved-get k c =
-      let e : carve (slotOf rs k) p a ≡ carveOf (c .region .kind) p = rw (c .is) (within-in _ _ _ _ _ (c .low) (c .high)) in
-      omega (arith, carved-is rs p a, sum-get (λ j. carve (slotOf rs j) p a) (length rs) k (in-length rs k (c .region) (c .is)), c .of)
+      let e : carve (atSlot rs k) p a ≡ carveOf (c .region .kind) p = rw (c .is) (within-in _ _ _ _ _ (c .low) (c .high)) in
+      omega (arith, carved-is rs p a, sum-get (λ j. carve (atSlot rs j) p a) (length rs) k (in-length rs k (c .region) (c .is)), c .of)
 
   module _ (s : Regions rs) where
     carving-under : (k : ℕ) (c : Carving rs p a k) → Under rs p (c .region)
@@ -60,17 +62,17 @@ module _ (rs : List (Option Region)) (p a : ℕ) where
     carved-le = omega (
       arith,
       carved-is rs p a,
-      sum-unique (λ k. carve (slotOf rs k) p a) (length rs) (λ k. carve-le (slotOf rs k) p a) (λ j k d u v.
+      sum-unique (λ k. carve (atSlot rs k) p a) (length rs) (λ k. carve-le (atSlot rs k) p a) (λ j k d u v.
           let x = carving j u in
           let y = carving k v in
           let z = apart rs s j k p (x .region) (y .region) d (x .is) (y .is) (x .of) (omega (arith, carve-child (y .region .kind) p, y .of)) (omega arith) in
           omega arith),
     )
 
-    pub carved-dead : slotOf rs p ≡ none → carved rs p a ≡ 0
-    carved-dead e = carved-none (λ k c. let u = carving-under k c in none-some (slotOf rs p) (u .parent) e (u .is))
+    pub carved-dead : atSlot rs p ≡ none → carved rs p a ≡ 0
+    carved-dead e = carved-none (λ k c. let u = carving-under k c in none-some (atSlot rs p) (u .parent) e (u .is))
 
-    cover-go : (x : Option Region) → slotOf rs p ≡ x → 0 < carved rs p a → cover x a ≡ 1
+    cover-go : (x : Option Region) → atSlot rs p ≡ x → 0 < carved rs p a → cover x a ≡ 1
     cover-go x e h =
         let r = carved-find h in
         let u = carving-under (r .0) (r .1) in
@@ -78,8 +80,8 @@ module _ (rs : List (Option Region)) (p a : ℕ) where
         rw z (within-in _ _ _ _ _ (omega (arith, r .1 .low)) (omega (arith, r .1 .high)))
 
     -- a region that is carved at a is so once, and covers a
-    pub carved-cover : clear (carved rs p a) (cover (slotOf rs p) a) + carved rs p a ≡ cover (slotOf rs p) a
+    pub carved-cover : clear (carved rs p a) (cover (atSlot rs p) a) + carved rs p a ≡ cover (atSlot rs p) a
     carved-cover = elim (cmp 0 (carved rs p a)) [
-      | lt u ↦ omega (arith, clear-s (carved rs p a) (cover (slotOf rs p) a) u, cover-go (slotOf rs p) refl u, carved-le)
-      | ge u ↦ omega (arith, clear-0 (carved rs p a) (cover (slotOf rs p) a) (omega arith))
+      | lt u ↦ omega (arith, clear-s (carved rs p a) (cover (atSlot rs p) a) u, cover-go (atSlot rs p) refl u, carved-le)
+      | ge u ↦ omega (arith, clear-0 (carved rs p a) (cover (atSlot rs p) a) (omega arith))
     ]

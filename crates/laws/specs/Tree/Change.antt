@@ -9,14 +9,13 @@ use native.Mathlib.Omega.{arith}
 use native.Mathlib.Decide.{ℕ-discrete}
 use lib.ListN.{length, set, length-set}
 use lib.Seq.{getD-set-same, getD-set-other}
-use Rattle.model.specs.Lists.{slotOf, In, without}
+use Rattle.model.specs.Lists.{atSlot, In, without}
 use Rattle.model.specs.State.{Region, withChildren}
 use Rattle.model.specs.Fields.{Field}
 use Rattle.model.specs.Tree.{insertSorted}
-use Rattle.model.specs.Counts.{regionCount}
-use Rattle.laws.specs.Tree.Sum.{sum, sum-same, sum-one}
+use Rattle.laws.specs.Tree.Sum.{sum, sum-one}
 use Rattle.laws.specs.Tree.Slots.{in-length}
-use Rattle.laws.specs.Tree.Shares.{share, carve, carved, carved-is, weight, tally-is}
+use Rattle.laws.specs.Tree.Shares.{share, carve, carved, carved-is}
 
 -- a slot's region without its child list
 abbrev pub bare : Option Region → Option Region
@@ -26,15 +25,15 @@ bare (some g) = some (withChildren [] g)
 -- the same regions, child lists aside
 pub record Alike (rs rs′ : List (Option Region)) : Type 0 where
   pub size : length rs′ ≡ length rs
-  pub slots : (k : ℕ) → bare (slotOf rs′ k) ≡ bare (slotOf rs k)
+  pub slots : (k : ℕ) → bare (atSlot rs′ k) ≡ bare (atSlot rs k)
 
 -- slot i had x and has y, and the others have what they had, child lists aside
 pub record Changed (rs rs′ : List (Option Region)) (i : ℕ) (x y : Option Region) : Type 0 where
   pub size : length rs′ ≡ length rs
   pub low : i < length rs
-  pub was : bare (slotOf rs i) ≡ bare x
-  pub now : bare (slotOf rs′ i) ≡ bare y
-  pub others : (k : ℕ) → k ≢ i → bare (slotOf rs′ k) ≡ bare (slotOf rs k)
+  pub was : bare (atSlot rs i) ≡ bare x
+  pub now : bare (atSlot rs′ i) ≡ bare y
+  pub others : (k : ℕ) → k ≢ i → bare (atSlot rs′ k) ≡ bare (atSlot rs k)
 
 -- ---- the child list of region h in slot p with slot i put in, and left out
 
@@ -49,7 +48,7 @@ childOut rs i p h = set rs p (some (withChildren (without i (h .children)) h))
 pub turned : (rs rs′ : List (Option Region)) (i : ℕ) (x y : Option Region) → Changed rs rs′ i x y → Changed rs′ rs i y x
 turned rs rs′ i x y t = record { size = sym (t .size); low = omega (arith, t .size, t .low); was = t .now; now = t .was; others = λ k n. sym (t .others k n) }
 
-pub set-slot : (rs : List (Option Region)) (i : ℕ) (x y : Option Region) → i < length rs → slotOf rs i ≡ x → Changed rs (set rs i y) i x y
+pub set-slot : (rs : List (Option Region)) (i : ℕ) (x y : Option Region) → i < length rs → atSlot rs i ≡ x → Changed rs (set rs i y) i x y
 set-slot rs i x y l e = record {
   size = length-set rs i y;
   low = l;
@@ -101,26 +100,13 @@ same-carve x y p a e = same-bare (λ z. carve z p a) (λ g. refl) x y e
 
 pub carved-change : (rs rs′ : List (Option Region)) (i : ℕ) (x y : Option Region) → Changed rs rs′ i x y → (p a : ℕ) → carved rs′ p a + carve x p a ≡ carved rs p a + carve y p a
 carved-change rs rs′ i x y t p a =
-    let w : List (Option Region) → ℕ → ℕ = λ l k. carve (slotOf l k) p a in
+    let w : List (Option Region) → ℕ → ℕ = λ l k. carve (atSlot l k) p a in
     omega (
       arith,
       carved-is rs p a,
       carved-is rs′ p a,
       ap (sum (w rs′)) (t .size),
-      sum-one (w rs′) (w rs) (length rs) i (t .low) (λ k n. same-carve (slotOf rs′ k) (slotOf rs k) p a (t .others k n)),
-      same-carve (slotOf rs i) x p a (t .was),
-      same-carve (slotOf rs′ i) y p a (t .now),
+      sum-one (w rs′) (w rs) (length rs) i (t .low) (λ k n. same-carve (atSlot rs′ k) (atSlot rs k) p a (t .others k n)),
+      same-carve (atSlot rs i) x p a (t .was),
+      same-carve (atSlot rs′ i) y p a (t .now),
     )
-
--- ---- child lists change no count
-
-module _ (rs rs′ : List (Option Region)) (t : Alike rs rs′) where
-  carved-alike : (p a : ℕ) → carved rs′ p a ≡ carved rs p a
-  carved-alike p a = carved-is rs′ p a ∙ ap (sum (λ k. carve (slotOf rs′ k) p a)) (t .size) ∙ sum-same _ _ (length rs) (λ k h. same-carve (slotOf rs′ k) (slotOf rs k) p a (t .slots k)) ∙ sym (carved-is rs p a)
-
-  pub tally-alike : (f : Field) (d a : ℕ) → regionCount f rs′ d a ≡ regionCount f rs d a
-  tally-alike f d a =
-      tally-is f rs′ d a
-      ∙ ap (sum (weight f rs′ d a)) (t .size)
-      ∙ sum-same _ _ (length rs) (λ k h. rw (carved-alike k a, same-share f (slotOf rs′ k) (slotOf rs k) d a (t .slots k)))
-      ∙ sym (tally-is f rs d a)

@@ -8,32 +8,34 @@ use mathlib.Core.Option.{Option, none, some}
 use mathlib.Core.List.{List, [], _∷_, map}
 use native.Mathlib.Omega.{arith}
 use lib.Dec.{T, eqb, eqb→eq}
-use Rattle.model.specs.Lists.{if_then_else_, oneIf, any, count, slotOf, In}
+use Rattle.base.specs.Cases.{lt, ge, cmp, Test, test}
+use Rattle.base.specs.Tests.{true-is, is-true}
+use Rattle.model.specs.Lists.{if_then_else_, oneIf, exists, countIf, atSlot, In}
 use Rattle.model.specs.State.{Region, regionIn}
 use Rattle.model.specs.Tree.{isCarve, Range, childrenOf, effectiveFrom}
 use Rattle.model.specs.Counts.{holds, carves}
-use Rattle.laws.specs.Cases.{within, within-in, lt, ge, cmp, Test, test, true-is, is-true}
 use Rattle.laws.specs.Tree.Shares.{clear, clear-any, child, childOf, carveOf, carved, holds-within, within-pos}
 use Rattle.laws.specs.Tree.Facts.{Regions, Apart, self, child-le, carve-child, is-carve, carve-is, under, lies, apart, listing}
 use Rattle.laws.specs.Tree.Carved.{carved-get, carved-find}
 use Rattle.laws.specs.Tree.Rises.{Rises, ordered-from, rises-all}
 use Rattle.laws.specs.Tree.Pieces.{Pieces, spread, Cuts, cuts, pass-rises, pass-spread}
+use Rattle.laws.specs.Within.{within, within-in}
 
 -- ---- a list of slots, rising and without repeats; f gives the region of a slot
 
 -- its carves lie between cur and e
 abbrev Between : (ℕ → Region) → ℕ → ℕ → List ℕ → Type 0
-Between f cur e ks = (k : ℕ) → 0 < count (eqb k) ks → T (isCarve (f k .kind)) → (cur ≤ f k .start) × (f k .start < f k .end) × (f k .end ≤ e)
+Between f cur e ks = (k : ℕ) → 0 < countIf (eqb k) ks → T (isCarve (f k .kind)) → (cur ≤ f k .start) × (f k .start < f k .end) × (f k .end ≤ e)
 
 -- and overlap no other member
-abbrev Parted : (ℕ → Region) → List ℕ → Type 0
-Parted f ks = (j k : ℕ) → j ≢ k → 0 < count (eqb j) ks → 0 < count (eqb k) ks → T (isCarve (f j .kind)) → Apart (f j) (f k)
+abbrev CarvesApart : (ℕ → Region) → List ℕ → Type 0
+CarvesApart f ks = (j k : ℕ) → j ≢ k → 0 < countIf (eqb j) ks → 0 < countIf (eqb k) ks → T (isCarve (f j .kind)) → Apart (f j) (f k)
 
 differ : (i j : ℕ) → oneIf (eqb i j) ≡ 0 → j ≢ i
 differ i j h e = omega (arith, self i, ap (λ (n : ℕ). oneIf (eqb i n)) e)
 
 -- so they lie there in order
-in-order : (f : ℕ → Region) (cur e lo : ℕ) (ks : List ℕ) → ((k : ℕ) → count (eqb k) ks ≤ 1) → Rises f lo ks → cur ≤ e → Between f cur e ks → Parted f ks → Cuts cur e (map f ks)
+in-order : (f : ℕ → Region) (cur e lo : ℕ) (ks : List ℕ) → ((k : ℕ) → countIf (eqb k) ks ≤ 1) → Rises f lo ks → cur ≤ e → Between f cur e ks → CarvesApart f ks → Cuts cur e (map f ks)
 in-order f cur e lo [] once r h between parted = h
 in-order f cur e lo (c ∷ ks) once r h between parted = elim (test (isCarve (f c .kind))) [
   | Test.holds t ↦ let m = between c (omega (arith, self c)) (true-is t) in
@@ -57,7 +59,7 @@ in-order f cur e lo (c ∷ ks) once r h between parted = elim (test (isCarve (f 
 
 record CutAt (f : ℕ → Region) (ks : List ℕ) (a : ℕ) : Type 0 where
   at : ℕ
-  among : 0 < count (eqb at) ks
+  among : 0 < countIf (eqb at) ks
   is : T (isCarve (f at .kind))
   low : f at .start ≤ a
   high : a < f at .end
@@ -75,7 +77,7 @@ cuts-find f (c ∷ ks) a h = elim (cmp 0 (cuts (map f ks) a)) [
   ]
 ]
 
-cuts-get : (f : ℕ → Region) (ks : List ℕ) (a k : ℕ) → 0 < count (eqb k) ks → T (isCarve (f k .kind)) → f k .start ≤ a → a < f k .end → 0 < cuts (map f ks) a
+cuts-get : (f : ℕ → Region) (ks : List ℕ) (a k : ℕ) → 0 < countIf (eqb k) ks → T (isCarve (f k .kind)) → f k .start ≤ a → a < f k .end → 0 < cuts (map f ks) a
 cuts-get f [] a k o t u v = absurd (omega arith)
 cuts-get f (c ∷ ks) a k o t u v = elim (test (eqb k c)) [
   | Test.holds e ↦ rw (← eqb→eq k c (true-is e), is-true {b = isCarve (f k .kind)} t, within-in {A = ℕ} (f k .start) (f k .end) a 1 0 u v) (omega arith)
@@ -90,7 +92,7 @@ clear-iff (suc c) zero x h k = absurd (omega (arith, h (omega arith)))
 clear-iff (suc c) (suc b) x h k = refl
 
 -- the number of pieces that hold a
-holding : (a : ℕ) (l : List Range) → count (λ x. holds (x .0) (x .1) a) l ≡ spread 1 l a
+holding : (a : ℕ) (l : List Range) → countIf (λ x. holds (x .0) (x .1) a) l ≡ spread 1 l a
 holding a [] = refl
 holding a (x ∷ l) = omega (arith, holds-within (x .0) (x .1) a 1, holding a l)
 
@@ -114,12 +116,12 @@ module _ (rs : List (Option Region)) (s : Regions rs) (i : ℕ) (g : Region) (e 
     of : 0 < childOf (region .kind) i
     at : regionIn rs k ≡ region
 
-  listed-go : (k : ℕ) (x : Option Region) → slotOf rs k ≡ x → 0 < child x i → Listed k
+  listed-go : (k : ℕ) (x : Option Region) → atSlot rs k ≡ x → 0 < child x i → Listed k
   listed-go k none q h = absurd (omega arith)
   listed-go k (some y) q h = record { region = y; is = q; of = h; at = rw q }
 
-  listed : (k : ℕ) → 0 < count (eqb k) (g .children) → Listed k
-  listed k o = listed-go k (slotOf rs k) refl (omega (arith, listing rs s i g e k))
+  listed : (k : ℕ) → 0 < countIf (eqb k) (g .children) → Listed k
+  listed k o = listed-go k (atSlot rs k) refl (omega (arith, listing rs s i g e k))
 
   between : Between (regionIn rs) (g .start) (g .end) (g .children)
   between k o t =
@@ -127,7 +129,7 @@ module _ (rs : List (Option Region)) (s : Regions rs) (i : ℕ) (g : Region) (e 
       let l = lies rs i (c .region) g (under rs s k i (c .region) (c .is) (c .of)) e in
       rw (c .at) (l .0, s k (c .region) (c .is) .nonempty, l .1)
 
-  parted : Parted (regionIn rs) (g .children)
+  parted : CarvesApart (regionIn rs) (g .children)
   parted j k d u v t =
       let b = listed j u in
       let c = listed k v in
@@ -135,7 +137,7 @@ module _ (rs : List (Option Region)) (s : Regions rs) (i : ℕ) (g : Region) (e 
       rw (b .at, c .at) (apart rs s j k i (b .region) (c .region) d (b .is) (c .is) o (c .of))
 
   in-cuts : Cuts (g .start) (g .end) (childrenOf rs g)
-  in-cuts = in-order (regionIn rs) (g .start) (g .end) 0 (g .children) (λ k. omega (arith, listing rs s i g e k, child-le (slotOf rs k) i)) (ordered-from (regionIn rs) (g .children) (s i g e .ordered)) (omega (arith, s i g e .nonempty)) between parted
+  in-cuts = in-order (regionIn rs) (g .start) (g .end) 0 (g .children) (λ k. omega (arith, listing rs s i g e k, child-le (atSlot rs k) i)) (ordered-from (regionIn rs) (g .children) (s i g e .ordered)) (omega (arith, s i g e .nonempty)) between parted
 
   -- the pieces rise from the region's start to its end
   pub effective-rises : Pieces (g .start) (g .end) ranges
@@ -154,7 +156,7 @@ module _ (rs : List (Option Region)) (s : Regions rs) (i : ℕ) (g : Region) (e 
       let k = r .0 in
       let c = r .1 in
       let at : regionIn rs k ≡ c .region = rw (c .is) in
-      let o : 0 < child (slotOf rs k) i = rw (c .is) (omega (arith, carve-child (c .region .kind) i, c .of)) in
+      let o : 0 < child (atSlot rs k) i = rw (c .is) (omega (arith, carve-child (c .region .kind) i, c .of)) in
       cuts-get (regionIn rs) (g .children) a k (omega (arith, listing rs s i g e k)) (rw at (is-carve (c .region .kind) i (c .of))) (rw at (c .low)) (rw at (c .high))
 
   -- v once at each address that the region covers and where it is not carved
@@ -162,6 +164,6 @@ module _ (rs : List (Option Region)) (s : Regions rs) (i : ℕ) (g : Region) (e 
   effective-spread v a = pass-spread v (g .start) (g .end) a (childrenOf rs g) in-cuts ∙ clear-iff (cuts (childrenOf rs g) a) (carved rs i a) _ (cut-carved a) (carved-cut a)
 
   -- the same by the model's tests: an address lies in one piece where the region covers it and is not carved, else in none
-  pub effective-hold : (a : ℕ) → count (λ x. holds (x .0) (x .1) a) ranges ≡ oneIf (holds (g .start) (g .end) a && not (any (carves i a) rs))
+  pub effective-hold : (a : ℕ) → countIf (λ x. holds (x .0) (x .1) a) ranges ≡ oneIf (holds (g .start) (g .end) a && not (exists (carves i a) rs))
   unfolding carved
-  effective-hold a = holding a ranges ∙ effective-spread 1 a ∙ sym (tests (holds (g .start) (g .end) a) (any (carves i a) rs) ∙ clear-any (carves i a) rs (oneIf (holds (g .start) (g .end) a)) ∙ ap (clear (count (carves i a) rs)) (holds-within (g .start) (g .end) a 1))
+  effective-hold a = holding a ranges ∙ effective-spread 1 a ∙ sym (tests (holds (g .start) (g .end) a) (exists (carves i a) rs) ∙ clear-any (carves i a) rs (oneIf (holds (g .start) (g .end) a)) ∙ ap (clear (countIf (carves i a) rs)) (holds-within (g .start) (g .end) a 1))

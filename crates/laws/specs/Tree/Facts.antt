@@ -8,16 +8,21 @@ use mathlib.Core.List.{List}
 use native.Mathlib.Omega.{arith}
 use lib.Bits.{bitAnd, and-le-l, or-lt}
 use lib.Dec.{T, eqb, eqb→eq, lit<}
-use Rattle.rights.specs.Rights.{HASH, CLEANUP, VITAL, bit, union, most, allowed}
+use Rattle.rights.specs.Rights.{HASH, CLEANUP, VITAL, union, withExtras, allowed}
+use Rattle.rights.specs.Bits.{bit}
+use Rattle.rights.specs.Bits.{bit}
+use borrow.Author.Tests.{ne-eqb, lt-ltb}
+use Rattle.base.specs.Cases.{lt, ge, cmp, holds, fails, test}
+use Rattle.base.specs.Tests.{true-is, is-true}
+use Rattle.base.specs.Options.{none-some, some-same}
 use Rattle.rights.specs.Laws.{allowed-bits}
-use Rattle.model.specs.Lists.{oneIf, count, slotOf, In}
+use Rattle.model.specs.Lists.{oneIf, countIf, atSlot, In}
 use Rattle.model.specs.State.{Region, Kind, Root, Alias, Carve, parentOf}
 use Rattle.model.specs.Fields.{Field, counter}
-use Rattle.model.specs.Tree.{isCarve, accessOf, overlaps}
+use Rattle.model.specs.Tree.{isCarve, isRootKind, accessOf, overlaps}
 use Rattle.model.specs.Sound.{RegionSound, Rooted, names}
-use Rattle.laws.specs.Cases.{lt, ge, cmp, eqb-f, ltb-t, holds, fails, test, true-is, is-true}
 use Rattle.laws.specs.Stack.{one, one-at-most}
-use Rattle.laws.specs.Tree.Slots.{none-some, some-same, live-is, each-in}
+use Rattle.laws.specs.Tree.Slots.{live-is, each-in}
 use Rattle.laws.specs.Tree.Shares.{childOf, carveOf, child}
 
 -- every live region of the table is sound
@@ -33,7 +38,7 @@ pub same : (i j : ℕ) → 0 < oneIf (eqb i j) → i ≡ j
 same i j h = elim (test (eqb i j)) [ holds t ↦ eqb→eq i j (true-is t) | fails t ↦ absurd (omega (arith, rw t at h)) ]
 
 pub other : (i j : ℕ) → i ≢ j → oneIf (eqb i j) ≡ 0
-other i j h = rw (eqb-f i j h)
+other i j h = rw (ne-eqb i j h)
 
 pub carve-child : (k : Kind) (p : ℕ) → carveOf k p ≤ childOf k p
 carve-child Root p = omega arith
@@ -44,9 +49,15 @@ pub child-le : (x : Option Region) (p : ℕ) → child x p ≤ 1
 child-le none p = omega arith
 child-le (some g) p = one-at-most (names (parentOf (g .kind)) p)
 
-named : (o : Option ℕ) (p : ℕ) → 0 < oneIf (names o p) → o ≡ some p
+pub named : (o : Option ℕ) (p : ℕ) → 0 < oneIf (names o p) → o ≡ some p
 named none p h = absurd (omega arith)
 named (some q) p h = ap some (same q p h)
+
+-- what is no root has a parent
+pub not-root : (k : Kind) → T (not (isRootKind k)) → (p : ℕ) × (parentOf k ≡ some p)
+not-root Root t = absurd t
+not-root (Alias p) t = (p, refl)
+not-root (Carve p) t = (p, refl)
 
 pub has-parent : (k : Kind) (p : ℕ) → 0 < childOf k p → parentOf k ≡ some p
 has-parent k p h = named (parentOf k) p h
@@ -70,7 +81,7 @@ Apart x y = y .start < x .end → y .end ≤ x .start
 
 pub no-overlap : (x y : Region) → T (not (overlaps (accessOf x) y)) → Apart x y
 no-overlap x y t l = elim (cmp (x .start) (y .end)) [
-  | lt u ↦ absurd (rw (ltb-t (x .start) (y .end) u, ltb-t (y .start) (x .end) l) at t)
+  | lt u ↦ absurd (rw (lt-ltb (x .start) (y .end) u, lt-ltb (y .start) (x .end) l) at t)
   | ge u ↦ u
 ]
 
@@ -93,7 +104,7 @@ byte-allowed p c t h =
     let hash = or-lt 8 p HASH h (lit< tt) in
     let clean = or-lt 8 (union p HASH) CLEANUP hash (lit< tt) in
     let vital = or-lt 8 (union (union p HASH) CLEANUP) VITAL clean (lit< tt) in
-    omega (arith, eqb→eq (bitAnd (most p) c) c t, and-le-l (most p) c, vital)
+    omega (arith, eqb→eq (bitAnd (withExtras p) c) c t, and-le-l (withExtras p) c, vital)
 
 -- y lies in the range and rights of the region in slot p
 pub record Under (rs : List (Option Region)) (p : ℕ) (y : Region) : Type 0 where
@@ -106,15 +117,15 @@ pub record Under (rs : List (Option Region)) (p : ℕ) (y : Region) : Type 0 whe
 -- the region in a slot is told by the slot
 pub lies : (rs : List (Option Region)) (p : ℕ) (y h : Region) → Under rs p y → In rs p h → (h .start ≤ y .start) × (y .end ≤ h .end) × T (allowed (h .rights) (y .rights))
 lies rs p y h u e =
-    let z = some-same (slotOf rs p) h (u .parent) e (u .is) in
+    let z = some-same (atSlot rs p) h (u .parent) e (u .is) in
     rw z (u .low, u .high, u .rights)
 
 -- ---- a parent is not its own
 
 not-own : (rs : List (Option Region)) (i j : ℕ) (g : Region) → In rs i g → parentOf (g .kind) ≡ some i → Rooted rs j → j ≡ i → ⊥
-not-own rs i j g e q (Rooted.top _ h u v) o = let z : h ≡ g = some-same (slotOf rs i) h g (rw o at u) e in none-some (parentOf (g .kind)) i (rw z at v) q
+not-own rs i j g e q (Rooted.top _ h u v) o = let z : h ≡ g = some-same (atSlot rs i) h g (rw o at u) e in none-some (parentOf (g .kind)) i (rw z at v) q
 not-own rs i j g e q (Rooted.under _ p h u v r) o =
-    let z : h ≡ g = some-same (slotOf rs i) h g (rw o at u) e in
+    let z : h ≡ g = some-same (atSlot rs i) h g (rw o at u) e in
     not-own rs i p g e q r (some-same (parentOf (g .kind)) p i (rw z at v) q)
 
 -- ---- sound regions
@@ -123,7 +134,7 @@ module _ (rs : List (Option Region)) (s : Regions rs) where
   pub under : (k p : ℕ) (x : Region) → In rs k x → 0 < childOf (x .kind) p → Under rs p x
   under k p x e h =
       let q = has-parent (x .kind) p h in
-      let l = live-is (slotOf rs p) (s k x e .parentLive p q) in
+      let l = live-is (atSlot rs p) (s k x e .parentLive p q) in
       let n = s k x e .inside p (l .0) q (l .1) in
       record { parent = l .0; is = l .1; low = n .0; high = n .1; rights = s k x e .rightsInside p (l .0) q (l .1) }
 
@@ -139,11 +150,11 @@ module _ (rs : List (Option Region)) (s : Regions rs) where
   ]
 
   -- the list of the region in slot p has exactly its live children, each once
-  pub listing : (p : ℕ) (h : Region) → In rs p h → (k : ℕ) → count (eqb k) (h .children) ≡ child (slotOf rs k) p
-  listing p h e k = go (slotOf rs k) refl
+  pub listing : (p : ℕ) (h : Region) → In rs p h → (k : ℕ) → countIf (eqb k) (h .children) ≡ child (atSlot rs k) p
+  listing p h e k = go (atSlot rs k) refl
     where
-      go : (x : Option Region) → slotOf rs k ≡ x → count (eqb k) (h .children) ≡ child x p
-      go none q = elim (cmp 0 (count (eqb k) (h .children))) [
+      go : (x : Option Region) → atSlot rs k ≡ x → countIf (eqb k) (h .children) ≡ child x p
+      go none q = elim (cmp 0 (countIf (eqb k) (h .children))) [
         | lt u ↦ absurd (rw q at (each-in _ (h .children) (s p h e .childrenLive) k u))
         | ge u ↦ omega arith
       ]

@@ -8,14 +8,15 @@ use mathlib.Core.List.{List}
 use native.Mathlib.Omega.{arith}
 use lib.Dec.{T, eqb, eqb→eq}
 use lib.ListN.{length}
-use Rattle.model.specs.Lists.{if_then_else_, oneIf, slotOf, In}
+use Rattle.base.specs.Cases.{Test, test}
+use Rattle.base.specs.Tests.{true-is}
+use Rattle.base.specs.Options.{none-some, some-same}
+use Rattle.model.specs.Lists.{if_then_else_, oneIf, atSlot, In}
 use Rattle.model.specs.State.{Region, Kind, Root, Alias, Carve, parentOf}
 use Rattle.model.specs.Fields.{Field, counter, passes}
 use Rattle.model.specs.Counts.{regionCount}
 use Rattle.model.specs.Sound.{Rooted}
-use Rattle.laws.specs.Cases.{Test, test, true-is}
 use Rattle.laws.specs.Tree.Sum.{sum-find}
-use Rattle.laws.specs.Tree.Slots.{none-some, some-same}
 use Rattle.laws.specs.Tree.Shares.{tally-is, weight, share, clear, carved, within-pos}
 use Rattle.laws.specs.Tree.Facts.{Regions, under, self, hangs, counter-allowed}
 
@@ -63,18 +64,18 @@ passed false h = absurd (omega arith)
 module _ (rs : List (Option Region)) (s : Regions rs) (a : ℕ) (f : Field) where
   climb : (k : ℕ) (x : Region) → Rooted rs k → In rs k x → x .start ≤ a → a < x .end → 0 < counter f (x .rights) → RootAt rs a f
   climb k x (Rooted.top _ g e q) i l h c =
-      let z = some-same (slotOf rs k) g x e i in
+      let z = some-same (atSlot rs k) g x e i in
       record { slot = k; root = x; is = i; isRoot = no-parent (x .kind) (rw z at q); low = l; high = h; has = passed (passes f (x .rights)) (omega arith) }
   climb k x (Rooted.under _ p g e q r) i l h c =
-      let z = some-same (slotOf rs k) g x e i in
+      let z = some-same (atSlot rs k) g x e i in
       let u = under rs s k p x i (omega (arith, hangs (x .kind) p (rw z at q) p, self p)) in
       climb p (u .parent) r (u .is) (omega arith) (omega arith) (omega (arith, counter-allowed f (u .parent .rights) (x .rights) (u .rights)))
 
   -- a region of d's that counts there
-  pub counting : (d : ℕ) → 0 < regionCount f rs d a → (k : ℕ) × CountsAt (slotOf rs k) d a f
+  pub counting : (d : ℕ) → 0 < regionCount f rs d a → (k : ℕ) × CountsAt (atSlot rs k) d a f
   counting d h =
       let r = sum-find (weight f rs d a) (length rs) (omega (arith, tally-is f rs d a)) in
-      (r .at, share-pos (slotOf rs (r .at)) d a f (clear-pos (carved rs (r .at) a) (share f (slotOf rs (r .at)) d a) (r .counts)))
+      (r .at, share-pos (atSlot rs (r .at)) d a f (clear-pos (carved rs (r .at) a) (share f (atSlot rs (r .at)) d a) (r .counts)))
 
   pub count-root : (d : ℕ) → 0 < regionCount f rs d a → RootAt rs a f
   count-root d h = let (k, c) = counting d h in climb k (c .region) (s k (c .region) (c .is) .rooted) (c .is) (c .low) (c .high) (c .has)

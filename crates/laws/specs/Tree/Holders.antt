@@ -1,42 +1,54 @@
--- The list of holders that the definitions give has each live domain with reach above 0 once, and no other.
--- The walk starts at slot d, so what it lists lies at d or above.
-use mathlib.Core.Path.{_≡_, refl, _∙_}
-use Prim.Native.Nat.{ℕ, zero, suc, _+_, _<_}
-use mathlib.Core.Bool.{Bool, _&&_}
-use mathlib.Core.Option.{Option, none, some}
+-- The list of holders that the definitions give has each live domain with reach above 0 once, and no other: a list of rising numbers has each once, and
+-- past the table's end no slot is in use.
+use mathlib.Core.Path.{_≡_, refl, ap, _∙_}
+use Prim.Native.Nat.{ℕ, zero, suc, _+_, _≤_, _<_}
+use mathlib.Core.Bool.{Bool, true, false, _&&_}
+use mathlib.Core.Option.{Option, none}
 use mathlib.Core.List.{List, [], _∷_}
 use native.Mathlib.Omega.{arith}
-use lib.Dec.{eqb, ltb}
-use Rattle.model.specs.Lists.{oneIf, isSome, count, orElse, slotOf}
-use Rattle.model.specs.State.{State, Domain, noneDomain}
-use Rattle.model.specs.Counts.{countsAt}
-use Rattle.model.specs.Readings.{IsHolders, holdersFrom, holders}
-use Rattle.laws.specs.Cases.{eqb-t, eqb-f, holds, fails, test}
+use lib.Dec.{eqb, eqb→eq}
+use lib.ListN.{length}
+use Rattle.model.specs.Lists.{oneIf, countIf, keep, atSlot, countUp}
+use Rattle.model.specs.State.{State, Domain}
+use Rattle.model.specs.Readings.{IsHolders, isHolder, holders}
+use Rattle.base.specs.Tests.{true-is}
+use borrow.Author.Tests.{eq-eqb, ne-eqb}
+use Rattle.base.specs.Cases.{holds, fails, test, lt, ge, cmp}
 
-module _ (a : ℕ) where
-  -- whether the slot's domain holds the address
-  abbrev held : Option Domain → Bool
-  held x = isSome x && ltb 0 (countsAt (orElse x noneDomain .tracker) a .reach)
-
-  -- one slot of the walk
-  head : (d : ℕ) (x : Option Domain) (l : List (Option Domain)) (k : ℕ) → count (eqb k) (holdersFrom a d (x ∷ l)) ≡ oneIf (eqb k d && held x) + count (eqb k) (holdersFrom a (suc d) l)
-  head d none l k = elim (test (eqb k d)) [ holds t ↦ rw t (omega arith) | fails t ↦ rw t (omega arith) ]
-  head d (some x) l k = elim (test (ltb 0 (countsAt (x .tracker) a .reach))) [
-    | holds t ↦ rw t (elim (test (eqb k d)) [ holds u ↦ rw u | fails u ↦ rw u ])
-    | fails t ↦ rw t (elim (test (eqb k d)) [ holds u ↦ rw u (omega arith) | fails u ↦ rw u (omega arith) ])
+module _ (p : ℕ → Bool) where
+  -- what the number i adds
+  head : (k i : ℕ) (l : List ℕ) → countIf (eqb k) (keep p (i ∷ l)) ≡ oneIf (eqb k i && p k) + countIf (eqb k) (keep p l)
+  head k i l = elim (test (eqb k i)) [
+    | holds u ↦ let same : p k ≡ p i = ap p (eqb→eq k i (true-is u)) in elim (test (p i)) [
+      | holds t ↦ let e : p k ≡ true = same ∙ t in rw (t, u, e)
+      | fails t ↦ let e : p k ≡ false = same ∙ t in rw (t, u, e) (omega arith)
+    ]
+    | fails u ↦ elim (test (p i)) [ holds t ↦ rw (t, u) | fails t ↦ rw (t, u) (omega arith) ]
   ]
 
-  below : (d : ℕ) (l : List (Option Domain)) (k : ℕ) → k < d → count (eqb k) (holdersFrom a d l) ≡ 0
-  below d [] k h = refl
-  below d (x ∷ l) k h = head d x l k ∙ rw (eqb-f k d (λ e. omega arith)) (omega (arith, below (suc d) l k (omega arith)))
+  below : (d n k : ℕ) → k < d → countIf (eqb k) (keep p (countUp d n)) ≡ 0
+  below d zero k h = refl
+  below d (suc n) k h = head k d (countUp (suc d) n) ∙ rw (ne-eqb k d (λ e. omega arith)) (omega (arith, below (suc d) n k (omega arith)))
 
-  from : (d : ℕ) (l : List (Option Domain)) (k : ℕ) → count (eqb (d + k)) (holdersFrom a d l) ≡ oneIf (held (slotOf l k))
-  from d [] k = refl
-  from d (x ∷ l) zero = head d x l (d + 0) ∙ rw (eqb-t (d + 0) d (omega arith)) (omega (arith, below (suc d) l (d + 0) (omega arith)))
-  from d (x ∷ l) (suc k) =
-      let e : suc d + k ≡ d + suc k = omega arith in
-      head d x l (d + suc k) ∙ rw (eqb-f (d + suc k) d (λ n. omega arith)) (omega (arith, rw e at (from (suc d) l k)))
+  past : (d n k : ℕ) → d + n ≤ k → countIf (eqb k) (keep p (countUp d n)) ≡ 0
+  past d zero k h = refl
+  past d (suc n) k h = head k d (countUp (suc d) n) ∙ rw (ne-eqb k d (λ e. omega arith)) (omega (arith, past (suc d) n k (omega arith)))
+
+  from : (d n k : ℕ) → d ≤ k → k < d + n → countIf (eqb k) (keep p (countUp d n)) ≡ oneIf (p k)
+  from d zero k h l = absurd (omega arith)
+  from d (suc n) k h l = head k d (countUp (suc d) n) ∙ elim (cmp d k) [
+    | lt u ↦ rw (ne-eqb k d (λ e. omega arith)) (omega (arith, from (suc d) n k u (omega arith)))
+    | ge u ↦ rw (eq-eqb k d (omega arith)) (omega (arith, below (suc d) n k (omega arith)))
+  ]
+
+free-past : (l : List (Option Domain)) (d : ℕ) → length l ≤ d → atSlot l d ≡ none
+free-past [] d h = refl
+free-past (x ∷ l) zero h = absurd (omega arith)
+free-past (x ∷ l) (suc d) h = free-past l d (omega arith)
 
 pub holders-are : (a : ℕ) (s : State) → IsHolders a s (holders a s)
 unfolding holders
-holders-are a s d = let e : 0 + d ≡ d = omega arith in rw e at (from a 0 (s .domains) d)
+holders-are a s d = elim (cmp d (length (s .domains))) [
+  | lt h ↦ from (isHolder s a) 0 (length (s .domains)) d (omega arith) (omega arith)
+  | ge h ↦ past (isHolder s a) 0 (length (s .domains)) d (omega arith) ∙ rw (free-past (s .domains) d h)
+]

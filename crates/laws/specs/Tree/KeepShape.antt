@@ -1,4 +1,4 @@
--- What the regions are to each other is kept where regions go or change hands, as long as parents stay, and where a region comes that fits.
+-- What the regions are to each other is kept where regions are removed or change their owners, as long as parents stay, and where a region that fits is added.
 -- Owners and child lists play no part: a region is compared with what was in its slot by kind, range and rights (`Like`).
 use mathlib.Core.Path.{_≡_, refl, sym, ap, ap₂, _∙_, subst}
 use mathlib.Core.Logic.{_≢_}
@@ -8,12 +8,12 @@ use mathlib.Core.List.{List, []}
 use native.Mathlib.Omega.{arith}
 use native.Mathlib.Decide.{ℕ-discrete}
 use lib.Dec.{T}
+use Rattle.base.specs.Cases.{lt, ge, cmp}
+use Rattle.base.specs.Options.{none-some, some-same}
 use Rattle.rights.specs.Rights.{allowed}
-use Rattle.model.specs.Lists.{slotOf, In}
+use Rattle.model.specs.Lists.{atSlot, In}
 use Rattle.model.specs.State.{Region, Kind, Root, parentOf, withChildren}
 use Rattle.model.specs.Sound.{Rooted}
-use Rattle.laws.specs.Cases.{lt, ge, cmp}
-use Rattle.laws.specs.Tree.Slots.{none-some, some-same}
 use Rattle.laws.specs.Tree.Shares.{childOf, carveOf}
 use Rattle.laws.specs.Tree.Facts.{Apart, Under, same, hangs, is-carve, carve-child}
 use Rattle.laws.specs.Tree.Change.{bare, Changed}
@@ -25,9 +25,6 @@ pub record Like (w z : Region) : Type 0 where
   pub start : z .start ≡ w .start
   pub end : z .end ≡ w .end
   pub rights : z .rights ≡ w .rights
-
-pub like-self : (g : Region) → Like g g
-like-self g = record { kind = refl; start = refl; end = refl; rights = refl }
 
 pub bare-like : (x y : Option Region) (z : Region) → bare x ≡ bare y → x ≡ some z → (w : Region) × (y ≡ some w) × Like w z
 bare-like x none z e q = absurd (none-some (bare x) (withChildren [] z) e (ap bare q))
@@ -41,10 +38,10 @@ like-turn w z l = record { kind = sym (l .kind); start = sym (l .start); end = s
 -- another slot has now what it had, and had what it has
 module _ (rs rs′ : List (Option Region)) (i : ℕ) (x y : Option Region) (t : Changed rs rs′ i x y) (k : ℕ) (o : k ≢ i) where
   pub had : (z : Region) → In rs′ k z → (w : Region) × In rs k w × Like w z
-  had z e = bare-like (slotOf rs′ k) (slotOf rs k) z (t .others k o) e
+  had z e = bare-like (atSlot rs′ k) (atSlot rs k) z (t .others k o) e
 
   pub has : (w : Region) → In rs k w → (z : Region) × In rs′ k z × Like w z
-  has w e = let b = bare-like (slotOf rs k) (slotOf rs′ k) w (sym (t .others k o)) e in (b .0, b .1, like-turn w (b .0) (b .2))
+  has w e = let b = bare-like (atSlot rs k) (atSlot rs′ k) w (sym (t .others k o)) e in (b .0, b .1, like-turn w (b .0) (b .2))
 
 -- ---- what is said of regions is said of their like
 
@@ -69,7 +66,7 @@ under-like rs rs′ p w z l u h e m = record {
   rights = subst T (sym (ap₂ allowed (m .rights) (l .rights))) (u .rights);
 }
 
--- ---- regions go or change hands
+-- ---- regions are removed or change their owners
 
 module _ (rs rs′ : List (Option Region)) (s : Shape rs) (back : (k : ℕ) (z : Region) → In rs′ k z → (w : Region) × In rs k w × Like w z)
     (up : (k p : ℕ) (z h : Region) → In rs′ k z → 0 < childOf (z .kind) p → In rs p h → (y : Region) × In rs′ p y × Like h y) where
@@ -81,7 +78,7 @@ module _ (rs rs′ : List (Option Region)) (s : Shape rs) (back : (k : ℕ) (z :
       under-like rs rs′ p (b .0) z (b .2) u (y .0) (y .1) (y .2)
 
   parent-part : (k : ℕ) (g z : Region) → In rs k g → In rs′ k z → parentOf (z .kind) ≡ parentOf (g .kind)
-  parent-part k g z e i = let b = back k z i in ap parentOf (b .2 .kind ∙ ap (λ (r : Region). r .kind) (some-same (slotOf rs k) (b .0) g (b .1) e))
+  parent-part k g z e i = let b = back k z i in ap parentOf (b .2 .kind ∙ ap (λ (r : Region). r .kind) (some-same (atSlot rs k) (b .0) g (b .1) e))
 
   rooted-part : (k : ℕ) → Rooted rs k → (z : Region) → In rs′ k z → Rooted rs′ k
   rooted-part k (Rooted.top _ g e q) z i = Rooted.top k z i (parent-part k g z e i ∙ q)
@@ -101,22 +98,22 @@ module _ (rs rs′ : List (Option Region)) (s : Shape rs) (back : (k : ℕ) (z :
     sized = λ k z e. let b = back k z e in sized-like (b .0) z (b .2) (s .sized k (b .0) (b .1));
   }
 
--- ---- a region comes into a free slot
+-- ---- a region is added in a free slot
 
 -- whatever it hangs under, it fits there
-pub record Joins (rs : List (Option Region)) (g : Region) : Type 0 where
+pub record FitsUnder (rs : List (Option Region)) (g : Region) : Type 0 where
   pub sized : Sized g
   pub under : (p : ℕ) → 0 < childOf (g .kind) p → Under rs p g
   pub offCarves : (p k : ℕ) (z : Region) → 0 < childOf (g .kind) p → In rs k z → 0 < carveOf (z .kind) p → Apart g z
   pub offAll : (p k : ℕ) (z : Region) → 0 < carveOf (g .kind) p → In rs k z → 0 < childOf (z .kind) p → Apart g z
 
-pub root-joins : (rs : List (Option Region)) (g : Region) → Sized g → g .kind ≡ Root → Joins rs g
-root-joins rs g z e =
+pub root-fits-under : (rs : List (Option Region)) (g : Region) → Sized g → g .kind ≡ Root → FitsUnder rs g
+root-fits-under rs g z e =
     let no : (p : ℕ) → 0 < childOf (g .kind) p → ⊥ = λ p u. omega (arith, rw e at u) in
     record { sized = z; under = λ p u. absurd (no p u); offCarves = λ p k x u. absurd (no p u); offAll = λ p k x u. absurd (no p (omega (arith, carve-child (g .kind) p))) }
 
-pub fits-joins : (rs : List (Option Region)) (p : ℕ) (g : Region) → Sized g → Fits rs p g → Joins rs g
-fits-joins rs p g z r =
+pub child-fits-under : (rs : List (Option Region)) (p : ℕ) (g : Region) → Sized g → Fits rs p g → FitsUnder rs g
+child-fits-under rs p g z r =
     let at : (q : ℕ) → 0 < childOf (g .kind) q → p ≡ q = λ q u. same p q (omega (arith, hangs (g .kind) p (r .hangs) q)) in
     record {
       sized = z;
@@ -133,29 +130,29 @@ data Slot (rs : List (Option Region)) (i : ℕ) (g : Region) (k : ℕ) (z : Regi
   new : k ≡ i → Like g z → Slot rs i g k z
   old : k ≢ i → (w : Region) → In rs k w → Like w z → Slot rs i g k z
 
-module _ (rs rs′ : List (Option Region)) (s : Shape rs) (i : ℕ) (g : Region) (free : slotOf rs i ≡ none) (t : Changed rs rs′ i none (some g)) (r : Joins rs g) where
+module _ (rs rs′ : List (Option Region)) (s : Shape rs) (i : ℕ) (g : Region) (free : atSlot rs i ≡ none) (t : Changed rs rs′ i none (some g)) (r : FitsUnder rs g) where
   slot : (k : ℕ) (z : Region) → In rs′ k z → Slot rs i g k z
   slot k z e = elim (ℕ-discrete k i) [
-    | yes o ↦ let b = bare-like (slotOf rs′ i) (some g) z (t .now) (rw o at e) in new o (rw (some-same (some g) g (b .0) refl (b .1)) (b .2))
+    | yes o ↦ let b = bare-like (atSlot rs′ i) (some g) z (t .now) (rw o at e) in new o (rw (some-same (some g) g (b .0) refl (b .1)) (b .2))
     | no o ↦ let b = had rs rs′ i none (some g) t k o z e in old o (b .0) (b .1) (b .2)
   ]
 
   -- what was there is there
   stays : (k : ℕ) (w : Region) → In rs k w → (z : Region) × In rs′ k z × Like w z
-  stays k w e = has rs rs′ i none (some g) t k (λ n. none-some (slotOf rs i) w free (rw n at e)) w e
+  stays k w e = has rs rs′ i none (some g) t k (λ n. none-some (atSlot rs i) w free (rw n at e)) w e
 
   under-now : (p : ℕ) (w z : Region) → Like w z → Under rs p w → Under rs′ p z
   under-now p w z l u = let y = stays p (u .parent) (u .is) in under-like rs rs′ p w z l u (y .0) (y .1) (y .2)
 
-  under-comes : (k p : ℕ) (z : Region) → Slot rs i g k z → 0 < childOf (z .kind) p → Under rs′ p z
-  under-comes k p z (new o l) c = under-now p g z l (r .under p (child-like g z p l c))
-  under-comes k p z (old o w e l) c = under-now p w z l (s .under k p w e (child-like w z p l c))
+  under-added : (k p : ℕ) (z : Region) → Slot rs i g k z → 0 < childOf (z .kind) p → Under rs′ p z
+  under-added k p z (new o l) c = under-now p g z l (r .under p (child-like g z p l c))
+  under-added k p z (old o w e l) c = under-now p w z l (s .under k p w e (child-like w z p l c))
 
-  apart-comes : (j k p : ℕ) (x z : Region) → j ≢ k → Slot rs i g j x → Slot rs i g k z → 0 < carveOf (x .kind) p → 0 < childOf (z .kind) p → Apart x z
-  apart-comes j k p x z d (new o l) (new o′ l′) u v = absurd (d (o ∙ sym o′))
-  apart-comes j k p x z d (new o l) (old o′ w e m) u v = apart-like g x w z l m (r .offAll p k w (carve-like g x p l u) e (child-like w z p m v))
-  apart-comes j k p x z d (old o w e l) (new o′ m) u v = apart-like w x g z l m (apart-turn g w (r .offCarves p j w (child-like g z p m v) e (carve-like w x p l u)))
-  apart-comes j k p x z d (old o w e l) (old o′ y e′ m) u v = apart-like w x y z l m (s .apart j k p w y d e e′ (carve-like w x p l u) (child-like y z p m v))
+  apart-added : (j k p : ℕ) (x z : Region) → j ≢ k → Slot rs i g j x → Slot rs i g k z → 0 < carveOf (x .kind) p → 0 < childOf (z .kind) p → Apart x z
+  apart-added j k p x z d (new o l) (new o′ l′) u v = absurd (d (o ∙ sym o′))
+  apart-added j k p x z d (new o l) (old o′ w e m) u v = apart-like g x w z l m (r .offAll p k w (carve-like g x p l u) e (child-like w z p m v))
+  apart-added j k p x z d (old o w e l) (new o′ m) u v = apart-like w x g z l m (apart-turn g w (r .offCarves p j w (child-like g z p m v) e (carve-like w x p l u)))
+  apart-added j k p x z d (old o w e l) (old o′ y e′ m) u v = apart-like w x y z l m (s .apart j k p w y d e e′ (carve-like w x p l u) (child-like y z p m v))
 
   rooted-old : (k : ℕ) → Rooted rs k → Rooted rs′ k
   rooted-old k (Rooted.top _ w e q) = let b = stays k w e in Rooted.top k (b .0) (b .1) (ap parentOf (b .2 .kind) ∙ q)
@@ -167,18 +164,18 @@ module _ (rs rs′ : List (Option Region)) (s : Shape rs) (i : ℕ) (g : Region)
       let u = r .under p (child-like g z p l (child-of (z .kind) p q)) in
       Rooted.under k p z e q (rooted-old p (s .rooted p (u .parent) (u .is)))
 
-  rooted-comes : (k : ℕ) (z : Region) → In rs′ k z → Slot rs i g k z → Rooted rs′ k
-  rooted-comes k z e (new o l) = rooted-new k z e l (parentOf (z .kind)) refl
-  rooted-comes k z e (old o w i′ l) = rooted-old k (s .rooted k w i′)
+  rooted-added : (k : ℕ) (z : Region) → In rs′ k z → Slot rs i g k z → Rooted rs′ k
+  rooted-added k z e (new o l) = rooted-new k z e l (parentOf (z .kind)) refl
+  rooted-added k z e (old o w i′ l) = rooted-old k (s .rooted k w i′)
 
-  sized-comes : (k : ℕ) (z : Region) → Slot rs i g k z → Sized z
-  sized-comes k z (new o l) = sized-like g z l (r .sized)
-  sized-comes k z (old o w e l) = sized-like w z l (s .sized k w e)
+  sized-added : (k : ℕ) (z : Region) → Slot rs i g k z → Sized z
+  sized-added k z (new o l) = sized-like g z l (r .sized)
+  sized-added k z (old o w e l) = sized-like w z l (s .sized k w e)
 
-  pub shape-comes : Shape rs′
-  shape-comes = record {
-    under = λ k p z e. under-comes k p z (slot k z e);
-    apart = λ j k p x z d e e′. apart-comes j k p x z d (slot j x e) (slot k z e′);
-    rooted = λ k z e. rooted-comes k z e (slot k z e);
-    sized = λ k z e. sized-comes k z (slot k z e);
+  pub shape-added : Shape rs′
+  shape-added = record {
+    under = λ k p z e. under-added k p z (slot k z e);
+    apart = λ j k p x z d e e′. apart-added j k p x z d (slot j x e) (slot k z e′);
+    rooted = λ k z e. rooted-added k z e (slot k z e);
+    sized = λ k z e. sized-added k z (slot k z e);
   }

@@ -4,11 +4,13 @@ use mathlib.Core.Path.{_≡_, refl, ap, _∙_}
 use Prim.Native.Nat.{ℕ, _+_, _≤_, _<_}
 use mathlib.Core.List.{List, [], _∷_, _++_}
 use native.Mathlib.Omega.{arith}
+use borrow.Author.Tests.{lt-ltb, le-ltb}
+use Rattle.base.specs.Cases.{lt, ge, cmp, below, inside, above, pos, holds, fails, test}
 use Rattle.model.specs.Lists.{if_then_else_}
 use Rattle.model.specs.State.{Region}
 use Rattle.model.specs.Tree.{isCarve, Range, piece, effectiveFrom}
-use Rattle.laws.specs.Cases.{within, W, within-lo, within-in, within-same, lt, ge, cmp, below, inside, above, pos, ltb-t, ltb-f, holds, fails, test}
 use Rattle.laws.specs.Tree.Shares.{clear, clear-0, clear-s, clear-zero}
+use Rattle.laws.specs.Within.{within, W, within-lo, within-in, within-same}
 
 -- rising, disjoint and nonempty, from lo on, and none beyond hi
 abbrev pub Pieces : ℕ → ℕ → List Range → Type 0
@@ -45,12 +47,12 @@ pieces-lower lo lo′ hi (x ∷ l) h r = (omega arith, r .1, r .2, r .3)
 
 piece-first : (s e m hi : ℕ) (l : List Range) → e ≤ m → s ≤ m → e ≤ hi → Pieces m hi l → Pieces s hi (piece s e ++ l)
 piece-first s e m hi l h k j r = elim (cmp s e) [
-  | lt u ↦ rw (ltb-t s e u) (omega arith, u, omega arith, pieces-lower m e hi l h r)
-  | ge u ↦ rw (ltb-f s e u) (pieces-lower m s hi l k r)
+  | lt u ↦ rw (lt-ltb s e u) (omega arith, u, omega arith, pieces-lower m e hi l h r)
+  | ge u ↦ rw (le-ltb s e u) (pieces-lower m s hi l k r)
 ]
 
 piece-last : (s e : ℕ) → Pieces s e (piece s e)
-piece-last s e = elim (cmp s e) [ lt u ↦ rw (ltb-t s e u) (omega arith) | ge u ↦ rw (ltb-f s e u) tt ]
+piece-last s e = elim (cmp s e) [ lt u ↦ rw (lt-ltb s e u) (omega arith) | ge u ↦ rw (le-ltb s e u) tt ]
 
 pub pass-rises : (cur e : ℕ) (cs : List Region) → Cuts cur e cs → Pieces cur e (effectiveFrom cur e cs)
 pass-rises cur e [] h = piece-last cur e
@@ -69,8 +71,8 @@ spread-append v (x ∷ l) m a = omega (arith, spread-append v l m a)
 
 spread-piece : (v s e a : ℕ) → spread v (piece s e) a ≡ within s e a v 0
 spread-piece v s e a = elim (cmp s e) [
-  | lt u ↦ rw (ltb-t s e u) (omega arith)
-  | ge u ↦ rw (ltb-f s e u) (elim (pos s e a) [ below w ↦ simp W | inside w x ↦ absurd (omega arith) | above w ↦ simp W ])
+  | lt u ↦ rw (lt-ltb s e u) (omega arith)
+  | ge u ↦ rw (le-ltb s e u) (elim (pos s e a) [ below w ↦ simp W | inside w x ↦ absurd (omega arith) | above w ↦ simp W ])
 ]
 
 -- before the first carve nothing is carved
@@ -107,9 +109,6 @@ pass-spread v cur e a (c ∷ cs) h = elim (test (isCarve (c .kind))) [
 pub spread-below : (v lo hi a : ℕ) (l : List Range) → Pieces lo hi l → a < lo → spread v l a ≡ 0
 spread-below v lo hi a [] r h = refl
 spread-below v lo hi a (x ∷ l) r h = omega (arith, within-lo (x .0) (x .1) a v 0 (omega arith), spread-below v (x .1) hi a l (r .3) (omega arith))
-
-pub spread-first : (v lo hi a : ℕ) (x : Range) (l : List Range) → Pieces lo hi (x ∷ l) → x .0 ≤ a → a < x .1 → spread v (x ∷ l) a ≡ v
-spread-first v lo hi a x l r u w = omega (arith, within-in (x .0) (x .1) a v 0 u w, spread-below v (x .1) hi a l (r .3) w)
 
 pub spread-zero : (l : List Range) (a : ℕ) → spread 0 l a ≡ 0
 spread-zero [] a = refl

@@ -7,12 +7,13 @@ use mathlib.Core.List.{List}
 use native.Mathlib.Omega.{arith}
 use lib.Dec.{eqb}
 use lib.ListN.{length}
-use Rattle.model.specs.Lists.{if_then_else_, oneIf, isSome, count, slotOf, In}
+use borrow.Author.Tests.{eq-eqb}
+use Rattle.base.specs.Options.{none-some, some-same}
+use Rattle.model.specs.Lists.{if_then_else_, oneIf, isSome, countIf, atSlot, In}
 use Rattle.model.specs.State.{Region, parentOf}
 use Rattle.model.specs.Sound.{Rooted}
-use Rattle.laws.specs.Cases.{eqb-t}
 use Rattle.laws.specs.Tree.Sum.{sum, sum-le, sum-get, sum-swap, sum-pick-le, sum-ones}
-use Rattle.laws.specs.Tree.Slots.{none-some, some-same, in-length, count-sum}
+use Rattle.laws.specs.Tree.Slots.{in-length, count-sum}
 use Rattle.laws.specs.Tree.Facts.{Regions, under}
 use Rattle.laws.specs.Tree.Shape.{child-of}
 
@@ -29,28 +30,28 @@ height rs i (Rooted.under _ p g e q r) = suc (height rs p r)
 height-same : (rs : List (Option Region)) (i j : ℕ) (a : Rooted rs i) (b : Rooted rs j) → i ≡ j → height rs i a ≡ height rs j b
 unfolding height
 height-same rs i j (Rooted.top _ g e q) (Rooted.top _ h m n) o = refl
-height-same rs i j (Rooted.top _ g e q) (Rooted.under _ p h m n r) o = absurd (none-some (parentOf (g .kind)) p q (rw (some-same (slotOf rs j) g h (rw o at e) m) n))
-height-same rs i j (Rooted.under _ p g e q r) (Rooted.top _ h m n) o = absurd (none-some (parentOf (h .kind)) p n (rw (some-same (slotOf rs j) h g m (rw o at e)) q))
+height-same rs i j (Rooted.top _ g e q) (Rooted.under _ p h m n r) o = absurd (none-some (parentOf (g .kind)) p q (rw (some-same (atSlot rs j) g h (rw o at e) m) n))
+height-same rs i j (Rooted.under _ p g e q r) (Rooted.top _ h m n) o = absurd (none-some (parentOf (h .kind)) p n (rw (some-same (atSlot rs j) h g m (rw o at e)) q))
 height-same rs i j (Rooted.under _ p g e q r) (Rooted.under _ p′ h m n r′) o =
-    let z = some-same (slotOf rs j) g h (rw o at e) m in
+    let z = some-same (atSlot rs j) g h (rw o at e) m in
     ap suc (height-same rs p p′ r r′ (some-same (parentOf (h .kind)) p p′ (rw z at q) n))
 
 module _ (rs : List (Option Region)) (s : Regions rs) where
-  rank-of : (k : ℕ) (x : Option Region) → slotOf rs k ≡ x → ℕ
+  rank-of : (k : ℕ) (x : Option Region) → atSlot rs k ≡ x → ℕ
   rank-of k none e = 0
   rank-of k (some g) e = height rs k (s k g e .rooted)
 
   pub rank : ℕ → ℕ
-  rank k = rank-of k (slotOf rs k) refl
+  rank k = rank-of k (atSlot rs k) refl
 
-  rank-go : (k : ℕ) (g : Region) (x : Option Region) (e : slotOf rs k ≡ x) → x ≡ some g → (a : Rooted rs k) → rank-of k x e ≡ height rs k a
+  rank-go : (k : ℕ) (g : Region) (x : Option Region) (e : atSlot rs k ≡ x) → x ≡ some g → (a : Rooted rs k) → rank-of k x e ≡ height rs k a
   unfolding rank-of
   rank-go k g none e q a = absurd (none-some none g refl q)
   rank-go k g (some h) e q a = height-same rs k k (s k h e .rooted) a refl
 
   rank-is : (k : ℕ) (g : Region) → In rs k g → (a : Rooted rs k) → rank k ≡ height rs k a
   unfolding rank
-  rank-is k g e a = rank-go k g (slotOf rs k) refl e a
+  rank-is k g e a = rank-go k g (atSlot rs k) refl e a
 
   pub ranked : Ranked rs rank
   unfolding height
@@ -82,14 +83,14 @@ module _ (rs : List (Option Region)) (s : Regions rs) (r : ℕ → ℕ) (q : Ran
       go (some p) u up = let w = under rs s k p x e (child-of (x .kind) p u) in up p (w .parent) (w .is) (omega (arith, q .child k p x e u))
 
   abbrev alive : ℕ → ℕ
-  alive k = oneIf (isSome (slotOf rs k))
+  alive k = oneIf (isSome (atSlot rs k))
 
   level-found : (m : ℕ) → Level rs r m → 0 < sum (λ k. if eqb (r k) m then alive k else 0) (length rs)
   level-found m v =
-      let one : (if eqb (r (v .at)) m then alive (v .at) else 0) ≡ 1 = rw (eqb-t (r (v .at)) m (v .level), v .is) in
+      let one : (if eqb (r (v .at)) m then alive (v .at) else 0) ≡ 1 = rw (eq-eqb (r (v .at)) m (v .level), v .is) in
       omega (arith, one, sum-get (λ k. if eqb (r k) m then alive k else 0) (length rs) (v .at) (in-length rs (v .at) (v .region) (v .is)))
 
-  pub rank-low : (k : ℕ) (x : Region) → In rs k x → r k < count isSome rs
+  pub rank-low : (k : ℕ) (x : Region) → In rs k x → r k < countIf isSome rs
   rank-low k x e = omega (
     arith,
     count-sum isSome rs,

@@ -7,13 +7,14 @@ use mathlib.Core.List.{List, [], _∷_}
 use native.Mathlib.Omega.{arith}
 use lib.Dec.{eqb}
 use lib.ListN.{length}
-use Rattle.model.specs.Lists.{oneIf, isSome, count, slotOf, In}
+use Rattle.base.specs.Options.{none-some}
+use Rattle.model.specs.Lists.{oneIf, isSome, countIf, atSlot, In}
 use Rattle.model.specs.Outcome.{_>>=_}
 use Rattle.model.specs.State.{State, Region, parentOf, regionAt}
-use Rattle.model.specs.Regions.{revokeLeaf, revokeRegion, liveRegions}
+use Rattle.model.specs.Regions.{revokeLeaf, revokeRegion, liveCount}
 use Rattle.laws.specs.Accepted.{All, bind, weaken, both}
 use Rattle.laws.specs.Tree.Sum.{sum, sum-lt}
-use Rattle.laws.specs.Tree.Slots.{none-some, in-length, count-sum}
+use Rattle.laws.specs.Tree.Slots.{in-length, count-sum}
 use Rattle.laws.specs.Tree.Shares.{child}
 use Rattle.laws.specs.Tree.Facts.{Regions, under, has-parent, listing, self}
 use Rattle.laws.specs.Tree.Change.{bare}
@@ -29,15 +30,15 @@ alive-le none y s = omega arith
 alive-le (some z) none s = absurd (none-some (bare (some z)) _ (s z refl) refl)
 alive-le (some z) (some w) s = omega arith
 
-pub fewer : (rs rs′ : List (Option Region)) (i : ℕ) (g : Region) → In rs i g → Revoked rs i rs′ → count isSome rs′ < count isSome rs
+pub fewer : (rs rs′ : List (Option Region)) (i : ℕ) (g : Region) → In rs i g → Revoked rs i rs′ → countIf isSome rs′ < countIf isSome rs
 fewer rs rs′ i g e v =
-    let w : List (Option Region) → ℕ → ℕ = λ l k. oneIf (isSome (slotOf l k)) in
+    let w : List (Option Region) → ℕ → ℕ = λ l k. oneIf (isSome (atSlot l k)) in
     omega (
       arith,
       count-sum isSome rs,
       count-sum isSome rs′,
       ap (sum (w rs′)) (v .size),
-      sum-lt (w rs′) (w rs) (length rs) i (in-length rs i g e) (λ k. alive-le (slotOf rs′ k) (slotOf rs k) (v .left k)) (omega (arith, ap (λ (x : Option Region). oneIf (isSome x)) (v .gone i (Below.here refl)), ap (λ (x : Option Region). oneIf (isSome x)) e)),
+      sum-lt (w rs′) (w rs) (length rs) i (in-length rs i g e) (λ k. alive-le (atSlot rs′ k) (atSlot rs k) (v .left k)) (omega (arith, ap (λ (x : Option Region). oneIf (isSome x)) (v .gone i (Below.here refl)), ap (λ (x : Option Region). oneIf (isSome x)) e)),
     )
 
 pub ranked-left : (rs rs′ : List (Option Region)) (r : ℕ → ℕ) (i : ℕ) → Ranked rs r → Revoked rs i rs′ → Ranked rs′ r
@@ -57,13 +58,13 @@ module _ (P : State → Type 0) (leaf : Leaves P) (r : ℕ → ℕ) where
   Done s i t = P t × Revoked (s .regions) i (t .regions)
 
   unfoldable pub Ok : ℕ → Type 0
-  Ok m = (s : State) (i p : ℕ) (g : Region) → P s → Regions (s .regions) → Ranked (s .regions) r → In (s .regions) i g → parentOf (g .kind) ≡ some p → count isSome (s .regions) ≤ m + r i → All (Done s i) (revokeRegion m i s)
+  Ok m = (s : State) (i p : ℕ) (g : Region) → P s → Regions (s .regions) → Ranked (s .regions) r → In (s .regions) i g → parentOf (g .kind) ≡ some p → countIf isSome (s .regions) ≤ m + r i → All (Done s i) (revokeRegion m i s)
 
   ok-zero : Ok 0
   unfolding Ok
   ok-zero s i p g k z q e n f = absurd (omega (arith, rank-low (s .regions) z r q i g e))
 
-  module _ (m : ℕ) (ok : Ok m) (s : State) (i p : ℕ) (g : Region) (k : P s) (z : Regions (s .regions)) (q : Ranked (s .regions) r) (e : In (s .regions) i g) (n : parentOf (g .kind) ≡ some p) (f : count isSome (s .regions) ≤ suc m + r i) where
+  module _ (m : ℕ) (ok : Ok m) (s : State) (i p : ℕ) (g : Region) (k : P s) (z : Regions (s .regions)) (q : Ranked (s .regions) r) (e : In (s .regions) i g) (n : parentOf (g .kind) ≡ some p) (f : countIf isSome (s .regions) ≤ suc m + r i) where
     last : g .children ≡ [] → All (Done s i) (revokeLeaf i s)
     unfolding Leaves
     last empty =
@@ -72,12 +73,12 @@ module _ (P : State → Type 0) (leaf : Leaves P) (r : ℕ → ℕ) where
         (λ t h. (h .0, rw (h .1) (revoked-last (s .regions) z i g e empty p (u .parent) (u .is) n)))
 
     module _ (c : ℕ) (cs : List ℕ) (l : g .children ≡ c ∷ cs) where
-      first-child : (x : Option Region) → slotOf (s .regions) c ≡ x → 0 < child x i → (y : Region) × In (s .regions) c y × (parentOf (y .kind) ≡ some i)
+      first-child : (x : Option Region) → atSlot (s .regions) c ≡ x → 0 < child x i → (y : Region) × In (s .regions) c y × (parentOf (y .kind) ≡ some i)
       first-child none o h = absurd (omega arith)
       first-child (some y) o h = (y, o, has-parent (y .kind) i h)
 
       head : (y : Region) × In (s .regions) c y × (parentOf (y .kind) ≡ some i)
-      head = first-child (slotOf (s .regions) c) refl (omega (arith, listing (s .regions) z i g e c, ap (count (eqb c)) l, self c))
+      head = first-child (atSlot (s .regions) c) refl (omega (arith, listing (s .regions) z i g e c, ap (countIf (eqb c)) l, self c))
 
       then : (t : State) → Done s c t → All (Done s i) (revokeRegion m i t)
       unfolding Ok
@@ -108,6 +109,6 @@ module _ (P : State → Type 0) (leaf : Leaves P) (r : ℕ → ℕ) where
   ok-all (suc m) = ok-suc m (ok-all m)
 
 -- the region and all below it go, nothing else does, and P is kept
-pub revoke-all : (P : State → Type 0) → Leaves P → (s : State) (i p : ℕ) (g : Region) → P s → Regions (s .regions) → In (s .regions) i g → parentOf (g .kind) ≡ some p → All (λ t. P t × Revoked (s .regions) i (t .regions)) (revokeRegion (liveRegions s) i s)
+pub revoke-all : (P : State → Type 0) → Leaves P → (s : State) (i p : ℕ) (g : Region) → P s → Regions (s .regions) → In (s .regions) i g → parentOf (g .kind) ≡ some p → All (λ t. P t × Revoked (s .regions) i (t .regions)) (revokeRegion (liveCount s) i s)
 unfolding Ok
-revoke-all P leaf s i p g k z e n = ok-all P leaf (rank (s .regions) z) (liveRegions s) s i p g k z (ranked (s .regions) z) e n (omega arith)
+revoke-all P leaf s i p g k z e n = ok-all P leaf (rank (s .regions) z) (liveCount s) s i p g k z (ranked (s .regions) z) e n (omega arith)

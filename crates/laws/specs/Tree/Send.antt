@@ -7,22 +7,23 @@ use mathlib.Core.List.{List, [], _∷_}
 use native.Mathlib.Omega.{arith}
 use lib.Dec.{eqb}
 use lib.ListN.{set}
+use Rattle.base.specs.Cases.{lt, ge, cmp}
 use Rattle.model.specs.Lists.{if_then_else_, In}
 use Rattle.model.specs.State.{State, Region, Counts, putRegion, withOwner}
 use Rattle.model.specs.Fields.{Field, get, counter}
-use Rattle.model.specs.Tree.{Range, effectiveRegions}
+use Rattle.model.specs.Tree.{Range, effectiveRanges}
 use Rattle.model.specs.Counts.{storedCounts, regionCount}
 use Rattle.model.specs.Regions.{activate, deactivate, sendRanges, sendRegion}
 use Rattle.laws.specs.Accepted.{All, accepted, bind, weaken, both}
-use Rattle.laws.specs.Cases.{within-in, within-hi, lt, ge, cmp}
 use Rattle.laws.specs.Tracker.Fields.{Enough}
 use Rattle.laws.specs.Tree.Shares.{grant}
 use Rattle.laws.specs.Tree.Facts.{Regions}
-use Rattle.laws.specs.Tree.Spare.{spare-enough}
+use Rattle.laws.specs.Tree.CountsInclude.{include-enough}
 use Rattle.laws.specs.Tree.Effective.{effective-rises}
-use Rattle.laws.specs.Tree.Laws.{hands-law}
+use Rattle.laws.specs.Tree.Laws.{owner-law}
 use Rattle.laws.specs.Tree.Steps.{region-at, ranges-regions}
 use Rattle.laws.specs.Tree.Pieces.{Pieces, spread, spread-below}
+use Rattle.laws.specs.Within.{within-in, within-hi}
 
 -- domain d's stored count at a
 abbrev pub held : State → Field → ℕ → ℕ → ℕ
@@ -69,9 +70,9 @@ Agrees s = (f : Field) (d a : ℕ) → held s f d a ≡ regionCount f (s .region
 pub send-agrees : (Q : State → Type 0) (s : State) (ok : Regions (s .regions)) (i new : ℕ) (g : Region) → In (s .regions) i g → Loses Q (g .owner) (g .rights) → Receives Q new (g .rights) → Q (putRegion i (withOwner new g) s) → Agrees s → All (λ t. Q t × (t .regions ≡ set (s .regions) i (some (withOwner new g))) × Agrees t) (sendRegion i new s)
 unfolding sendRegion
 send-agrees Q s ok i new g e loses receives q agrees =
-    let law = hands-law s ok i g e new in
-    let ranges = effectiveRegions s g in
+    let law = owner-law s ok i g e new in
+    let ranges = effectiveRanges s g in
     let s₁ = putRegion i (withOwner new g) s in
-    let had : (a : ℕ) → 0 < spread 1 ranges a → Enough (g .rights) (storedCounts s (g .owner) a) = λ a h. spare-enough (s .regions) (g .owner) a (g .rights) (storedCounts s (g .owner) a) (law .2 a h) (λ f. agrees f (g .owner) a) in
+    let had : (a : ℕ) → 0 < spread 1 ranges a → Enough (g .rights) (storedCounts s (g .owner) a) = λ a h. include-enough (s .regions) (g .owner) a (g .rights) (storedCounts s (g .owner) a) (law .2 a h) (λ f. agrees f (g .owner) a) in
     rw (region-at s i g e) (weaken (both (send-ranges Q (g .owner) new (g .rights) loses receives (g .start) (g .end) ranges (effective-rises (s .regions) ok i g e) s₁ q had) (ranges-regions (g .owner) new (g .rights) ranges s₁))
     (λ t h. (h .0 .0, h .1, λ f d a. rw (h .1) (omega (arith, h .0 .1 f d a, law .1 f d a, agrees f d a)))))

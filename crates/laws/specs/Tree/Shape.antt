@@ -4,17 +4,18 @@ use mathlib.Core.Path.{_≡_, refl, sym, ap, _∙_, subst}
 use mathlib.Core.Logic.{_≢_}
 use Prim.Native.Nat.{ℕ, _≤_, _<_}
 use mathlib.Core.Bool.{not}
-use mathlib.Core.Option.{Option, none, some}
+use mathlib.Core.Option.{Option, none, some, Option·getD}
 use mathlib.Core.List.{List, []}
 use native.Mathlib.Omega.{arith}
 use lib.Dec.{T, eqb, ltb, ltb→lt, not-T}
 use lib.Ieee.Fits.{and-l, and-r}
-use Rattle.model.specs.Lists.{count, isSome, orElse, slotOf, In}
+use Rattle.base.specs.Cases.{lt, ge, cmp}
+use Rattle.base.specs.Options.{none-some}
+use Rattle.model.specs.Lists.{countIf, isSome, atSlot, In}
 use Rattle.model.specs.State.{Word, Region, Kind, Root, Alias, Carve, parentOf, noneRegion, regionIn}
 use Rattle.model.specs.Tree.{isCarve, accessOf, overlaps}
 use Rattle.model.specs.Sound.{Rooted}
-use Rattle.laws.specs.Cases.{lt, ge, cmp}
-use Rattle.laws.specs.Tree.Slots.{none-some, is-live, in-each}
+use Rattle.laws.specs.Tree.Slots.{is-live, in-each}
 use Rattle.laws.specs.Tree.Shares.{childOf, carveOf, child}
 use Rattle.laws.specs.Tree.Facts.{Regions, Apart, byte-allowed, Under, under, apart, lies, listing, self, hangs, carve-is}
 use Rattle.laws.specs.Tree.Rises.{Rises, ordered-from, rises-ordered}
@@ -42,18 +43,18 @@ under-sized rs s p y u n =
     word m n h w = omega arith
 
 -- the child list in a slot
-abbrev pub kids : List (Option Region) → ℕ → List ℕ
-kids rs p = regionIn rs p .children
+abbrev pub childSlots : List (Option Region) → ℕ → List ℕ
+childSlots rs p = regionIn rs p .children
 
 pub record Lists (rs : List (Option Region)) : Type 0 where
-  pub listing : (p k : ℕ) → count (eqb k) (kids rs p) ≡ child (slotOf rs k) p
-  pub rising : (p : ℕ) → Rises (regionIn rs) 0 (kids rs p)
+  pub listing : (p k : ℕ) → countIf (eqb k) (childSlots rs p) ≡ child (atSlot rs k) p
+  pub rising : (p : ℕ) → Rises (regionIn rs) 0 (childSlots rs p)
 
-pub kids-at : (rs : List (Option Region)) (p : ℕ) (h : Region) → In rs p h → kids rs p ≡ h .children
-kids-at rs p h e = ap (λ (x : Option Region). orElse x noneRegion .children) e
+pub child-slots-at : (rs : List (Option Region)) (p : ℕ) (h : Region) → In rs p h → childSlots rs p ≡ h .children
+child-slots-at rs p h e = ap (λ (x : Option Region). Option·getD x noneRegion .children) e
 
-pub kids-dead : (rs : List (Option Region)) (p : ℕ) → slotOf rs p ≡ none → kids rs p ≡ []
-kids-dead rs p e = ap (λ (x : Option Region). orElse x noneRegion .children) e
+pub child-slots-free : (rs : List (Option Region)) (p : ℕ) → atSlot rs p ≡ none → childSlots rs p ≡ []
+child-slots-free rs p e = ap (λ (x : Option Region). Option·getD x noneRegion .children) e
 
 -- ---- both halves of sound regions
 
@@ -67,26 +68,26 @@ module _ (rs : List (Option Region)) (s : Regions rs) where
   }
 
   -- nothing hangs under a dead slot
-  dead-child : (p k : ℕ) → slotOf rs p ≡ none → child (slotOf rs k) p ≡ 0
-  dead-child p k e = go (slotOf rs k) refl
+  dead-child : (p k : ℕ) → atSlot rs p ≡ none → child (atSlot rs k) p ≡ 0
+  dead-child p k e = go (atSlot rs k) refl
     where
-      go : (x : Option Region) → slotOf rs k ≡ x → child x p ≡ 0
+      go : (x : Option Region) → atSlot rs k ≡ x → child x p ≡ 0
       go none q = refl
       go (some g) q = elim (cmp 0 (childOf (g .kind) p)) [
-        | lt u ↦ let w = under rs s k p g q u in absurd (none-some (slotOf rs p) (w .parent) e (w .is))
+        | lt u ↦ let w = under rs s k p g q u in absurd (none-some (atSlot rs p) (w .parent) e (w .is))
         | ge u ↦ omega arith
       ]
 
   pub to-lists : Lists rs
-  to-lists = record { listing = λ p k. all p k (slotOf rs p) refl; rising = λ p. up p (slotOf rs p) refl }
+  to-lists = record { listing = λ p k. all p k (atSlot rs p) refl; rising = λ p. up p (atSlot rs p) refl }
     where
-      all : (p k : ℕ) (x : Option Region) → slotOf rs p ≡ x → count (eqb k) (kids rs p) ≡ child (slotOf rs k) p
-      all p k none e = ap (count (eqb k)) (kids-dead rs p e) ∙ sym (dead-child p k e)
-      all p k (some h) e = ap (count (eqb k)) (kids-at rs p h e) ∙ listing rs s p h e k
+      all : (p k : ℕ) (x : Option Region) → atSlot rs p ≡ x → countIf (eqb k) (childSlots rs p) ≡ child (atSlot rs k) p
+      all p k none e = ap (countIf (eqb k)) (child-slots-free rs p e) ∙ sym (dead-child p k e)
+      all p k (some h) e = ap (countIf (eqb k)) (child-slots-at rs p h e) ∙ listing rs s p h e k
 
-      up : (p : ℕ) (x : Option Region) → slotOf rs p ≡ x → Rises (regionIn rs) 0 (kids rs p)
-      up p none e = subst (Rises (regionIn rs) 0) (sym (kids-dead rs p e)) tt
-      up p (some h) e = subst (Rises (regionIn rs) 0) (sym (kids-at rs p h e)) (ordered-from (regionIn rs) (h .children) (s p h e .ordered))
+      up : (p : ℕ) (x : Option Region) → atSlot rs p ≡ x → Rises (regionIn rs) 0 (childSlots rs p)
+      up p none e = subst (Rises (regionIn rs) 0) (sym (child-slots-free rs p e)) tt
+      up p (some h) e = subst (Rises (regionIn rs) 0) (sym (child-slots-at rs p h e)) (ordered-from (regionIn rs) (h .children) (s p h e .ordered))
 
 -- ---- and back
 
@@ -111,11 +112,11 @@ some-child (some g) p h = tt
 
 pub from-halves : (rs : List (Option Region)) → Shape rs → Lists rs → Regions rs
 from-halves rs s l i g e = record {
-  parentLive = λ p q. let u = s .under i p g e (child-of (g .kind) p q) in is-live (slotOf rs p) (u .parent) (u .is);
-  listed = λ p h m. ap (count (eqb i)) (sym (kids-at rs p h m)) ∙ l .listing p i ∙ ap (λ (x : Option Region). child x p) e;
-  childrenLive = in-each _ (g .children) (λ k o. some-child (slotOf rs k) i (omega (arith, l .listing i k, ap (count (eqb k)) (kids-at rs i g e))));
+  parentLive = λ p q. let u = s .under i p g e (child-of (g .kind) p q) in is-live (atSlot rs p) (u .parent) (u .is);
+  listed = λ p h m. ap (countIf (eqb i)) (sym (child-slots-at rs p h m)) ∙ l .listing p i ∙ ap (λ (x : Option Region). child x p) e;
+  childrenLive = in-each _ (g .children) (λ k o. some-child (atSlot rs k) i (omega (arith, l .listing i k, ap (countIf (eqb k)) (child-slots-at rs i g e))));
   rooted = s .rooted i g e;
-  ordered = rises-ordered (regionIn rs) 0 (g .children) (subst (Rises (regionIn rs) 0) (kids-at rs i g e) (l .rising i));
+  ordered = rises-ordered (regionIn rs) 0 (g .children) (subst (Rises (regionIn rs) 0) (child-slots-at rs i g e) (l .rising i));
   nonempty = s .sized i g e .nonempty;
   inside = λ p h q m. let w = lies rs p g h (s .under i p g e (child-of (g .kind) p q)) m in (w .0, w .1);
   carvesApart = λ j h m d t q.

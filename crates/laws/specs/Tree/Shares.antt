@@ -6,18 +6,20 @@ use mathlib.Core.Bool.{Bool, true, false, not, _&&_}
 use mathlib.Core.Option.{Option, none, some}
 use mathlib.Core.List.{List, [], _∷_}
 use native.Mathlib.Omega.{arith}
-use lib.Dec.{eqb, leb, leb→le, le→leb, not-T}
+use lib.Dec.{eqb}
 use lib.ListN.{length}
-use Rattle.model.specs.Lists.{if_then_else_, oneIf, any, count, slotOf}
+use borrow.Author.Tests.{lt-ltb, le-ltb, le-leb, lt-leb}
+use Rattle.base.specs.Cases.{lt, ge, cmp, below, inside, above, pos, Test, test}
+use Rattle.model.specs.Lists.{if_then_else_, oneIf, exists, countIf, atSlot}
 use Rattle.model.specs.State.{Region, Kind, Root, Alias, Carve, parentOf}
 use Rattle.model.specs.Fields.{Field, passes, counter}
 use Rattle.model.specs.Tree.{isCarve}
 use Rattle.model.specs.Counts.{holds, carves, countsFor, tally, regionCount}
 use Rattle.model.specs.Sound.{names}
-use Rattle.laws.specs.Cases.{within, W, within-lo, within-in, within-hi, lt, ge, cmp, below, inside, above, pos, is-true, is-false, ltb-t, ltb-f, within-same, Test, test}
 use Rattle.laws.specs.Tree.Sum.{sum, sum-same, sum-front}
 use Rattle.laws.specs.Stack.{any-count}
 use Rattle.laws.specs.Tree.Slots.{count-sum}
+use Rattle.laws.specs.Within.{within, W, within-lo, within-in, within-hi, within-same}
 
 -- ---- what one slot counts for
 
@@ -52,23 +54,17 @@ clear (suc c) x = 0
 
 -- how many live carves of region p cover a
 unfoldable pub carved : List (Option Region) → ℕ → ℕ → ℕ
-carved rs p a = count (carves p a) rs
+carved rs p a = countIf (carves p a) rs
 
 -- ---- ranges and branches
 
-leb-t : (m n : ℕ) → m ≤ n → leb m n ≡ true
-leb-t m n h = is-true (le→leb m n h)
-
-leb-f : (m n : ℕ) → n < m → leb m n ≡ false
-leb-f m n h = is-false (not-T (leb m n) λ t. let k = leb→le m n t in omega arith)
-
 pub holds-within : (s e a x : ℕ) → (if holds s e a then x else 0) ≡ within s e a x 0
 holds-within s e a x = elim (pos s e a) [
-  | below u ↦ rw (leb-f s a u, within-lo s e a x 0 u)
-  | inside u v ↦ rw (leb-t s a u, ltb-t a e v, within-in s e a x 0 u v)
+  | below u ↦ rw (lt-leb s a u, within-lo s e a x 0 u)
+  | inside u v ↦ rw (le-leb s a u, lt-ltb a e v, within-in s e a x 0 u v)
   | above u ↦ elim (cmp a s) [
-    | lt w ↦ rw (leb-f s a w, within-hi s e a x 0 u)
-    | ge w ↦ rw (leb-t s a w, ltb-f a e u, within-hi s e a x 0 u)
+    | lt w ↦ rw (lt-leb s a w, within-hi s e a x 0 u)
+    | ge w ↦ rw (le-leb s a w, le-ltb a e u, within-hi s e a x 0 u)
   ]
 ]
 
@@ -92,10 +88,10 @@ pub clear-zero : (c : ℕ) → clear c 0 ≡ 0
 clear-zero zero = refl
 clear-zero (suc c) = refl
 
-pub clear-any : {A : Type 0} (p : A → Bool) (l : List A) (x : ℕ) → (if any p l then 0 else x) ≡ clear (count p l) x
-clear-any p l x = rw (any-count p l) (elim (cmp 0 (count p l)) [
-  | lt u ↦ rw (ltb-t 0 (count p l) u) (sym (clear-s (count p l) x u))
-  | ge u ↦ rw (ltb-f 0 (count p l) u) (sym (clear-0 (count p l) x (omega arith)))
+pub clear-any : {A : Type 0} (p : A → Bool) (l : List A) (x : ℕ) → (if exists p l then 0 else x) ≡ clear (countIf p l) x
+clear-any p l x = rw (any-count p l) (elim (cmp 0 (countIf p l)) [
+  | lt u ↦ rw (lt-ltb 0 (countIf p l) u) (sym (clear-s (countIf p l) x u))
+  | ge u ↦ rw (le-ltb 0 (countIf p l) u) (sym (clear-0 (countIf p l) x (omega arith)))
 ])
 
 clear-within : (c s e a x : ℕ) → within s e a (clear c x) 0 ≡ clear c (within s e a x 0)
@@ -116,7 +112,7 @@ branches false false z t = refl
 module _ (f : Field) (rs : List (Option Region)) (d a : ℕ) where
   -- what slot k counts for
   abbrev pub weight : ℕ → ℕ
-  weight k = clear (carved rs k a) (share f (slotOf rs k) d a)
+  weight k = clear (carved rs k a) (share f (atSlot rs k) d a)
 
   -- the same by the model's tests
   abbrev one : ℕ → Option Region → ℕ
@@ -125,32 +121,32 @@ module _ (f : Field) (rs : List (Option Region)) (d a : ℕ) where
 
   one-is : (k : ℕ) (x : Option Region) → one k x ≡ clear (carved rs k a) (share f x d a)
   unfolding carved
-  one-is k none = sym (clear-zero (count (carves k a) rs))
+  one-is k none = sym (clear-zero (countIf (carves k a) rs))
   one-is k (some g) =
       let v = if eqb (g .owner) d then oneIf (passes f (g .rights)) else 0 in
-      branches (eqb (g .owner) d) (holds (g .start) (g .end) a) (any (carves k a) rs) (passes f (g .rights))
-      ∙ holds-within (g .start) (g .end) a (if any (carves k a) rs then 0 else v)
+      branches (eqb (g .owner) d) (holds (g .start) (g .end) a) (exists (carves k a) rs) (passes f (g .rights))
+      ∙ holds-within (g .start) (g .end) a (if exists (carves k a) rs then 0 else v)
       ∙ ap (λ (n : ℕ). within (g .start) (g .end) a n 0) (clear-any (carves k a) rs v)
-      ∙ clear-within (count (carves k a) rs) (g .start) (g .end) a v
+      ∙ clear-within (countIf (carves k a) rs) (g .start) (g .end) a v
 
-  tally-step : (i : ℕ) (x : Option Region) (l : List (Option Region)) (t : ℕ) → t ≡ sum (λ k. one (suc i + k) (slotOf l k)) (length l) → one i x + t ≡ sum (λ k. one (i + k) (slotOf (x ∷ l) k)) (length (x ∷ l))
+  tally-step : (i : ℕ) (x : Option Region) (l : List (Option Region)) (t : ℕ) → t ≡ sum (λ k. one (suc i + k) (atSlot l k)) (length l) → one i x + t ≡ sum (λ k. one (i + k) (atSlot (x ∷ l) k)) (length (x ∷ l))
   tally-step i x l t h =
       let here : i + 0 ≡ i = omega arith in
       let next : (k : ℕ) → suc i + k ≡ i + suc k = λ k. omega arith in
       omega (
         arith,
-        sum-front (λ k. one (i + k) (slotOf (x ∷ l) k)) (length l),
-        sum-same (λ k. one (suc i + k) (slotOf l k)) (λ k. one (i + suc k) (slotOf l k)) (length l) (λ k u. ap (λ (n : ℕ). one n (slotOf l k)) (next k)),
+        sum-front (λ k. one (i + k) (atSlot (x ∷ l) k)) (length l),
+        sum-same (λ k. one (suc i + k) (atSlot l k)) (λ k. one (i + suc k) (atSlot l k)) (length l) (λ k u. ap (λ (n : ℕ). one n (atSlot l k)) (next k)),
         ap (λ (n : ℕ). one n x) here,
       )
 
-  tally-from : (i : ℕ) (l : List (Option Region)) → tally rs d a (passes f) i l ≡ sum (λ k. one (i + k) (slotOf l k)) (length l)
+  tally-from : (i : ℕ) (l : List (Option Region)) → tally rs d a (passes f) i l ≡ sum (λ k. one (i + k) (atSlot l k)) (length l)
   tally-from i [] = refl
   tally-from i (none ∷ l) = omega (arith, tally-step i none l (tally rs d a (passes f) (suc i) l) (tally-from (suc i) l))
   tally-from i (some g ∷ l) = tally-step i (some g) l (tally rs d a (passes f) (suc i) l) (tally-from (suc i) l)
 
   pub tally-is : regionCount f rs d a ≡ sum weight (length rs)
-  tally-is = tally-from 0 rs ∙ sum-same _ _ (length rs) (λ k h. ap (λ (n : ℕ). one n (slotOf rs k)) (plus k) ∙ one-is k (slotOf rs k))
+  tally-is = tally-from 0 rs ∙ sum-same _ _ (length rs) (λ k h. ap (λ (n : ℕ). one n (atSlot rs k)) (plus k) ∙ one-is k (atSlot rs k))
     where
       plus : (k : ℕ) → 0 + k ≡ k
       plus k = omega arith
@@ -169,6 +165,6 @@ carve-is : (p a : ℕ) (x : Option Region) → oneIf (carves p a x) ≡ carve x 
 carve-is p a none = refl
 carve-is p a (some g) = carve-kind p a g (g .kind)
 
-pub carved-is : (rs : List (Option Region)) (p a : ℕ) → carved rs p a ≡ sum (λ k. carve (slotOf rs k) p a) (length rs)
+pub carved-is : (rs : List (Option Region)) (p a : ℕ) → carved rs p a ≡ sum (λ k. carve (atSlot rs k) p a) (length rs)
 unfolding carved
-carved-is rs p a = count-sum (carves p a) rs ∙ sum-same _ _ (length rs) (λ k h. carve-is p a (slotOf rs k))
+carved-is rs p a = count-sum (carves p a) rs ∙ sum-same _ _ (length rs) (λ k h. carve-is p a (atSlot rs k))

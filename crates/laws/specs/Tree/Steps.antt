@@ -4,16 +4,16 @@ use Prim.Native.Nat.{ℕ}
 use mathlib.Core.Option.{Option, none, some}
 use mathlib.Core.List.{List, [], _∷_}
 use lib.ListN.{set}
-use Rattle.model.specs.Lists.{any, In}
+use Rattle.base.specs.Options.{none-some, some-same}
+use Rattle.model.specs.Lists.{exists, In}
 use Rattle.rights.specs.Rights.{has, CLEANUP}
-use Rattle.model.specs.State.{State, Region, Kind, Root, Alias, Carve, Access, Update, parentOf, regionAt, withRecordPool, putDomain, withTracker, domainAt}
+use Rattle.model.specs.State.{State, Domain, Region, Kind, Root, Alias, Carve, Access, Update, parentOf, regionAt, withRecordPool, putDomain, withTracker, domainAt}
 use Rattle.model.specs.Pool.{handleOf}
 use Rattle.model.specs.Updates.{push, pushPermission, isPermissionOf}
 use Rattle.model.specs.Tracker.{Walk}
 use Rattle.model.specs.Tree.{insertChild, removeChild, Range}
 use Rattle.model.specs.Regions.{putWalk, activate, deactivate, sendRanges, giveBack, leaveParent, freeRegion, revokeLeaf}
 use Rattle.laws.specs.Accepted.{All, accepted, bind, bind-any, weaken, and-then, branch}
-use Rattle.laws.specs.Tree.Slots.{none-some, some-same}
 use Rattle.laws.specs.Tree.Change.{childIn, childOut}
 
 -- the regions are those of s
@@ -26,7 +26,7 @@ push-regions u s = and-then _ (accepted refl)
 
 permission-regions : (d : ℕ) (s : State) → All (SameRegions s) (pushPermission d s)
 unfolding pushPermission
-permission-regions d s = branch (any (isPermissionOf (handleOf (s .domainPool) d)) (s .queue .items)) (accepted refl) (push-regions _ s)
+permission-regions d s = branch (exists (isPermissionOf (handleOf (s .domainPool) d)) (s .queue .items)) (accepted refl) (push-regions _ s)
 
 walk-regions : (d : ℕ) (w : Walk) (s : State) → All (SameRegions s) (putWalk d w s)
 unfolding putWalk
@@ -55,6 +55,9 @@ pub give-regions : (g : Region) (s : State) → All (SameRegions s) (giveBack g 
 give-regions g s = give-kind g (g .kind) s
 
 -- ---- child lists
+
+pub domain-at : (s : State) (d : ℕ) (x : Domain) → In (s .domains) d x → domainAt s d ≡ x
+domain-at s d x e = rw e
 
 pub region-at : (s : State) (i : ℕ) (g : Region) → In (s .regions) i g → regionAt s i ≡ g
 region-at s i g e = rw e

@@ -5,8 +5,9 @@ use Prim.Native.Nat.{ℕ, zero, suc, _+_, _≤_, _<_}
 use native.Mathlib.Omega.{arith}
 use native.Mathlib.Decide.{ℕ-discrete}
 use lib.Dec.{eqb}
+use borrow.Author.Tests.{eq-eqb, ne-eqb}
+use Rattle.base.specs.Cases.{lt, ge, cmp}
 use Rattle.model.specs.Lists.{if_then_else_}
-use Rattle.laws.specs.Cases.{eqb-t, eqb-f, lt, ge, cmp}
 
 abbrev pub sum : (ℕ → ℕ) → ℕ → ℕ
 sum w zero = 0
@@ -20,8 +21,15 @@ pub sum-zero : (n : ℕ) → sum (λ k. 0) n ≡ 0
 sum-zero zero = refl
 sum-zero (suc n) = omega (arith, sum-zero n)
 
+pub sum-each : (n : ℕ) → sum (λ k. 1) n ≡ n
+sum-each zero = refl
+sum-each (suc n) = omega (arith, sum-each n)
+
 pub sum-same : (w v : ℕ → ℕ) (n : ℕ) → ((k : ℕ) → k < n → w k ≡ v k) → sum w n ≡ sum v n
 sum-same w v n h = omega (arith, sum-add v (λ k. 0) w n (λ k i. omega (arith, h k i)), sum-zero n)
+
+pub sum-none : (w : ℕ → ℕ) (n : ℕ) → ((k : ℕ) → k < n → w k ≡ 0) → sum w n ≡ 0
+sum-none w n h = sum-same w (λ k. 0) n h ∙ sum-zero n
 
 pub sum-le : (w v : ℕ → ℕ) (n : ℕ) → ((k : ℕ) → w k ≤ v k) → sum w n ≤ sum v n
 sum-le w v zero h = omega arith
@@ -44,9 +52,9 @@ sum-one w v (suc n) i l h = elim (cmp i n) [
 pub sum-two : (w v : ℕ → ℕ) (n i j : ℕ) → i < n → j < n → i ≢ j → ((k : ℕ) → k ≢ i → k ≢ j → w k ≡ v k) → sum w n + (v i + v j) ≡ sum v n + (w i + w j)
 sum-two w v n i j l m d h =
     let u : ℕ → ℕ = λ k. if eqb k i then v k else w k in
-    let ui : u i ≡ v i = rw (eqb-t i i refl) in
-    let uo : (k : ℕ) → k ≢ i → u k ≡ w k = λ k x. rw (eqb-f k i x) in
-    let uv : (k : ℕ) → k ≢ j → u k ≡ v k = λ k x. elim (ℕ-discrete k i) [ yes e ↦ rw (eqb-t k i e) | no e ↦ uo k e ∙ h k e x ] in
+    let ui : u i ≡ v i = rw (eq-eqb i i refl) in
+    let uo : (k : ℕ) → k ≢ i → u k ≡ w k = λ k x. rw (ne-eqb k i x) in
+    let uv : (k : ℕ) → k ≢ j → u k ≡ v k = λ k x. elim (ℕ-discrete k i) [ yes e ↦ rw (eq-eqb k i e) | no e ↦ uo k e ∙ h k e x ] in
     omega (arith, sum-one u w n i l uo, sum-one u v n j m uv, ui, uo j (λ e. d (sym e)))
 
 -- a sum with one slot that counts
@@ -55,12 +63,12 @@ sum-at w n i l h = omega (arith, sum-one w (λ k. 0) n i l h, sum-zero n)
 
 -- the one slot below n that has number i
 pub sum-pick : (n i v : ℕ) → i < n → sum (λ k. if eqb i k then v else 0) n ≡ v
-sum-pick n i v h = sum-at (λ k. if eqb i k then v else 0) n i h (λ k m. rw (eqb-f i k (λ e. m (sym e)))) ∙ rw (eqb-t i i refl)
+sum-pick n i v h = sum-at (λ k. if eqb i k then v else 0) n i h (λ k m. rw (ne-eqb i k (λ e. m (sym e)))) ∙ rw (eq-eqb i i refl)
 
 pub sum-pick-le : (n i v : ℕ) → sum (λ k. if eqb i k then v else 0) n ≤ v
 sum-pick-le n i v = elim (cmp i n) [
   | lt h ↦ omega (arith, sum-pick n i v h)
-  | ge h ↦ omega (arith, sum-same (λ k. if eqb i k then v else 0) (λ k. 0) n (λ k m. rw (eqb-f i k (λ e. omega arith))), sum-zero n)
+  | ge h ↦ omega (arith, sum-same (λ k. if eqb i k then v else 0) (λ k. 0) n (λ k m. rw (ne-eqb i k (λ e. omega arith))), sum-zero n)
 ]
 
 pub sum-ones : (w : ℕ → ℕ) (n : ℕ) → ((k : ℕ) → k < n → 0 < w k) → n ≤ sum w n

@@ -8,17 +8,18 @@ use mathlib.Core.List.{List}
 use native.Mathlib.Omega.{arith}
 use lib.Dec.{eqb}
 use lib.ListN.{length}
-use Rattle.model.specs.Lists.{if_then_else_, oneIf, count, slotOf, In}
+use Rattle.base.specs.Cases.{below, inside, above, pos}
+use Rattle.model.specs.Lists.{if_then_else_, oneIf, countIf, atSlot, In}
 use Rattle.model.specs.State.{Region, Kind, Root, Alias, Carve}
 use Rattle.model.specs.Fields.{Field}
 use Rattle.model.specs.Tree.{isCarve, isRootKind}
 use Rattle.model.specs.Counts.{holds, regionCount}
-use Rattle.laws.specs.Cases.{within, W, below, inside, above, pos}
 use Rattle.laws.specs.Tree.Sum.{sum, sum-same, sum-zero, sum-add, sum-pick, sum-swap}
 use Rattle.laws.specs.Tree.Slots.{in-length, count-sum}
 use Rattle.laws.specs.Tree.Shares.{tally-is, share, carve, carveOf, childOf, carved, carved-is, clear, holds-within}
 use Rattle.laws.specs.Tree.Facts.{Regions, self, under}
 use Rattle.laws.specs.Tree.Carved.{cover, carved-cover}
+use Rattle.laws.specs.Within.{within, W}
 
 abbrev pub isAlias : Kind → Bool
 isAlias Root = false
@@ -44,8 +45,8 @@ covers-is : (t : Kind → Bool) (a : ℕ) (x : Option Region) → oneIf (coversA
 covers-is t a none = refl
 covers-is t a (some g) = and-within (t (g .kind)) (g .start) (g .end) a
 
-number : (t : Kind → Bool) (rs : List (Option Region)) (a : ℕ) → count (coversAs t a) rs ≡ sum (λ k. covers t (slotOf rs k) a) (length rs)
-number t rs a = count-sum (coversAs t a) rs ∙ sum-same _ _ (length rs) (λ k h. covers-is t a (slotOf rs k))
+number : (t : Kind → Bool) (rs : List (Option Region)) (a : ℕ) → countIf (coversAs t a) rs ≡ sum (λ k. covers t (atSlot rs k) a) (length rs)
+number t rs a = count-sum (coversAs t a) rs ∙ sum-same _ _ (length rs) (λ k h. covers-is t a (atSlot rs k))
 
 one-kind : (k : Kind) → oneIf (isRootKind k) + oneIf (isAlias k) + oneIf (isCarve k) ≡ 1
 one-kind Root = refl
@@ -84,39 +85,39 @@ module _ (rs : List (Option Region)) (s : Regions rs) (a : ℕ) where
   parent-slot : (k p : ℕ) (g : Region) → In rs k g → 0 < childOf (g .kind) p → p < length rs
   parent-slot k p g e h = let u = under rs s k p g e h in in-length rs p (u .parent) (u .is)
 
-  by-parent : sum (λ k. carved rs k a) (length rs) ≡ count (coversAs isCarve a) rs
+  by-parent : sum (λ k. carved rs k a) (length rs) ≡ countIf (coversAs isCarve a) rs
   by-parent =
       sum-same _ _ (length rs) (λ p h. carved-is rs p a)
-      ∙ sum-swap (λ p k. carve (slotOf rs k) p a) (length rs) (length rs)
-      ∙ sum-same _ _ (length rs) (λ k h. carve-all (length rs) a (slotOf rs k) (λ g p e. parent-slot k p g e))
+      ∙ sum-swap (λ p k. carve (atSlot rs k) p a) (length rs) (length rs)
+      ∙ sum-same _ _ (length rs) (λ k h. carve-all (length rs) a (atSlot rs k) (λ g p e. parent-slot k p g e))
       ∙ sym (number isCarve rs a)
 
-  by-kind : sum (λ k. cover (slotOf rs k) a) (length rs) ≡ count (coversAs isRootKind a) rs + count (coversAs isAlias a) rs + count (coversAs isCarve a) rs
+  by-kind : sum (λ k. cover (atSlot rs k) a) (length rs) ≡ countIf (coversAs isRootKind a) rs + countIf (coversAs isAlias a) rs + countIf (coversAs isCarve a) rs
   by-kind =
-      let r : ℕ → ℕ = λ k. covers isRootKind (slotOf rs k) a in
-      let l : ℕ → ℕ = λ k. covers isAlias (slotOf rs k) a in
-      let c : ℕ → ℕ = λ k. covers isCarve (slotOf rs k) a in
+      let r : ℕ → ℕ = λ k. covers isRootKind (atSlot rs k) a in
+      let l : ℕ → ℕ = λ k. covers isAlias (atSlot rs k) a in
+      let c : ℕ → ℕ = λ k. covers isCarve (atSlot rs k) a in
       omega (
         arith,
         number isRootKind rs a,
         number isAlias rs a,
         number isCarve rs a,
-        sum-add (λ k. r k + l k) c (λ k. cover (slotOf rs k) a) (length rs) (λ k h. cover-kind (slotOf rs k) a),
+        sum-add (λ k. r k + l k) c (λ k. cover (atSlot rs k) a) (length rs) (λ k h. cover-kind (atSlot rs k) a),
         sum-add r l (λ k. r k + l k) (length rs) (λ k h. refl),
       )
 
   module _ (n : ℕ) (owned : (i : ℕ) (g : Region) → In rs i g → g .owner < n) where
-    by-domain : sum (λ d. regionCount Field.Reach rs d a) n ≡ sum (λ k. clear (carved rs k a) (cover (slotOf rs k) a)) (length rs)
+    by-domain : sum (λ d. regionCount Field.Reach rs d a) n ≡ sum (λ k. clear (carved rs k a) (cover (atSlot rs k) a)) (length rs)
     by-domain =
         sum-same _ _ n (λ d h. tally-is Field.Reach rs d a)
-        ∙ sum-swap (λ d k. clear (carved rs k a) (share Field.Reach (slotOf rs k) d a)) n (length rs)
-        ∙ sum-same _ _ (length rs) (λ k h. clear-all n a (carved rs k a) (slotOf rs k) (λ g e. owned k g e))
+        ∙ sum-swap (λ d k. clear (carved rs k a) (share Field.Reach (atSlot rs k) d a)) n (length rs)
+        ∙ sum-same _ _ (length rs) (λ k h. clear-all n a (carved rs k a) (atSlot rs k) (λ g e. owned k g e))
 
-    pub reach-total : sum (λ d. regionCount Field.Reach rs d a) n ≡ count (coversAs isRootKind a) rs + count (coversAs isAlias a) rs
+    pub reach-total : sum (λ d. regionCount Field.Reach rs d a) n ≡ countIf (coversAs isRootKind a) rs + countIf (coversAs isAlias a) rs
     reach-total = omega (
       arith,
       by-domain,
       by-parent,
       by-kind,
-      sum-add (λ k. clear (carved rs k a) (cover (slotOf rs k) a)) (λ k. carved rs k a) (λ k. cover (slotOf rs k) a) (length rs) (λ k h. sym (carved-cover rs k a s)),
+      sum-add (λ k. clear (carved rs k a) (cover (atSlot rs k) a)) (λ k. carved rs k a) (λ k. cover (atSlot rs k) a) (length rs) (λ k h. sym (carved-cover rs k a s)),
     )

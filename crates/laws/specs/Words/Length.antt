@@ -6,11 +6,11 @@ use mathlib.Core.List.{List, [], _∷_, map, flatMap}
 use native.Mathlib.Omega.{arith}
 use lib.Dec.{eqb}
 use lib.ListN.{length, drop, getElem?, length-append, length-map, replicate, length-replicate}
-use Rattle.model.specs.Lists.{slotOf, countUp, firstOf, afterIn}
+use Rattle.base.specs.Cases.{holds, fails, test}
+use Rattle.model.specs.Lists.{atSlot, countUp, firstOf, afterIn}
 use Rattle.model.specs.State.{Sizes, Pool, Capa, noCapa, region, regionRevoke, management, channel, LocalList, Record, Domain, parentOf, Region, Update, permission, cleanup, Queue, State}
-use Rattle.model.specs.Layout.{link, slotOr0, headerWords, freeLink, poolWords, capaWords, slotWords, domainWords, kindWord, siblings, regionWords, inTracker, recordSlotWords, updateWords, placeWords, words, lengthFor}
+use Rattle.model.specs.Layout.{link, slotOr0, headerWords, freeLink, poolWords, capaWords, slotWords, domainWords, kindWord, siblings, regionWords, trackerWords, recordSlotWords, updateWords, placeWords, words, lengthFor}
 use Rattle.model.specs.Sound.{PoolSound, Sound}
-use Rattle.laws.specs.Cases.{holds, fails, test}
 use Rattle.laws.specs.Parts.{join, in-turn, sum, join-length, up-length, rows-length}
 
 -- ---- the width of each row
@@ -31,14 +31,14 @@ slot-row-width free i none = refl
 slot-row-width free i (some c) = capa-width c
 
 pub slot-width : (l : LocalList) (i : ℕ) → length (slotWords l i) ≡ 3
-slot-width l i = slot-row-width (l .free) i (slotOf (l .held) i)
+slot-width l i = slot-row-width (l .free) i (atSlot (l .held) i)
 
 domain-row-width : (n : ℕ) (o : Option Domain) → length (domainWords n o) ≡ 5 + 3 * n
 domain-row-width n none = length-replicate (5 + 3 * n) 0
 domain-row-width n (some x) = omega (arith, rows-length 3 (slotWords (x .locals)) (slot-width (x .locals)) 0 n)
 
-pub domain-width : (n : ℕ) (ds : List (Option Domain)) (i : ℕ) → length (domainWords n (slotOf ds i)) ≡ 5 + 3 * n
-domain-width n ds i = domain-row-width n (slotOf ds i)
+pub domain-width : (n : ℕ) (ds : List (Option Domain)) (i : ℕ) → length (domainWords n (atSlot ds i)) ≡ 5 + 3 * n
+domain-width n ds i = domain-row-width n (atSlot ds i)
 
 -- `regionWords` by what the slot holds; used only in proofs
 abbrev pub regionRow : List (Option Region) → ℕ → Option Region → List ℕ
@@ -54,9 +54,9 @@ region-row-width rs i none = refl
 region-row-width rs i (some g) = refl
 
 pub region-width : (rs : List (Option Region)) (i : ℕ) → length (regionWords rs i) ≡ 8
-region-width rs i = region-row-width rs i (slotOf rs i)
+region-width rs i = region-row-width rs i (atSlot rs i)
 
-tracker-width : (i : ℕ) (l : List Record) (others : List ℕ) → length others ≡ 9 → length (inTracker i l others) ≡ 9
+tracker-width : (i : ℕ) (l : List Record) (others : List ℕ) → length others ≡ 9 → length (trackerWords i l others) ≡ 9
 tracker-width i [] others h = h
 tracker-width i (q ∷ l) others h = elim (test (eqb i (q .slot))) [ holds t ↦ rw t | fails t ↦ rw t (tracker-width i l others h) ]
 
@@ -71,7 +71,7 @@ update-width (some (permission h c)) = refl
 update-width (some (cleanup a b)) = refl
 
 pub place-width : (n : ℕ) (q : Queue) (k : ℕ) → length (placeWords n q k) ≡ 4
-place-width n q k = update-width (getElem? (q .items) ((k + (n + 1) - q .first) % (n + 1)))
+place-width n q k = update-width (getElem? (q .items) ((k + (n + 1) - q .readPlace) % (n + 1)))
 
 -- ---- the eight sections
 
@@ -82,7 +82,7 @@ sections s =
     ∷ poolWords (s .sizes .domains) (s .domainPool)
     ∷ poolWords (s .sizes .regions) (s .regionPool)
     ∷ poolWords (s .sizes .records) (s .recordPool)
-    ∷ flatMap (λ i. domainWords (s .sizes .slots) (slotOf (s .domains) i)) (countUp 0 (s .sizes .domains))
+    ∷ flatMap (λ i. domainWords (s .sizes .slots) (atSlot (s .domains) i)) (countUp 0 (s .sizes .domains))
     ∷ flatMap (regionWords (s .regions)) (countUp 0 (s .sizes .regions))
     ∷ flatMap (recordSlotWords (s .domains)) (countUp 0 (s .sizes .records))
     ∷ flatMap (placeWords (s .sizes .updates) (s .queue)) (countUp 0 (s .sizes .updates + 1))

@@ -7,14 +7,14 @@ use mathlib.Core.List.{List, [], _∷_}
 use native.Mathlib.Omega.{arith}
 use native.Mathlib.Nat.{mod-eq-of-lt, add-mod-right}
 use lib.ListN.{length, getD, getElem?}
+use Rattle.base.specs.Cases.{lt, ge, cmp}
 use Rattle.model.specs.State.{Update, permission, cleanup, Queue}
 use Rattle.model.specs.Layout.{updateWords, placeWords}
-use Rattle.laws.specs.Cases.{lt, ge, cmp}
 
 -- an update, read from a place's four words; used only in proofs
 abbrev readUpdate : ℕ → ℕ → ℕ → ℕ → Option Update
 readUpdate zero a b c = none
-readUpdate (suc zero) a b c = some (permission (record { slot = a; gen = b }) c)
+readUpdate (suc zero) a b c = some (permission (record { slot = a; generation = b }) c)
 readUpdate (suc (suc n)) a b c = some (cleanup a b)
 
 abbrev readPlace : List ℕ → Option Update
@@ -44,17 +44,17 @@ same-items [] (v ∷ m) h = let e = h 0 in cc
 same-items (u ∷ l) [] h = let e = h 0 in cc
 same-items (u ∷ l) (v ∷ m) h = let e = h 0 in let t = same-items l m (λ j. h (suc j)) in cc
 
-pub same-queue : (n : ℕ) (q r : Queue) → q .first ≡ r .first → q .first < n + 1 → length (q .items) < n + 1 → length (r .items) < n + 1 → ((k : ℕ) → k < n + 1 → placeWords n q k ≡ placeWords n r k) → q ≡ r
-same-queue n q r f p a b rows = λ i. record { first = f i; items = same-items (q .items) (r .items) at i }
+pub same-queue : (n : ℕ) (q r : Queue) → q .readPlace ≡ r .readPlace → q .readPlace < n + 1 → length (q .items) < n + 1 → length (r .items) < n + 1 → ((k : ℕ) → k < n + 1 → placeWords n q k ≡ placeWords n r k) → q ≡ r
+same-queue n q r f p a b rows = λ i. record { readPlace = f i; items = same-items (q .items) (r .items) at i }
   where
     at : (j : ℕ) → getElem? (q .items) j ≡ getElem? (r .items) j
     at j = elim (cmp j (n + 1)) [
       | ge h ↦ past-end (q .items) j (omega arith) ∙ sym (past-end (r .items) j (omega arith))
       | lt h ↦
-          let t = place-of (n + 1) (q .first) j p h in
+          let t = place-of (n + 1) (q .readPlace) j p h in
           let k = t .0 in
-          let o = getElem? (q .items) ((k + (n + 1) - q .first) % (n + 1)) in
-          let o′ = getElem? (r .items) ((k + (n + 1) - r .first) % (n + 1)) in
+          let o = getElem? (q .items) ((k + (n + 1) - q .readPlace) % (n + 1)) in
+          let o′ = getElem? (r .items) ((k + (n + 1) - r .readPlace) % (n + 1)) in
           let e : o ≡ o′ = sym (read-place o) ∙ ap readPlace (rows k (t .1)) ∙ read-place o′ in
           rw (← f, t .2) at e
     ]

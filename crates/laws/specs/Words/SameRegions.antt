@@ -2,19 +2,22 @@
 -- a region stands in exactly its parent's list, once, so its sibling link is that list's.
 use mathlib.Core.Path.{_≡_, refl, ap, ap₂, sym, _∙_}
 use Prim.Native.Nat.{ℕ, zero, suc, _<_, _≤_}
-use mathlib.Core.Option.{Option, none, some}
+use mathlib.Core.Option.{Option, none, some, Option·getD}
 use mathlib.Core.List.{List, [], _∷_}
 use native.Mathlib.Omega.{arith}
 use lib.Dec.{T, eqb, eqb→eq}
 use lib.ListN.{length, getD}
-use Rattle.model.specs.Lists.{oneIf, isSome, count, Each, orElse, slotOf, In, firstOf, afterIn}
+use Rattle.base.specs.Cases.{holds, fails, test}
+use Rattle.base.specs.Tests.{true-is}
+use Rattle.model.specs.Lists.{oneIf, isSome, countIf, Each, atSlot, In, firstOf, afterIn}
 use Rattle.model.specs.State.{Kind, Root, Alias, Carve, parentOf, Region, noneRegion, regionIn}
 use Rattle.model.specs.Layout.{link, slotOr0, kindWord, siblings, regionWords}
-use Rattle.model.specs.Sound.{inUse, names, RegionSound}
-use Rattle.laws.specs.Cases.{true-is, holds, fails, test}
+use Rattle.model.specs.Sound.{slotUses, names, RegionSound}
 use Rattle.laws.specs.Stack.{one-at-most, same-stack}
-use Rattle.laws.specs.Words.SameTables.{neither, both, pair, same-table, in-below, at-slots, unlink, same-slot}
+use Rattle.laws.specs.Words.SameTables.{neither, both, pair, same-table, at-slots, unlink, same-slot}
 use Rattle.laws.specs.Words.Length.{regionRow}
+use Rattle.laws.specs.Tree.Facts.{named}
+use Rattle.laws.specs.Tree.Slots.{in-length}
 
 -- the kind, read from its word and the parent's link; used only in proofs
 abbrev readKind : ℕ → ℕ → Kind
@@ -31,7 +34,7 @@ read-kind (Carve p) = refl
 -- ---- where a region is listed
 
 -- a slot that is free stands in no list of live ones
-unlisted : (rs : List (Option Region)) (c : ℕ) (l : List ℕ) → Each (λ x. T (isSome (slotOf rs x))) l → slotOf rs c ≡ none → count (eqb c) l ≡ 0
+unlisted : (rs : List (Option Region)) (c : ℕ) (l : List ℕ) → Each (λ x. T (isSome (atSlot rs x))) l → atSlot rs c ≡ none → countIf (eqb c) l ≡ 0
 unlisted rs c [] h e = refl
 unlisted rs c (x ∷ l) h e = elim (test (eqb c x)) [
   | holds t ↦ let z = eqb→eq c x (true-is t) in absurd (rw (← z, e) at (h .0))
@@ -44,54 +47,50 @@ parentAt none = none
 parentAt (some g) = parentOf (g .kind)
 
 -- how often c stands in the list of the region in slot p
-listing : (rs : List (Option Region)) → ((i : ℕ) (g : Region) → In rs i g → RegionSound rs i g) → (p : ℕ) (g : Region) → In rs p g → (c : ℕ) → count (eqb c) (g .children) ≡ oneIf (names (parentAt (slotOf rs c)) p)
-listing rs h p g i c = go (slotOf rs c) refl
+listing : (rs : List (Option Region)) → ((i : ℕ) (g : Region) → In rs i g → RegionSound rs i g) → (p : ℕ) (g : Region) → In rs p g → (c : ℕ) → countIf (eqb c) (g .children) ≡ oneIf (names (parentAt (atSlot rs c)) p)
+listing rs h p g i c = go (atSlot rs c) refl
   where
-    go : (o : Option Region) → slotOf rs c ≡ o → count (eqb c) (g .children) ≡ oneIf (names (parentAt o) p)
+    go : (o : Option Region) → atSlot rs c ≡ o → countIf (eqb c) (g .children) ≡ oneIf (names (parentAt o) p)
     go none e = unlisted rs c (g .children) (h p g i .childrenLive) e
     go (some x) e = h c x e .listed p g i
-
-named : (o : Option ℕ) (p : ℕ) → 0 < oneIf (names o p) → o ≡ some p
-named none p h = absurd (omega arith)
-named (some q) p h = elim (test (eqb q p)) [ holds t ↦ ap some (eqb→eq q p (true-is t)) | fails t ↦ absurd (omega (arith, rw t at h)) ]
 
 -- `siblings` by the parent; used only in proofs
 abbrev siblingsOf : List (Option Region) → Option ℕ → List ℕ
 siblingsOf rs o = elim o [ none ↦ [] | some p ↦ regionIn rs p .children ]
 
 parents-list : (rs : List (Option Region)) (k : Kind) (p : ℕ) (g : Region) → parentOf k ≡ some p → In rs p g → siblings rs k ≡ g .children
-parents-list rs k p g e i = ap (siblingsOf rs) e ∙ ap (λ (o : Option Region). orElse o noneRegion .children) i
+parents-list rs k p g e i = ap (siblingsOf rs) e ∙ ap (λ (o : Option Region). Option·getD o noneRegion .children) i
 
-module _ (n : ℕ) (rs ts : List (Option Region)) (ln : length rs ≡ n) (ln′ : length ts ≡ n) (used : (i : ℕ) → inUse rs i ≡ inUse ts i)
+module _ (n : ℕ) (rs ts : List (Option Region)) (ln : length rs ≡ n) (ln′ : length ts ≡ n) (used : (i : ℕ) → slotUses rs i ≡ slotUses ts i)
     (rows : (i : ℕ) → i < n → regionWords rs i ≡ regionWords ts i)
     (hr : (i : ℕ) (g : Region) → In rs i g → RegionSound rs i g) (ht : (i : ℕ) (g : Region) → In ts i g → RegionSound ts i g) where
   -- word w of the row of a live region
   word : (w i : ℕ) (g k : Region) → In rs i g → In ts i k → getD (regionRow rs i (some g)) w 0 ≡ getD (regionRow ts i (some k)) w 0
   word w i g k a b =
-      let row = at-slots (regionRow rs i) (regionRow ts i) (slotOf rs i) (slotOf ts i) g k a b (rows i (omega (arith, in-below rs i g a))) in
+      let row = at-slots (regionRow rs i) (regionRow ts i) (atSlot rs i) (atSlot ts i) g k a b (rows i (omega (arith, in-length rs i g a))) in
       ap (λ r. getD r w 0) row
 
   same-kind : (i : ℕ) (g k : Region) → In rs i g → In ts i k → g .kind ≡ k .kind
   same-kind i g k a b = sym (read-kind (g .kind)) ∙ ap₂ readKind (word 0 i g k a b) (word 2 i g k a b) ∙ read-kind (k .kind)
 
-  same-parent : (c : ℕ) → parentAt (slotOf rs c) ≡ parentAt (slotOf ts c)
-  same-parent c = elim (pair (slotOf rs c) (slotOf ts c) (used c)) [
+  same-parent : (c : ℕ) → parentAt (atSlot rs c) ≡ parentAt (atSlot ts c)
+  same-parent c = elim (pair (atSlot rs c) (atSlot ts c) (used c)) [
     | neither u v ↦ ap parentAt (u ∙ sym v)
     | both x y u v ↦ ap parentAt u ∙ ap parentOf (same-kind c x y u v) ∙ sym (ap parentAt v)
   ]
 
   module _ (p : ℕ) (g k : Region) (a : In rs p g) (b : In ts p k) where
-    same-count : (c : ℕ) → count (eqb c) (g .children) ≡ count (eqb c) (k .children)
+    same-count : (c : ℕ) → countIf (eqb c) (g .children) ≡ countIf (eqb c) (k .children)
     same-count c = listing rs hr p g a c ∙ ap (λ o. oneIf (names o p)) (same-parent c) ∙ sym (listing ts ht p k b c)
 
-    once : (c : ℕ) → count (eqb c) (g .children) ≤ 1
-    once c = omega (arith, listing rs hr p g a c, one-at-most (names (parentAt (slotOf rs c)) p))
+    once : (c : ℕ) → countIf (eqb c) (g .children) ≤ 1
+    once c = omega (arith, listing rs hr p g a c, one-at-most (names (parentAt (atSlot rs c)) p))
 
-    next : (c : ℕ) → 0 < count (eqb c) (g .children) → slotOr0 (afterIn (g .children) c) ≡ slotOr0 (afterIn (k .children) c)
+    next : (c : ℕ) → 0 < countIf (eqb c) (g .children) → slotOr0 (afterIn (g .children) c) ≡ slotOr0 (afterIn (k .children) c)
     next c h =
-        let e = named (parentAt (slotOf rs c)) p (omega (arith, listing rs hr p g a c)) in
+        let e = named (parentAt (atSlot rs c)) p (omega (arith, listing rs hr p g a c)) in
         let e′ = sym (same-parent c) ∙ e in
-        elim (pair (slotOf rs c) (slotOf ts c) (used c)) [
+        elim (pair (atSlot rs c) (atSlot ts c) (used c)) [
           | neither u v ↦ cc (ap parentAt u)
           | both x y u v ↦
               let l = parents-list rs (x .kind) p g (sym (ap parentAt u) ∙ e) a in

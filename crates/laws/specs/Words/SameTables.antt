@@ -2,14 +2,14 @@
 use mathlib.Core.Path.{_≡_, refl, ap, sym, _∙_}
 use Prim.Native.Nat.{ℕ, zero, suc, _<_, _-_}
 use mathlib.Core.Option.{Option, none, some}
-use mathlib.Core.List.{List, [], _∷_, map}
+use mathlib.Core.List.{List, _∷_, map}
 use native.Mathlib.Omega.{arith}
 use lib.ListN.{length, length-map}
 use lib.Seq.{ext-getD}
-use Rattle.model.specs.Lists.{oneIf, isSome, slotOf, In, countUp, firstOf}
+use Rattle.model.specs.Lists.{oneIf, isSome, atSlot, In, countUp, firstOf}
 use Rattle.model.specs.State.{Pool}
 use Rattle.model.specs.Layout.{link, slotOr0, freeLink, poolWords}
-use Rattle.model.specs.Sound.{inUse, PoolSound}
+use Rattle.model.specs.Sound.{slotUses, PoolSound}
 use Rattle.laws.specs.Parts.{cut, same-map}
 use Rattle.laws.specs.Stack.{same-free, same-used}
 
@@ -39,16 +39,11 @@ pair none (some y) h = absurd (omega arith)
 pair (some x) none h = absurd (omega arith)
 pair (some x) (some y) h = both x y refl refl
 
-pub same-table : {A : Type 0} (l m : List (Option A)) → length l ≡ length m → ((i : ℕ) → inUse l i ≡ inUse m i) → ((i : ℕ) (x y : A) → In l i x → In m i y → x ≡ y) → l ≡ m
-same-table l m e u f = ext-getD none l m e (λ i h. elim (pair (slotOf l i) (slotOf m i) (u i)) [
+pub same-table : {A : Type 0} (l m : List (Option A)) → length l ≡ length m → ((i : ℕ) → slotUses l i ≡ slotUses m i) → ((i : ℕ) (x y : A) → In l i x → In m i y → x ≡ y) → l ≡ m
+same-table l m e u f = ext-getD none l m e (λ i h. elim (pair (atSlot l i) (atSlot m i) (u i)) [
   | neither a b ↦ a ∙ sym b
   | both x y a b ↦ a ∙ ap some (f i x y a b) ∙ sym b
 ])
-
-pub in-below : {A : Type 0} (l : List (Option A)) (i : ℕ) (x : A) → In l i x → i < length l
-in-below [] i x e = let z : _≡_ {A = ℕ} 0 1 = cc in omega arith
-in-below (o ∷ l) zero x e = omega arith
-in-below (o ∷ l) (suc i) x e = omega (arith, in-below l i x e)
 
 -- a row that depends on what its slot holds
 pub at-slots : {A : Type 0} (f g : Option A → List ℕ) (o p : Option A) (x y : A) → o ≡ some x → p ≡ some y → f o ≡ g p → f (some x) ≡ g (some y)

@@ -3,11 +3,11 @@ use mathlib.Core.Path.{_≡_, refl}
 use Prim.Native.Nat.{ℕ}
 use mathlib.Core.Option.{none}
 use mathlib.Core.List.{List, [], _∷_, _++_, map}
-use Rattle.model.specs.Outcome.{badRange, beyond}
-use Rattle.model.specs.Making.{emptyTables}
-use Rattle.model.specs.Perform.{Step, Reading, Call, Reply, Answer, step, run}
+use Rattle.refusals.specs.Refusals.{badRange, beyond}
+use Rattle.model.specs.Making.{emptyTables, scriptSizes}
+use Rattle.model.specs.Perform.{Step, Reading, Call, Value, Answer, step, run}
 use Rattle.model.specs.Checked.Compute.{computing}
-use Rattle.model.specs.Checked.Script.{dom, access, scriptSizes, example}
+use Rattle.model.specs.Checked.Script.{dom, access, example}
 
 -- After the calls `given`, the call `asked` is answered so.
 pub record Case : Type 0 where
@@ -33,10 +33,10 @@ carve s e r = Call.Do (Step.Carve (dom 0) 0 (access s e r))
 
 -- "passes", with the local slot; "gives 7", "gives 8"; a number; a permission list
 abbrev pub passes : ℕ → Answer
-passes l = Answer.yes (Reply.local l)
+passes l = Answer.yes (Value.local l)
 
 abbrev number : ℕ → Answer
-number n = Answer.yes (Reply.number n)
+number n = Answer.yes (Value.number n)
 
 -- "Carves 0 to 4 and 8 to 12" of a root in slot 1, which is then sent through the channel in slot 0
 abbrev carvedAndSent : List Call
@@ -70,11 +70,11 @@ table =
     ∷ gives (root ++ (carve 4 8 3 ∷ [])) (alias 8 16 3) (passes 2)
     ∷ gives (root ++ (carve 4 8 3 ∷ [])) (alias 7 9 3) (Answer.no beyond)
     ∷ gives (root ++ (alias 4 8 3 ∷ [])) (carve 6 7 3) (Answer.no beyond)
-    ∷ gives carvedAndSent (Call.Read (Reading.Permissions (dom 1))) (Answer.yes (Reply.permissionList (access 4 8 3 ∷ access 12 16 3 ∷ [])))
+    ∷ gives carvedAndSent (Call.Read (Reading.Permissions (dom 1))) (Answer.yes (Value.permissionList (access 4 8 3 ∷ access 12 16 3 ∷ [])))
     ∷ gives root (Call.Read (Reading.Refcount (dom 0) 5 5)) (number 1)
     ∷ gives root (Call.Read (Reading.Refcount (dom 0) 0 0)) (number 0)
     ∷ gives root (Call.Read (Reading.Refcount (dom 0) 8 3)) (number 1)
-    ∷ gives revokedByB (Call.Read (Reading.Permissions (dom 0))) (Answer.yes (Reply.permissionList (access 0 4 3 ∷ access 4 16 3 ∷ [])))
+    ∷ gives revokedByB (Call.Read (Reading.Permissions (dom 0))) (Answer.yes (Value.permissionList (access 0 4 3 ∷ access 4 16 3 ∷ [])))
     ∷ gives revokedByB (Call.Read (Reading.Refcount (dom 0) 0 4)) (number 2)
     ∷ gives revokedByB (Call.Read (Reading.Refcount (dom 0) 4 16)) (number 1)
     ∷ []

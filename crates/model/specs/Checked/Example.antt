@@ -83,7 +83,7 @@ opened-length = refl
 
 -- ---- a ring of three places whose read place is the last: the second update stands in the first place
 
-round : flatMap (placeWords 2 (record { first = 2; items = cleanup 1 2 ∷ cleanup 3 4 ∷ [] })) (countUp 0 3)
+round : flatMap (placeWords 2 (record { readPlace = 2; items = cleanup 1 2 ∷ cleanup 3 4 ∷ [] })) (countUp 0 3)
     ≡ (2 ∷ 3 ∷ 4 ∷ 0 ∷ [])
     ++ (0 ∷ 0 ∷ 0 ∷ 0 ∷ [])
     ++ (2 ∷ 1 ∷ 2 ∷ 0 ∷ [])

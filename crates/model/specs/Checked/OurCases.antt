@@ -3,10 +3,10 @@ use mathlib.Core.Path.{_≡_, refl}
 use Prim.Native.Nat.{ℕ}
 use mathlib.Core.Option.{none, some}
 use mathlib.Core.List.{List, [], _∷_, _++_, map}
-use Rattle.model.specs.Outcome.{noDomain, noSlot, noLocal}
+use Rattle.refusals.specs.Refusals.{noDomain, noSlot, noLocal}
 use Rattle.model.specs.State.{Sizes, permission, cleanup}
 use Rattle.model.specs.Making.{emptyTables}
-use Rattle.model.specs.Perform.{Step, Reading, Call, Reply, Answer, step, run}
+use Rattle.model.specs.Perform.{Step, Reading, Call, Value, Answer, step, run}
 use Rattle.model.specs.Checked.Compute.{computing}
 use Rattle.model.specs.Checked.Script.{dom, access}
 use Rattle.model.specs.Checked.Edges.{root, alias, carve, passes}
@@ -78,9 +78,9 @@ gives z before c a = record { sizes = z; given = before; asked = c; answer = a }
 abbrev pub table : List SizedCase
 table =
     -- "a newcomer goes after equals": the first child goes first
-    gives (z 1 4 4 4 4) equalStarts Call.Pop (Answer.yes (Reply.popped (some (cleanup 0 4))))
+    gives (z 1 4 4 4 4) equalStarts Call.Pop (Answer.yes (Value.popped (some (cleanup 0 4))))
     -- "Children go first, head child by head child": the second child goes, too, and the region
-    ∷ gives (z 1 4 4 4 4) equalStarts (Call.Read (Reading.Permissions (dom 0))) (Answer.yes (Reply.permissionList (access 0 16 3 ∷ [])))
+    ∷ gives (z 1 4 4 4 4) equalStarts (Call.Read (Reading.Permissions (dom 0))) (Answer.yes (Value.permissionList (access 0 16 3 ∷ [])))
     -- "The caller's slot becomes Capa::None, still in use until a sweep": the next capability does not go there
     ∷ gives (z 1 4 4 4 4) (root ++ (alias 0 16 3 ∷ revoke 1 ∷ [])) (alias 0 16 3) (passes 2)
     -- "slots holding None or a dead handle are freed in rising order", and "the slot freed last is given first"
@@ -96,31 +96,31 @@ table =
     (z 1 4 4 4 4)
     (root ++ (carve 4 8 1 ∷ []))
     (Call.Read (Reading.Permissions (dom 0)))
-    (Answer.yes (Reply.permissionList (access 0 4 3 ∷ access 4 8 1 ∷ access 8 16 3 ∷ [])))
+    (Answer.yes (Value.permissionList (access 0 4 3 ∷ access 4 8 1 ∷ access 8 16 3 ∷ [])))
     -- "if equal, the tracker isn't touched"
-    ∷ gives (z 1 4 4 4 4) (root ++ (Call.Pop ∷ carve 4 8 3 ∷ [])) Call.Pop (Answer.yes (Reply.popped none))
+    ∷ gives (z 1 4 4 4 4) (root ++ (Call.Pop ∷ carve 4 8 3 ∷ [])) Call.Pop (Answer.yes (Value.popped none))
     -- "loss splits, subtracts one and drops records at reach 0", each record in turn: 0 to 4 is dropped, and its slot goes to the split at 8
-    ∷ gives (z 2 8 8 5 8) fiveRecords (revoke 0) (Answer.yes Reply.done)
+    ∷ gives (z 2 8 8 5 8) fiveRecords (revoke 0) (Answer.yes Value.done)
     -- "The uncacheable count is 1 or 0 by the rights that made the record"
     ∷ gives
     (z 1 4 4 4 4)
     (opened 0 ∷ rootOf 0 8 1 ∷ rootOf 0 8 129 ∷ [])
     (Call.Read (Reading.Permissions (dom 0)))
-    (Answer.yes (Reply.permissionList (access 0 8 1 ∷ [])))
+    (Answer.yes (Value.permissionList (access 0 8 1 ∷ [])))
     -- "A change queues the domain with its core map unless it is queued already"
     ∷ gives
     (z 1 4 4 4 4)
-    (opened 1 ∷ rootOf 0 4 1 ∷ Call.Do (Step.SetCores (dom 0) 2) ∷ rootOf 4 8 1 ∷ [])
+    (opened 1 ∷ rootOf 0 4 1 ∷ Call.Do (Step.SetCoreMap (dom 0) 2) ∷ rootOf 4 8 1 ∷ [])
     Call.Pop
-    (Answer.yes (Reply.popped (some (permission (dom 0) 1))))
+    (Answer.yes (Value.popped (some (permission (dom 0) 1))))
     -- "and CLEANUP queues start and end": after the tracker's changes
     ∷ gives
     (z 1 4 4 4 4)
     (root ++ (carve 4 8 35 ∷ Call.Pop ∷ revoke 1 ∷ []))
     Call.Pop
-    (Answer.yes (Reply.popped (some (permission (dom 0) 0))))
+    (Answer.yes (Value.popped (some (permission (dom 0) 0))))
     -- "a RegionRevoke of a dead region succeeds"
-    ∷ gives (z 1 4 4 4 4) (root ++ (carve 4 8 3 ∷ Call.Do (Step.MakeRevoke (dom 0) 1) ∷ revoke 1 ∷ [])) (revoke 2) (Answer.yes Reply.done)
+    ∷ gives (z 1 4 4 4 4) (root ++ (carve 4 8 3 ∷ Call.Do (Step.CreateRevokeCapa (dom 0) 1) ∷ revoke 1 ∷ [])) (revoke 2) (Answer.yes Value.done)
     ∷ []
 
 pub our-cases : map answered table ≡ map (λ x. x .answer) table

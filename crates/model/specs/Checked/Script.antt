@@ -4,23 +4,19 @@ use Prim.Native.Nat.{ℕ, suc}
 use mathlib.Core.Option.{Option, none, some}
 use mathlib.Core.List.{List, [], _∷_, _++_, map}
 use lib.ListN.{getD}
-use Rattle.model.specs.Outcome
-use Rattle.model.specs.State.{Sizes, Handle, Access, Domain, Update, permission, cleanup}
-use Rattle.model.specs.Making.{emptyTables}
+use Rattle.refusals.specs.Refusals
+use Rattle.model.specs.State.{Handle, Access, Domain, Update, permission, cleanup}
+use Rattle.model.specs.Making.{emptyTables, scriptSizes}
 use Rattle.model.specs.Readings.{rightsOf}
 use Rattle.model.specs.Perform.{Step, Call, Answer, values, run}
 use Rattle.model.specs.Checked.Compute.{computing}
 
 -- domain d's handle before any generation rose; a range with rights
 abbrev pub dom : ℕ → Handle
-dom d = record { slot = d; gen = 0 }
+dom d = record { slot = d; generation = 0 }
 
 abbrev pub access : ℕ → ℕ → ℕ → Access
 access s e r = record { start = s; end = e; rights = r }
-
--- "Tables: 8 domains, 16 slots, 128 regions, 128 records, 32 updates."
-abbrev pub scriptSizes : Sizes
-scriptSizes = record { domains = 8; slots = 16; regions = 128; records = 128; updates = 32 }
 
 -- ---- the lines
 
@@ -39,7 +35,7 @@ infix 20 _no_
 abbrev callLines : ℕ → List Answer → List Line
 callLines n [] = []
 callLines n (Answer.yes r ∷ l) = (n ok getD (values r) 0 0) ∷ callLines (suc n) l
-callLines n (Answer.no r ∷ l) = (n no Outcome.number r) ∷ callLines (suc n) l
+callLines n (Answer.no r ∷ l) = (n no Refusals.number r) ∷ callLines (suc n) l
 
 -- "one line for each permission record, domain slots rising"; i is the first domain's slot
 abbrev domainLines : ℕ → List (Option Domain) → List Line

@@ -1,22 +1,23 @@
 -- A sound pool in its words: allocating and freeing a slot, the test of a handle and the room left are what the model says.
 use mathlib.Core.Path.{_≡_, refl, sym, ap, subst, _∙_}
-use Prim.Native.Nat.{ℕ, zero, suc, _+_, _-_, _^_, _≤_, _<_}
+use Prim.Native.Nat.{ℕ, suc, _+_, _-_, _^_, _≤_, _<_}
 use mathlib.Core.Bool.{Bool, true, false, not}
 use mathlib.Core.Option.{Option}
 use mathlib.Core.List.{List, [], _∷_, map}
 use native.Mathlib.Omega.{arith}
-use lib.Dec.{eqb, ltb, lit<}
+use lib.Dec.{eqb, ltb}
 use lib.ListN.{length, getD, set}
-use Rattle.model.specs.Lists.{Each, oneIf, isSome, count, slotOf, countUp, firstOf}
-use Rattle.model.specs.Outcome.{Outcome, ok, refuse, _>>_, require, Refusal}
+use Rattle.model.specs.Lists.{Each, oneIf, isSome, countIf, atSlot, countUp, firstOf}
+use Rattle.model.specs.Outcome.{Outcome, ok, refuse, _>>_, require}
+use Rattle.refusals.specs.declared.Refusal.{Refusal}
+use borrow.Author.Tests.{lt-ltb, le-ltb, eq-eqb, ne-eqb}
+use Rattle.base.specs.Cases.{lt, ge, cmp, holds, fails, test, pick}
 use Rattle.model.specs.State as state
-use Rattle.model.specs.State.{Word}
 use Rattle.model.specs.Pool.{allocate, free, handleOf, isLive}
 use Rattle.model.specs.Layout.{slotOr0, freeLink}
-use Rattle.model.specs.Sound.{OnceEach, PoolSound, inUse}
-use Rattle.laws.specs.Cases.{lt, ge, cmp, ltb-t, ltb-f, eqb-t, eqb-f, holds, fails, test}
+use Rattle.model.specs.Sound.{OnceEach, PoolSound, slotUses}
 use Rattle.laws.specs.Stack.{one, once-at-most, none-beyond, link-in, link-out}
-use Rattle.words.specs.Cases.{pick}
+use Rattle.laws.specs.Lists.{word-at}
 use Rattle.tables.specs.declared.Handle.{Handle}
 use Rattle.arena.specs.declared.Given.{Given}
 use Rattle.arena.specs.declared.Given.the-variants.{At, Full}
@@ -34,10 +35,6 @@ use Rattle.decoded.specs.Tables.{handleFor, poolOf}
 abbrev pub givenBy : state.Pool → Outcome (ℕ × state.Pool) → Given
 givenBy p (ok x) = At (handleFor (handleOf p (x .0)))
 givenBy p (refuse r) = Full
-
-abbrev pub poolGiven : state.Pool → Outcome (ℕ × state.Pool) → state.Pool
-poolGiven p (ok x) = x .1
-poolGiven p (refuse r) = p
 
 abbrev pub answerBy : Outcome state.Pool → Freed
 answerBy (ok q) = Done
@@ -60,7 +57,7 @@ module _ (n : ℕ) (free : List ℕ) where
   links-pushed : (i : ℕ) → i < n → set (map (freeLink free) (countUp 0 n)) i (suc (slotOr0 (firstOf free))) ≡ map (freeLink (i ∷ free)) (countUp 0 n)
   links-pushed i h = set-up (freeLink free) (freeLink (i ∷ free)) n i _ h (link-top i free) (λ j ne k. link-under i j free ne)
 
-  links-taken : (i : ℕ) → i < n → count (eqb i) free ≡ 0 → set (map (freeLink (i ∷ free)) (countUp 0 n)) i 0 ≡ map (freeLink free) (countUp 0 n)
+  links-taken : (i : ℕ) → i < n → countIf (eqb i) free ≡ 0 → set (map (freeLink (i ∷ free)) (countUp 0 n)) i 0 ≡ map (freeLink free) (countUp 0 n)
   links-taken i h e = set-up (freeLink (i ∷ free)) (freeLink free) n i 0 h (link-out free i e) (λ j ne k. sym (link-under i j free ne))
 
 -- ---- allocating
@@ -71,15 +68,11 @@ pool gs l = record { gens = gs; free = l }
 module _ (n : ℕ) (gs : List ℕ) where
   no-link : headLink (poolOf n (pool gs [])) ≡ 0
   unfolding headLink poolOf
-  no-link = rw (links-many n [], ltb-f (n - 0) n (omega arith))
+  no-link = rw (links-many n [], le-ltb (n - 0) n (omega arith))
 
   pub given-none : given (poolOf n (pool gs [])) ≡ Full
   unfolding given
   given-none = rw no-link
-
-  pub allocated-none : allocated (poolOf n (pool gs [])) ≡ poolOf n (pool gs [])
-  unfolding allocated
-  allocated-none = rw no-link
 
   module _ (used : ℕ → ℕ) (i : ℕ) (is : List ℕ) (h : PoolSound n used (pool gs (i ∷ is))) where
     first-below : i < n
@@ -89,10 +82,10 @@ module _ (n : ℕ) (gs : List ℕ) where
     unfolding headLink poolOf
     first-link =
         let b = first-below in
-        rw (links-many n (i ∷ is), ltb-t (n - suc (length is)) n (omega arith)) (link-of n (i ∷ is) i b ∙ link-top i is)
+        rw (links-many n (i ∷ is), lt-ltb (n - suc (length is)) n (omega arith)) (link-of n (i ∷ is) i b ∙ link-top i is)
 
     linked : ltb 0 (headLink (poolOf n (pool gs (i ∷ is)))) ≡ true
-    linked = ap (ltb 0) first-link ∙ ltb-t 0 (suc (slotOr0 (firstOf is))) (omega arith)
+    linked = ap (ltb 0) first-link ∙ lt-ltb 0 (suc (slotOr0 (firstOf is))) (omega arith)
 
     pub given-some : given (poolOf n (pool gs (i ∷ is))) ≡ At (handleFor (handleOf (pool gs (i ∷ is)) i))
     unfolding given poolOf
@@ -114,23 +107,13 @@ module _ (n : ℕ) (used : ℕ → ℕ) (r : Refusal) (gs : List ℕ) where
   given-from [] h = given-none n gs
   given-from (i ∷ is) h = given-some n gs used i is h
 
-  allocated-from : (l : List ℕ) → PoolSound n used (pool gs l) → allocated (poolOf n (pool gs l)) ≡ poolOf n (poolGiven (pool gs l) (allocate r (pool gs l)))
-  unfolding allocate
-  allocated-from [] h = allocated-none n gs
-  allocated-from (i ∷ is) h = allocated-some n gs used i is h
-
 -- ---- freeing
 
 at-most : (g m : ℕ) → g ≤ m → ltb g m ≡ not (eqb g m)
 at-most g m h = elim (cmp g m) [
-  | lt l ↦ ltb-t g m l ∙ sym (ap not (eqb-f g m (λ e. omega arith)))
-  | ge l ↦ ltb-f g m l ∙ sym (ap not (eqb-t g m (omega arith)))
+  | lt l ↦ lt-ltb g m l ∙ sym (ap not (ne-eqb g m (λ e. omega arith)))
+  | ge l ↦ le-ltb g m l ∙ sym (ap not (eq-eqb g m (omega arith)))
 ]
-
-word-at : (l : List ℕ) (i : ℕ) → Each Word l → Word (getD l i 0)
-word-at [] i h = lit< tt
-word-at (x ∷ l) zero h = h .0
-word-at (x ∷ l) (suc i) h = word-at l i (h .1)
 
 head-below : (n : ℕ) (used : ℕ → ℕ) (l : List ℕ) → OnceEach n used l → 0 < n → slotOr0 (firstOf l) < n
 head-below n used [] h p = p
@@ -140,9 +123,6 @@ module _ (n : ℕ) (used : ℕ → ℕ) (p : state.Pool) (h : PoolSound n used p
   -- the model's answer, whatever the refusal
   pub given-is : (r : Refusal) → given (poolOf n p) ≡ givenBy p (allocate r p)
   given-is r = given-from n used r (p .gens) (p .free) h
-
-  pub allocated-is : (r : Refusal) → allocated (poolOf n p) ≡ poolOf n (poolGiven p (allocate r p))
-  allocated-is r = allocated-from n used r (p .gens) (p .free) h
 
   -- slot i is given next
   module _ (i : ℕ) (is : List ℕ) (e : p .free ≡ i ∷ is) where
@@ -155,8 +135,8 @@ module _ (n : ℕ) (used : ℕ → ℕ) (p : state.Pool) (h : PoolSound n used p
     pub allocated-first : allocated (poolOf n p) ≡ poolOf n (record { gens = p .gens; free = is })
     allocated-first = ap (λ q. allocated (poolOf n q)) as-stack ∙ allocated-some n (p .gens) used i is (subst (PoolSound n used) as-stack h)
 
-    on-stack : 0 < count (eqb i) (p .free)
-    on-stack = omega (arith, ap (count (eqb i)) e, one i i refl)
+    on-stack : 0 < countIf (eqb i) (p .free)
+    on-stack = omega (arith, ap (countIf (eqb i)) e, one i i refl)
 
     pub first-inside : i < n
     first-inside = free-below n used (p .free) (h .once) i on-stack
@@ -175,7 +155,7 @@ module _ (n : ℕ) (used : ℕ → ℕ) (p : state.Pool) (h : PoolSound n used p
     held =
         let c : 0 < n - length (p .free) = omega (arith, free-room n used (p .free) (h .once) i l u) in
         let z : freeLink (p .free) i ≡ 0 = link-out (p .free) i (used-not-free n used (p .free) (h .once) i u) in
-        rw (links-many n (p .free), ltb-t i n l, ltb-t _ n (head-below n used (p .free) (h .once) (omega arith)), ltb-t 0 _ c, link-of n (p .free) i l ∙ z)
+        rw (links-many n (p .free), lt-ltb i n l, lt-ltb _ n (head-below n used (p .free) (h .once) (omega arith)), lt-ltb 0 _ c, link-of n (p .free) i l ∙ z)
 
     raisable : raisableB (poolOf n p) i ≡ not (eqb (getD (p .gens) i 0) (2 ^ 64 - 1))
     unfolding raisableB poolOf
@@ -205,26 +185,26 @@ module _ (n : ℕ) (used : ℕ → ℕ) (p : state.Pool) (h : PoolSound n used p
 -- ---- handles
 
 abbrev pub handleIn : Handle → state.Handle
-handleIn k = record { slot = k .slot; gen = k .generation }
+handleIn k = record { slot = k .slot; generation = k .generation }
 
 none-used : (b : Bool) → oneIf b ≡ 0 → b ≡ false
 none-used true h = absurd (omega arith)
 none-used false h = refl
 
 -- a table with one slot for each of the pool's
-module _ {A : Type 0} (n : ℕ) (table : List (Option A)) (p : state.Pool) (h : PoolSound n (inUse table) p) where
+module _ {A : Type 0} (n : ℕ) (table : List (Option A)) (p : state.Pool) (h : PoolSound n (slotUses table) p) where
   -- a slot's link is 0 where it is in use
-  link-used : (i : ℕ) → i < n → eqb (freeLink (p .free) i) 0 ≡ isSome (slotOf table i)
-  link-used i l = elim (test (isSome (slotOf table i))) [
-    | holds t ↦ rw t (eqb-t _ 0 (link-out (p .free) i (used-not-free n (inUse table) (p .free) (h .once) i (ap oneIf t))))
+  link-used : (i : ℕ) → i < n → eqb (freeLink (p .free) i) 0 ≡ isSome (atSlot table i)
+  link-used i l = elim (test (isSome (atSlot table i))) [
+    | holds t ↦ rw t (eq-eqb _ 0 (link-out (p .free) i (used-not-free n (slotUses table) (p .free) (h .once) i (ap oneIf t))))
     | fails t ↦
-        let c : 0 < count (eqb i) (p .free) = omega (arith, h .once i, ap oneIf t, ap oneIf (ltb-t i n l)) in
-        rw t (eqb-f (freeLink (p .free) i) 0 (λ e. omega (arith, e, link-in (p .free) i c)))
+        let c : 0 < countIf (eqb i) (p .free) = omega (arith, h .once i, ap oneIf t, ap oneIf (lt-ltb i n l)) in
+        rw t (ne-eqb (freeLink (p .free) i) 0 (λ e. omega (arith, e, link-in (p .free) i c)))
   ]
 
   pub live-is : (k : Handle) → liveB (poolOf n p) k ≡ isLive p table (handleIn k)
   unfolding liveB poolOf
   live-is k = elim (cmp (k .slot) n) [
-    | lt l ↦ rw (links-many n (p .free), ltb-t (k .slot) n l, link-of n (p .free) (k .slot) l, link-used (k .slot) l) (sym (and-both (isSome (slotOf table (k .slot))) (eqb (getD (p .gens) (k .slot) 0) (k .generation))))
-    | ge l ↦ rw (links-many n (p .free), ltb-f (k .slot) n l, none-used (isSome (slotOf table (k .slot))) (omega (arith, none-beyond n (inUse table) (p .free) (h .once) (k .slot) l)))
+    | lt l ↦ rw (links-many n (p .free), lt-ltb (k .slot) n l, link-of n (p .free) (k .slot) l, link-used (k .slot) l) (sym (and-both (isSome (atSlot table (k .slot))) (eqb (getD (p .gens) (k .slot) 0) (k .generation))))
+    | ge l ↦ rw (links-many n (p .free), le-ltb (k .slot) n l, none-used (isSome (atSlot table (k .slot))) (omega (arith, none-beyond n (slotUses table) (p .free) (h .once) (k .slot) l)))
   ]

@@ -1,4 +1,4 @@
--- What a step on a tracker needs of a state (`Able`), and the invariant that gives it through the steps: the ring and the pools are sound, every tracker
+-- What a step on a tracker needs of a state (`TrackersRaisable`), and the invariant that gives it through the steps: the ring and the pools are sound, every tracker
 -- has its form, every record slot is in use or free once, and no stored count is above b. A gain raises b by one, a loss leaves it; where the trackers
 -- store what the regions count, b is the number of regions.
 use mathlib.Core.Path.{_≡_, refl, subst}
@@ -8,9 +8,11 @@ use mathlib.Core.Option.{Option, none, some}
 use mathlib.Core.List.{List}
 use native.Mathlib.Omega.{arith}
 use native.Mathlib.Decide.{ℕ-discrete}
-use lib.Dec.{eqb, lit<}
+use lib.Dec.{eqb}
 use lib.ListN.{length}
-use Rattle.model.specs.Lists.{if_then_else_, Each, slotOf}
+use borrow.Author.Tests.{eq-eqb, ne-eqb}
+use Rattle.base.specs.Cases.{below, inside, above, pos, holds, fails, test}
+use Rattle.model.specs.Lists.{Each, atSlot, if_then_else_}
 use Rattle.model.specs.State.{State, Counts, Record, Region, Access, domainAt}
 use Rattle.model.specs.Fields.{Field, get, passes, counter}
 use Rattle.model.specs.Tracker.{Walk}
@@ -18,7 +20,6 @@ use Rattle.model.specs.Counts.{regionCount}
 use Rattle.model.specs.Regions.{activate, deactivate}
 use Rattle.model.specs.Sound.{PoolSound, recordUses}
 use Rattle.laws.specs.Accepted.{All, bind, weaken, both}
-use Rattle.laws.specs.Cases.{within, W, within-lo, within-in, within-hi, below, inside, above, pos, eqb-t, eqb-f, holds, fails, test}
 use Rattle.laws.specs.Stack.{one-at-most}
 use Rattle.laws.specs.Fields.{get-none, get-lower}
 use Rattle.laws.specs.Tracker.Look.{look, countsOf, counts-look, Has, each-of-look}
@@ -27,22 +28,22 @@ use Rattle.laws.specs.Tracker.Form.{Form, lose-form}
 use Rattle.laws.specs.Tracker.One.{lost}
 use Rattle.laws.specs.Tracker.Laws.{lose-law}
 use Rattle.laws.specs.Tracker.Slots.{lose-slots}
-use Rattle.laws.specs.Tree.Sum.{sum-le}
+use Rattle.laws.specs.Tree.Sum.{sum-le, sum-each}
 use Rattle.laws.specs.Tree.Slots.{live-is}
 use Rattle.laws.specs.Tree.Shares.{grant, share, carved, clear, tally-is, weight}
 use Rattle.laws.specs.Tree.Send.{held}
 use Rattle.laws.specs.Keep.SameDomains.{SameOutside}
 use Rattle.laws.specs.Keep.Tracked.{Tracked, put-queue, put-tracked, activate-tracked}
-use Rattle.laws.specs.Keep.Coupled.{told, Behind}
+use Rattle.laws.specs.Keep.Agreement.{countsOver}
 use Rattle.laws.specs.Keep.Base.{Base}
 use Rattle.laws.specs.Keep.BaseSteps.{Live, gained-base, lost-base}
 use Rattle.laws.specs.Keep.Whole.{Whole}
+use Rattle.laws.specs.Within.{within, W, within-lo, within-in, within-hi}
 use Rattle.decoded.specs.Sizes.{good-limits}
-use Rattle.decoded.specs.Free.{sum-slots}
 
 -- ---- what is needed, and what is kept
 
-pub record Able (s : State) : Type 0 where
+pub record TrackersRaisable (s : State) : Type 0 where
   pub base : Base s
   pub form : (d : ℕ) → Form (domainAt s d .tracker)
   pub pool : PoolSound (s .sizes .records) (recordUses (s .domains)) (s .recordPool)
@@ -71,8 +72,8 @@ has-at : (P : Counts → Type 0) (x : Option Counts) → P (countsOf x) → Has 
 has-at P none h = tt
 has-at P (some k) h = h
 
-pub bounded-able : (b : ℕ) (s : State) → b < 2 ^ 64 - 1 → Bounded b s → Able s
-bounded-able b s l (k, h) = record {
+pub bounded-raisable : (b : ℕ) (s : State) → b < 2 ^ 64 - 1 → Bounded b s → TrackersRaisable s
+bounded-raisable b s l (k, h) = record {
   base = k;
   form = h .form;
   pool = h .pool;
@@ -116,7 +117,7 @@ module _ (b : ℕ) (s : State) (h : Bounded b s) (d : ℕ) (live : Live s d) (a 
 
   pub gain-bounded : All (λ t. Bounded (suc b) t × SameOutside s t) (activate d a s)
   gain-bounded =
-      let (x, e) = live-is (slotOf (s .domains) d) live in
+      let (x, e) = live-is (atSlot (s .domains) d) live in
       weaken (both (gained-base s d (h .0, live) a) (activate-tracked s (held s) raised (formed-tracked b s (h .1)) d x e a z (λ f k c. refl)))
       (λ t ((k, n), (m, o)). ((k, tracked-formed (suc b) t raised m (λ f j c. omega (arith, h .1 .low f j c, grant-low f d (a .start) (a .end) (a .rights) j c))), n))
 
@@ -126,18 +127,18 @@ module _ (b : ℕ) (s : State) (h : Bounded b s) (d : ℕ) (live : Live s d) (a 
 
   left-low : (w : Walk) → ((c : ℕ) → look (w .records) c ≡ within (a .start) (a .end) c (lost (a .rights) (look (domainAt s d .tracker) c)) (look (domainAt s d .tracker) c)) → (f : Field) (k c : ℕ) → left w f k c ≤ b
   left-low w m f k c = elim (ℕ-discrete k d) [
-    | yes e ↦ rw (eqb-t k d e) (omega (arith, lost-at f (a .rights) (a .start) (a .end) (domainAt s d .tracker) (w .records) c (m c), h .1 .low f d c))
-    | no n ↦ rw (eqb-f k d n) (h .1 .low f k c)
+    | yes e ↦ rw (eq-eqb k d e) (omega (arith, lost-at f (a .rights) (a .start) (a .end) (domainAt s d .tracker) (w .records) c (m c), h .1 .low f d c))
+    | no n ↦ rw (ne-eqb k d n) (h .1 .low f k c)
   ]
 
   lost-formed : All (Formed b) (deactivate d a s)
   unfolding deactivate
   lost-formed =
-      let (x, e) = live-is (slotOf (s .domains) d) live in
+      let (x, e) = live-is (atSlot (s .domains) d) live in
       let l = domainAt s d .tracker in
       bind (both (lose-form (a .rights) (a .start) (a .end) l (s .recordPool) (h .1 .form d) z) (both (lose-law (a .rights) (a .start) (a .end) l (s .recordPool) (h .1 .form d .rising) z) (lose-slots (a .rights) (a .start) (a .end) l (s .recordPool)))) (λ w k.
       put-queue s d w (Formed b) (λ q.
-      tracked-formed b _ (left w) (put-tracked s d x e w (held s) (left w) (formed-tracked b s (h .1)) (λ f j c n. rw (eqb-f j d n)) (k .0) (λ f c. rw (eqb-t d d refl)) (k .1 .1) q) (left-low w (k .1 .0))))
+      tracked-formed b _ (left w) (put-tracked s d x e w (held s) (left w) (formed-tracked b s (h .1)) (λ f j c n. rw (ne-eqb j d n)) (k .0) (λ f c. rw (eq-eqb d d refl)) (k .1 .1) q) (left-low w (k .1 .0))))
 
   pub loss-bounded : All (λ t. Bounded b t × SameOutside s t) (deactivate d a s)
   loss-bounded = weaken (both (lost-base s d (h .0, live) a) lost-formed) (λ t ((k, n), m). ((k, m), n))
@@ -157,22 +158,15 @@ tally-low f rs d a =
     omega (
       arith,
       tally-is f rs d a,
-      sum-le (weight f rs d a) (λ k. 1) (length rs) (λ k. omega (arith, clear-low (carved rs k a) (share f (slotOf rs k) d a), share-low f (slotOf rs k) d a)),
-      sum-slots (length rs),
+      sum-le (weight f rs d a) (λ k. 1) (length rs) (λ k. omega (arith, clear-low (carved rs k a) (share f (atSlot rs k) d a), share-low f (atSlot rs k) d a)),
+      sum-each (length rs),
     )
 
 pub regions-few : (s : State) → Base s → length (s .regions) ≤ 1024
 regions-few s k = omega (arith, k .regions .size, good-limits (s .sizes) (k .ring .sizesGood) .regions-high)
 
-pub told-formed : (s t : State) → Base s → Tracked t (told (s .regions)) → Formed 1024 t
-told-formed s t k h = tracked-formed 1024 t (told (s .regions)) h (λ f d a. omega (arith, tally-low f (s .regions) d a, regions-few s k))
+pub counts-formed : (s t : State) → Base s → Tracked t (countsOver (s .regions)) → Formed 1024 t
+counts-formed s t k h = tracked-formed 1024 t (countsOver (s .regions)) h (λ f d a. omega (arith, tally-low f (s .regions) d a, regions-few s k))
 
 pub whole-bounded : (s : State) → Whole s → Bounded 1024 s
-whole-bounded s (g, k) = (k, told-formed s s k (g .tracked))
-
--- and so in a state where they are still behind, as after a new region
-pub behind-able : (s t : State) → Base s → Base t → Behind (s .regions) t → Able t
-behind-able s t k j h = bounded-able 1024 t (lit< tt) (j, told-formed s t k (h .tracked))
-
-pub whole-able : (s : State) → Whole s → Able s
-whole-able s h = bounded-able 1024 s (lit< tt) (whole-bounded s h)
+whole-bounded s (g, k) = (k, counts-formed s s k (g .tracked))

@@ -6,31 +6,31 @@ use mathlib.Core.List.{List, [], _∷_}
 use native.Mathlib.Omega.{arith}
 use lib.Dec.{eqb, ltb}
 use lib.ListN.{length}
-use Rattle.model.specs.Lists.{slotOf, isEmpty, In}
-use Rattle.model.specs.Outcome.{Outcome, ok, _>>=_, okOr, noDomain, noSlot, stale, badRange, noRegion}
+use borrow.Author.Tests.{ne-eqb}
+use Rattle.base.specs.Cases.{pick}
+use Rattle.model.specs.Lists.{atSlot, isEmpty, In}
+use Rattle.model.specs.Outcome.{Outcome, ok, _>>=_, okOr}
+use Rattle.refusals.specs.Refusals.{noDomain, noSlot, stale, badRange, noRegion}
 use Rattle.model.specs.State as state
 use Rattle.model.specs.State.{State, Capa, noCapa, region, regionRevoke, management, channel}
 use Rattle.model.specs.Pool.{isLive}
 use Rattle.model.specs.Locals as locals
 use Rattle.model.specs.Locals.{hasCapacity}
 use Rattle.model.specs.Calls as model
-use Rattle.laws.specs.Cases.{eqb-f}
-use Rattle.laws.specs.Capas.Held.{domain-at}
 use Rattle.laws.specs.Words.SameDomains.{Listed}
 use Rattle.laws.specs.Keep.Base.{Base}
-use Rattle.words.specs.Cases.{pick}
+use Rattle.laws.specs.Tree.Steps.{domain-at}
 use Rattle.tables.specs.declared.Handle.{Handle}
 use Rattle.tables.specs.declared.Slot.{Slot}
 use Rattle.arena.specs.Arena.{liveB, capacityOf}
-use Rattle.answers.specs.declared.Refusal.the-variants.{NoSlot}
-use Rattle.answers.specs.Answers.{Step, done, refused}
+use Rattle.answers.specs.Answers.{Effect, done, refused}
 use Rattle.region.specs.declared.AccessRights.{AccessRights}
 use Rattle.slots.specs.Capas.{capaAt}
 use Rattle.domain.specs.Activate.{reserve}
 use Rattle.checks.specs.Checks.{liveDomain, liveRegion, asRegion, asTarget, regionHeld, targetHeld, roomForRegion}
 use Rattle.decoded.specs.Tables.{handleFor, capaSlot, tablesOf}
 use Rattle.refine.specs.Agrees.{Agrees, agrees-call, agrees-state, ok-then, bind-assoc}
-use Rattle.refine.specs.Calls.Chains.{agrees-check, agrees-unless, require-then}
+use Rattle.refine.specs.Calls.Sequence.{agrees-check, agrees-unless, require-then}
 use Rattle.refine.specs.Arenas.Pools.{handleIn, live-is, capacity-is}
 use Rattle.refine.specs.Tree.ChildChecks.{accessFor}
 use Rattle.refine.specs.Slots.ListSteps.{capa-read, capa-none}
@@ -67,19 +67,19 @@ module _ (s : State) (base : Base s) where
 
   module _ (d : ℕ) (x : state.Domain) (at : In (s .domains) d x) (lists : Lists s) where
     abbrev held : ℕ → Option Capa
-    held l = slotOf (x .locals .held) l
+    held l = atSlot (x .locals .held) l
 
     capa-is : (l : ℕ) → locals.capaAt s d l ≡ okOr (held l) noSlot
     unfolding locals.capaAt
-    capa-is l = ap (λ (y : state.Domain). okOr (slotOf (y .locals .held) l) noSlot) (domain-at s d x at)
+    capa-is l = ap (λ (y : state.Domain). okOr (atSlot (y .locals .held) l) noSlot) (domain-at s d x at)
 
-    module _ (l : ℕ) (f : Slot → Step) (k : Capa → Outcome (ℕ × State)) (h : (c : Capa) → held l ≡ some c → Agrees (f (capaSlot c)) (k c)) where
-      looked : (o : Option Capa) → held l ≡ o → Agrees (pick (eqb (capaAt (tablesOf s) d l .kind) 1) (refused NoSlot (tablesOf s)) (f (capaAt (tablesOf s) d l))) (okOr o noSlot >>= k)
+    module _ (l : ℕ) (f : Slot → Effect) (k : Capa → Outcome (ℕ × State)) (h : (c : Capa) → held l ≡ some c → Agrees (f (capaSlot c)) (k c)) where
+      looked : (o : Option Capa) → held l ≡ o → Agrees (pick (eqb (capaAt (tablesOf s) d l .kind) 1) (refused noSlot (tablesOf s)) (f (capaAt (tablesOf s) d l))) (okOr o noSlot >>= k)
       unfolding okOr _>>=_
       looked none e = rw (capa-none s (base .domains .size) d x at l e)
       looked (some c) e = rw (capa-read s (base .domains .size) d x at l c (lists d x at .heldLength) e) (used c (h c e))
         where
-          used : (c : Capa) → Agrees (f (capaSlot c)) (k c) → Agrees (pick (eqb (capaSlot c .kind) 1) (refused NoSlot (tablesOf s)) (f (capaSlot c))) (k c)
+          used : (c : Capa) → Agrees (f (capaSlot c)) (k c) → Agrees (pick (eqb (capaSlot c .kind) 1) (refused noSlot (tablesOf s)) (f (capaSlot c))) (k c)
           used noCapa j = j
           used (region n) j = j
           used (regionRevoke n) j = j
@@ -87,7 +87,7 @@ module _ (s : State) (base : Base s) where
           used (channel n) j = j
 
       -- 4, and what follows for the capability in slot l
-      pub capa-refines : Agrees (pick (eqb (capaAt (tablesOf s) d l .kind) 1) (refused NoSlot (tablesOf s)) (f (capaAt (tablesOf s) d l))) (locals.capaAt s d l >>= k)
+      pub capa-refines : Agrees (pick (eqb (capaAt (tablesOf s) d l .kind) 1) (refused noSlot (tablesOf s)) (f (capaAt (tablesOf s) d l))) (locals.capaAt s d l >>= k)
       capa-refines = agrees-call _ _ (okOr (held l) noSlot >>= k) (ap (λ m. m >>= k) (capa-is l)) (looked (held l) refl)
 
     as-region : (c : Capa) → Agrees (asRegion (capaSlot c) (tablesOf s)) ((model.asRegion c >>= λ h. model.liveRegion s h) >>= λ i. ok (i, s))
@@ -127,7 +127,7 @@ module _ (s : State) (base : Base s) where
       where
         go : (f : List ℕ) → eqb (length f) 0 ≡ isEmpty f
         go [] = refl
-        go (i ∷ f) = eqb-f (suc (length f)) 0 (λ e. omega arith)
+        go (i ∷ f) = ne-eqb (suc (length f)) 0 (λ e. omega arith)
 
     pub room-here : Agrees (reserve d (tablesOf s)) (hasCapacity d s >>= λ t. ok (0, t))
     room-here = reserve-refines s (base .domains .size) d x at (lists d x at) (base .domains .pool) (base .regions .pool)

@@ -6,8 +6,8 @@ use mathlib.Core.Bool.{Bool, true, false}
 use mathlib.Core.Option.{Option, none, some}
 use native.Mathlib.Omega.{arith}
 use lib.ListN.{length-replicate}
-use Rattle.model.specs.Lists.{if_then_else_, isEmpty, slotOf, In}
-use Rattle.model.specs.Outcome.{noDomainRoom}
+use Rattle.model.specs.Lists.{isEmpty, atSlot, In, if_then_else_}
+use Rattle.refusals.specs.Refusals.{noDomainRoom}
 use Rattle.model.specs.State.{State, Sizes, Domain, Capa, LocalList, Access, domainAt, putDomain, withLocals}
 use Rattle.model.specs.Locals.{freshLocals, freeLocal, freeInvalidCapas, hasCapacity, removeCapa}
 use Rattle.model.specs.Calls.{newDomain, roomForRegion}
@@ -16,11 +16,11 @@ use Rattle.laws.specs.Accepted.{All, accepted, bind, and-then}
 use Rattle.laws.specs.Empty.{all-free, unused}
 use Rattle.laws.specs.Tree.Slots.{in-length}
 use Rattle.laws.specs.Words.SameDomains.{Listed}
-use Rattle.laws.specs.Capas.Held.{domain-at}
 use Rattle.laws.specs.Keep.Slots.{every-put}
 use Rattle.laws.specs.Keep.SameDomains.{SameDomains, same-domains-turned, same-domains-in}
 use Rattle.laws.specs.Keep.Base.{Base}
 use Rattle.laws.specs.Keep.Locals.{allocate-free}
+use Rattle.laws.specs.Tree.Steps.{domain-at}
 use Rattle.refine.specs.Slots.Sweep.{freed-listed, swept-for}
 use Rattle.refine.specs.Calls.Checks.{Lists}
 
@@ -48,9 +48,9 @@ module _ (s : State) (lists : Lists s) (d : ℕ) (x : Domain) (at : In (s .domai
   own-list : Listed (s .sizes .slots) (domainAt s d .locals)
   own-list = subst (λ (y : Domain). Listed (s .sizes .slots) (y .locals)) (sym (domain-at s d x at)) (lists d x at)
 
-  pub remove-lists : (i : ℕ) (c : Capa) → slotOf (x .locals .held) i ≡ some c → Lists (removeCapa d i s)
+  pub remove-lists : (i : ℕ) (c : Capa) → atSlot (x .locals .held) i ≡ some c → Lists (removeCapa d i s)
   unfolding removeCapa
-  remove-lists i c e = put-lists (freeLocal i (domainAt s d .locals)) (freed-listed (s .sizes .slots) (domainAt s d .locals) i c (ap (λ (y : Domain). slotOf (y .locals .held) i) (domain-at s d x at) ∙ e) own-list)
+  remove-lists i c e = put-lists (freeLocal i (domainAt s d .locals)) (freed-listed (s .sizes .slots) (domainAt s d .locals) i c (ap (λ (y : Domain). atSlot (y .locals .held) i) (domain-at s d x at) ∙ e) own-list)
 
   module _ (base : Base s) where
     pub capacity-lists : All Lists (hasCapacity d s)

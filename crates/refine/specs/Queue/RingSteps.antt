@@ -7,28 +7,27 @@ use mathlib.Core.Option.{Option, none, some}
 use mathlib.Core.List.{List, [], _∷_, _++_, map}
 use native.Mathlib.Omega.{arith}
 use native.Mathlib.Nat.{mod-lt}
-use native.Mathlib.Decide.{ℕ-discrete}
 use lib.Dec.{eqb, ltb}
-use lib.ListN.{length, getD, set, getElem?, length-set, length-map}
-use lib.Seq.{ext-getD, getD-set-same, getD-set-other}
-use Rattle.model.specs.Lists.{if_then_else_, isSome, any, isEmpty, In}
+use lib.ListN.{length, getD, getElem?, length-map}
+use borrow.Author.Tests.{lt-ltb, le-ltb}
+use Rattle.base.specs.Cases.{lt, ge, cmp, holds, fails, test, pick}
+use Rattle.base.specs.Tests.{both}
+use Rattle.model.specs.Lists.{if_then_else_, isSome, exists, isEmpty, In}
 use Rattle.model.specs.State as state
 use Rattle.model.specs.State.{State, permission, withQueue}
 use Rattle.model.specs.Outcome.{ok, _>>=_}
 use Rattle.model.specs.Pool.{handleOf}
 use Rattle.model.specs.Updates.{push, isPermissionOf, pushPermission, pop}
-use Rattle.laws.specs.Cases.{lt, ge, cmp, ltb-t, ltb-f, holds, fails, test}
 use Rattle.laws.specs.Keep.Ring.{eqb-turned}
-use Rattle.laws.specs.Capas.Held.{domain-at}
-use Rattle.words.specs.Cases.{pick, both}
+use Rattle.laws.specs.Tree.Steps.{domain-at}
 use Rattle.tables.specs.declared.Update.{Update}
 use Rattle.tables.specs.Tables.{Tables, noUpdate, updateAt, withPlaces, withRing, withUpdate}
-use Rattle.answers.specs.declared.Refusal.the-variants.{RingFull}
-use Rattle.answers.specs.Answers.{Step}
+use Rattle.refusals.specs.Refusals.{ringFull}
+use Rattle.answers.specs.Answers.{Effect}
 use Rattle.ring.specs.declared.PushOut.{PushOut}
 use Rattle.ring.specs.declared.Item.{Item}
 use Rattle.ring.specs.Ring.{cap, afterOf, putIn, roomB, pushOf, takeOut, someB, popOf, namesOf, queuedOf, markOf}
-use Rattle.update.specs.Fitted.{fitted, length-fitted, getD-fitted}
+use Rattle.update.specs.Fitted.{getD-fitted, fitted-set}
 use Rattle.update.specs.Stored.{ringOf, withRingOf}
 use Rattle.ring.specs.Turns.{after-is}
 use Rattle.ring.specs.Queue.{Queues}
@@ -51,23 +50,8 @@ abbrev pub itemFor : Option state.Update → Item
 itemFor o = record { got = isSome o; update = updateFor o }
 
 -- what a push on the ring of t answers and leaves
-abbrev pub pushed : Tables → PushOut → Step
-pushed t p = record { answer = orRefused RingFull (p .ok); tables = withRingOf t (p .ring) }
-
--- ---- places fitted to the largest ring, changed, and fitted back
-
-fitted-set : (ps : List Update) (w : ℕ) (u : Update) → length ps ≤ cap → w < length ps → fitted (length ps) (set (fitted cap ps) w u) ≡ set ps w u
-fitted-set ps w u h b =
-    ext-getD noUpdate (fitted (length ps) (set (fitted cap ps) w u)) (set ps w u) (length-fitted (length ps) _ ∙ sym (length-set ps w u)) at
-  where
-    at : (k : ℕ) → k < length (fitted (length ps) (set (fitted cap ps) w u)) → getD (fitted (length ps) (set (fitted cap ps) w u)) k noUpdate ≡ getD (set ps w u) k noUpdate
-    at k i =
-        let j : k < length ps = omega (arith, length-fitted (length ps) (set (fitted cap ps) w u)) in
-        getD-fitted (length ps) (set (fitted cap ps) w u) k j
-        ∙ elim (ℕ-discrete k w) [
-          | yes e ↦ rw e (getD-set-same (fitted cap ps) w u noUpdate (omega (arith, length-fitted cap ps)) ∙ sym (getD-set-same ps w u noUpdate b))
-          | no ne ↦ getD-set-other (fitted cap ps) w k u noUpdate ne ∙ getD-fitted cap ps k (omega arith) ∙ sym (getD-set-other ps w k u noUpdate ne)
-        ]
+abbrev pub pushed : Tables → PushOut → Effect
+pushed t p = record { answer = orRefused ringFull (p .ok); tables = withRingOf t (p .ring) }
 
 -- ---- the search
 
@@ -76,31 +60,31 @@ getD-items [] i = refl
 getD-items (u ∷ l) zero = refl
 getD-items (u ∷ l) (suc i) = getD-items l i
 
-names-is : (h : state.Handle) (u : state.Update) → namesOf (queuedFor u) (h .slot) (h .gen) ≡ isPermissionOf h u
+names-is : (h : state.Handle) (u : state.Update) → namesOf (queuedFor u) (h .slot) (h .generation) ≡ isPermissionOf h u
 unfolding namesOf
-names-is h (permission k c) = rw (eqb-turned (k .slot) (h .slot), eqb-turned (k .gen) (h .gen)) (sym (and-both (eqb (h .slot) (k .slot)) (eqb (h .gen) (k .gen))))
+names-is h (permission k c) = rw (eqb-turned (k .slot) (h .slot), eqb-turned (k .generation) (h .generation)) (sym (and-both (eqb (h .slot) (k .slot)) (eqb (h .generation) (k .generation))))
 names-is h (state.cleanup a b) = refl
 
 or-pick : (a b : Bool) → pick a true b ≡ a || b
 or-pick true b = refl
 or-pick false b = refl
 
-any-is : (h : state.Handle) (l : List state.Update) → anyNames (h .slot) (h .gen) (map queuedFor l) ≡ any (isPermissionOf h) l
+any-is : (h : state.Handle) (l : List state.Update) → anyNames (h .slot) (h .generation) (map queuedFor l) ≡ exists (isPermissionOf h) l
 any-is h [] = refl
-any-is h (u ∷ l) = rw (names-is h u, any-is h l) (or-pick (isPermissionOf h u) (any (isPermissionOf h) l))
+any-is h (u ∷ l) = rw (names-is h u, any-is h l) (or-pick (isPermissionOf h u) (exists (isPermissionOf h) l))
 
 -- ---- the ring of a state's tables
 
-module _ (s : State) (high : s .sizes .updates ≤ 128) (hf : s .queue .first < s .sizes .updates + 1) (fits : length (s .queue .items) < s .sizes .updates + 1) where
+module _ (s : State) (high : s .sizes .updates ≤ 128) (hf : s .queue .readPlace < s .sizes .updates + 1) (fits : length (s .queue .items) < s .sizes .updates + 1) where
   places-many : length (tablesOf s .ring) ≡ s .sizes .updates + 1
   unfolding tablesOf ringFor
   places-many = map-up-length (placeFor (s .sizes .updates) (s .queue)) (s .sizes .updates + 1)
 
   write-inside : tablesOf s .write < s .sizes .updates + 1
   unfolding tablesOf
-  write-inside = mod-lt (s .queue .first + length (s .queue .items)) {m = s .sizes .updates + 1} (omega arith)
+  write-inside = mod-lt (s .queue .readPlace + length (s .queue .items)) {m = s .sizes .updates + 1} (omega arith)
 
-  pub ring-laid : Laid (tablesOf s) (s .queue .first) (map queuedFor (s .queue .items))
+  pub ring-laid : Laid (tablesOf s) (s .queue .readPlace) (map queuedFor (s .queue .items))
   unfolding tablesOf updateAt
   ring-laid =
       let n = s .sizes .updates in
@@ -112,12 +96,12 @@ module _ (s : State) (high : s .sizes .updates ≤ 128) (hf : s .queue .first < 
         inside = hf;
         few = omega arith;
         read = refl;
-        write = ap (λ (k : ℕ). (s .queue .first + k) % (n + 1)) (sym m);
-        place = λ k h. update-read s hf fits k h ∙ getD-items l ((k + (n + 1) - s .queue .first) % (n + 1));
+        write = ap (λ (k : ℕ). (s .queue .readPlace + k) % (n + 1)) (sym m);
+        place = λ k h. update-read s hf fits k h ∙ getD-items l ((k + (n + 1) - s .queue .readPlace) % (n + 1));
       }
 
-  pub ring-queues : Queues (ringOf (tablesOf s)) (s .queue .first) (map queuedFor (s .queue .items))
-  ring-queues = laid-queues (tablesOf s) (s .queue .first) (map queuedFor (s .queue .items)) ring-laid
+  pub ring-queues : Queues (ringOf (tablesOf s)) (s .queue .readPlace) (map queuedFor (s .queue .items))
+  ring-queues = laid-queues (tablesOf s) (s .queue .readPlace) (map queuedFor (s .queue .items)) ring-laid
 
   ring-kept : withRingOf (tablesOf s) (ringOf (tablesOf s)) ≡ tablesOf s
   ring-kept = ring-same (tablesOf s) (omega (arith, places-many))
@@ -134,17 +118,17 @@ module _ (s : State) (high : s .sizes .updates ≤ 128) (hf : s .queue .first < 
   room =
       let w = write-inside in
       let b = ltb (length (s .queue .items)) (s .sizes .updates) in
-      rw (ltb-t (tablesOf s .write) cap (omega arith), ap (λ (k : ℕ). eqb k (tablesOf s .read)) (after-place (tablesOf s .write) w) ∙ full-is s hf fits) (twice b)
+      rw (lt-ltb (tablesOf s .write) cap (omega arith), ap (λ (k : ℕ). eqb k (tablesOf s .read)) (after-place (tablesOf s .write) w) ∙ full-is s hf fits) (twice b)
     where
       twice : (b : Bool) → both (not (not b)) true ≡ b
       twice true = refl
       twice false = refl
 
-  put-back : (u : state.Update) → withRingOf (tablesOf s) (putIn (ringOf (tablesOf s)) (queuedFor u)) ≡ tablesOf (withQueue (record { first = s .queue .first; items = s .queue .items ++ (u ∷ []) }) s)
+  put-back : (u : state.Update) → withRingOf (tablesOf s) (putIn (ringOf (tablesOf s)) (queuedFor u)) ≡ tablesOf (withQueue (record { readPlace = s .queue .readPlace; items = s .queue .items ++ (u ∷ []) }) s)
   unfolding ringOf withRingOf withUpdate
   put-back u =
       let t = tablesOf s in
-      let f = fitted-set (t .ring) (t .write) (queuedFor u) (omega (arith, places-many)) (omega (arith, places-many, write-inside)) in
+      let f = fitted-set (length (t .ring)) cap (t .ring) (t .write) (queuedFor u) refl (omega (arith, places-many)) in
       let a = after-place (t .write) write-inside in
       (λ i. withPlaces (withRing t (f i)) (t .read) (a i)) ∙ sym (push-tables s hf fits u)
 
@@ -154,8 +138,8 @@ module _ (s : State) (high : s .sizes .updates ≤ 128) (hf : s .queue .first < 
       let n = s .sizes .updates in
       let l = s .queue .items in
       elim (cmp (length l) n) [
-        | lt h ↦ rw (room ∙ ltb-t (length l) n h, push-is s hf fits u h) (refl, put-back u)
-        | ge h ↦ rw (room ∙ ltb-f (length l) n h, push-refused s hf fits u h) refl
+        | lt h ↦ rw (room ∙ lt-ltb (length l) n h, push-is s hf fits u h) (refl, put-back u)
+        | ge h ↦ rw (room ∙ le-ltb (length l) n h, push-refused s hf fits u h) refl
       ]
 
   pub cleanup-refines : (a b : ℕ) → Agrees (cleanup a b (tablesOf s)) (push (state.cleanup a b) s >>= λ t. ok (0, t))
@@ -164,14 +148,14 @@ module _ (s : State) (high : s .sizes .updates ≤ 128) (hf : s .queue .first < 
 
   -- ---- "A change queues the domain with its core map unless it is queued already."
 
-  pub queued-is : (h : state.Handle) → queuedOf (ringOf (tablesOf s)) (h .slot) (h .gen) ≡ any (isPermissionOf h) (s .queue .items)
-  queued-is h = queued-any (ringOf (tablesOf s)) (s .queue .first) (map queuedFor (s .queue .items)) ring-queues (h .slot) (h .gen) ∙ any-is h (s .queue .items)
+  pub queued-is : (h : state.Handle) → queuedOf (ringOf (tablesOf s)) (h .slot) (h .generation) ≡ exists (isPermissionOf h) (s .queue .items)
+  queued-is h = queued-any (ringOf (tablesOf s)) (s .queue .readPlace) (map queuedFor (s .queue .items)) ring-queues (h .slot) (h .generation) ∙ any-is h (s .queue .items)
 
   mark-refines : (h : state.Handle) (c : ℕ)
-      → Agrees (pushed (tablesOf s) (markOf (ringOf (tablesOf s)) (h .slot) (h .gen) c)) ((if any (isPermissionOf h) (s .queue .items) then ok s else push (permission h c) s) >>= λ t. ok (0, t))
+      → Agrees (pushed (tablesOf s) (markOf (ringOf (tablesOf s)) (h .slot) (h .generation) c)) ((if exists (isPermissionOf h) (s .queue .items) then ok s else push (permission h c) s) >>= λ t. ok (0, t))
   unfolding markOf _>>=_
   mark-refines h c =
-      elim (test (any (isPermissionOf h) (s .queue .items))) [
+      elim (test (exists (isPermissionOf h) (s .queue .items))) [
         | holds t ↦ rw (queued-is h ∙ t, t) (refl, ring-kept)
         | fails t ↦ rw (queued-is h ∙ t, t) (push-refines (permission h c))
       ]
@@ -185,7 +169,7 @@ module _ (s : State) (high : s .sizes .updates ≤ 128) (hf : s .queue .first < 
 
   some-queued : someB (ringOf (tablesOf s)) ≡ not (isEmpty (s .queue .items))
   unfolding ringOf tablesOf
-  some-queued = rw (ltb-t (s .queue .first) cap (omega arith), empty-is s hf fits) (alone (isEmpty (s .queue .items)))
+  some-queued = rw (lt-ltb (s .queue .readPlace) cap (omega arith), empty-is s hf fits) (alone (isEmpty (s .queue .items)))
     where
       alone : (b : Bool) → both (not b) true ≡ not b
       alone true = refl
@@ -207,20 +191,20 @@ module _ (s : State) (high : s .sizes .updates ≤ 128) (hf : s .queue .first < 
     unfolding ringOf updateAt
     oldest = getD-fitted cap (tablesOf s .ring) (tablesOf s .read) (omega (arith, read-inside)) ∙ pop-read s hf fits u us e
 
-    take-back : withRingOf (tablesOf s) (takeOut (ringOf (tablesOf s))) ≡ tablesOf (withQueue (record { first = (s .queue .first + 1) % (s .sizes .updates + 1); items = us }) s)
+    take-back : withRingOf (tablesOf s) (takeOut (ringOf (tablesOf s))) ≡ tablesOf (withQueue (record { readPlace = (s .queue .readPlace + 1) % (s .sizes .updates + 1); items = us }) s)
     unfolding ringOf withRingOf withUpdate
     take-back =
         let t = tablesOf s in
-        let f = fitted-set (t .ring) (t .read) noUpdate (omega (arith, places-many)) (omega (arith, places-many, read-inside)) in
+        let f = fitted-set (length (t .ring)) cap (t .ring) (t .read) noUpdate refl (omega (arith, places-many)) in
         let a = after-place (t .read) read-inside in
         (λ i. withPlaces (withRing t (f i)) (a i) (t .write)) ∙ sym (pop-tables s hf fits u us e)
 
-    pop-oldest : Pops (some u, withQueue (record { first = (s .queue .first + 1) % (s .sizes .updates + 1); items = us }) s)
+    pop-oldest : Pops (some u, withQueue (record { readPlace = (s .queue .readPlace + 1) % (s .sizes .updates + 1); items = us }) s)
     unfolding popOf
     pop-oldest = rw (some-queued ∙ ap (λ (l : List state.Update). not (isEmpty l)) e) (ap (λ (x : Update). record { got = true; update = x }) oldest, take-back)
 
-  pub pop-refines : (popOf (ringOf (tablesOf s)) .item ≡ itemFor (pop s .0)) × (withRingOf (tablesOf s) (popOf (ringOf (tablesOf s)) .ring) ≡ tablesOf (pop s .1))
-  pop-refines = go (s .queue .items) refl
+  pub pop-ring-refines : (popOf (ringOf (tablesOf s)) .item ≡ itemFor (pop s .0)) × (withRingOf (tablesOf s) (popOf (ringOf (tablesOf s)) .ring) ≡ tablesOf (pop s .1))
+  pop-ring-refines = go (s .queue .items) refl
     where
       go : (l : List state.Update) → s .queue .items ≡ l → Pops (pop s)
       go [] e = subst Pops (sym (pop-none s hf fits e)) (pop-nothing e)

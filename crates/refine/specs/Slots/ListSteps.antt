@@ -9,23 +9,24 @@ use native.Mathlib.Omega.{arith}
 use lib.ListN.{length, getD, set, take, replicate, length-set, List·getD-append, List·getD-eq-default}
 use lib.Dec.{ltb}
 use lib.Seq.{take-at, set-append-left, set-set, getD-take}
-use Rattle.model.specs.Lists.{slotOf, isEmpty, In, firstOf, afterIn}
+use borrow.Author.Tests.{lt-ltb, le-ltb}
+use Rattle.base.specs.Cases.{lt, ge, cmp, pick}
+use Rattle.base.specs.Tests.{both}
+use Rattle.model.specs.Lists.{atSlot, isEmpty, In, firstOf, afterIn}
 use Rattle.model.specs.State as state
 use Rattle.model.specs.State.{State, Capa, noCapa, region, regionRevoke, management, channel, LocalList, putDomain, withLocals}
-use Rattle.model.specs.Outcome.{ok, refuse, noLocal}
+use Rattle.model.specs.Outcome.{ok, refuse}
+use Rattle.refusals.specs.Refusals.{noLocal}
 use Rattle.model.specs.Layout.{slotOr0}
 use Rattle.model.specs.Locals.{freeLocal, insertCapa, removeCapa, emptyCapa}
-use Rattle.model.specs.Sound.{OnceEach, inUse}
-use Rattle.laws.specs.Cases.{lt, ge, cmp, ltb-t, ltb-f}
+use Rattle.model.specs.Sound.{OnceEach, slotUses}
 use Rattle.laws.specs.Capas.Slots.{next-free}
-use Rattle.laws.specs.Capas.Held.{domain-at}
-use Rattle.laws.specs.Words.SameTables.{in-below}
 use Rattle.laws.specs.Words.SameDomains.{Listed}
-use Rattle.words.specs.Cases.{pick, both}
+use Rattle.laws.specs.Tree.Slots.{in-length}
+use Rattle.laws.specs.Tree.Steps.{domain-at}
 use Rattle.tables.specs.declared.Slot.{Slot}
 use Rattle.tables.specs.Tables.{Domain, noSlot, withDomains}
 use Rattle.answers.specs.declared.Answer.the-variants.{Refused}
-use Rattle.answers.specs.declared.Refusal.the-variants.{NoLocal}
 use Rattle.slot_list.specs.declared.SlotList.{SlotList}
 use Rattle.slot_list.specs.declared.Given.{Given}
 use Rattle.slot_list.specs.declared.Inserted.the-variants.{At, Full}
@@ -62,15 +63,15 @@ padded-set ss i x h =
 
 module _ (n : ℕ) (l : LocalList) where
   pub slots-long : length (slotsFor n l) ≡ n
-  slots-long = map-up-length (λ i. slotFor (l .free) i (slotOf (l .held) i)) n
+  slots-long = map-up-length (λ i. slotFor (l .free) i (atSlot (l .held) i)) n
 
   -- one slot read, and set
-  pub slot-for : (i : ℕ) (d : Slot) → i < n → getD (padded (slotsFor n l)) i d ≡ slotFor (l .free) i (slotOf (l .held) i)
+  pub slot-for : (i : ℕ) (d : Slot) → i < n → getD (padded (slotsFor n l)) i d ≡ slotFor (l .free) i (atSlot (l .held) i)
   slot-for i d h =
       List·getD-append (slotsFor n l) (replicate (128 - length (slotsFor n l)) noSlot) d i (omega (arith, slots-long))
-      ∙ getD-up (λ j. slotFor (l .free) j (slotOf (l .held) j)) n i d h
+      ∙ getD-up (λ j. slotFor (l .free) j (atSlot (l .held) j)) n i d h
 
-  slot-in : (i : ℕ) → i < n → slotIn (listFor n l) i ≡ slotFor (l .free) i (slotOf (l .held) i)
+  slot-in : (i : ℕ) → i < n → slotIn (listFor n l) i ≡ slotFor (l .free) i (atSlot (l .held) i)
   unfolding slotIn
   slot-in i h = getD-take n (padded (slotsFor n l)) i (freeSlot 0) h ∙ slot-for i (freeSlot 0) h
 
@@ -86,7 +87,7 @@ module _ (n : ℕ) (l : LocalList) where
         let c : n - length (l .free) - 1 ≡ n - suc (length (l .free)) = omega arith in
         λ t. record { slots = ss t; head = i; count = c t; size = n }
 
-    module _ (c : Capa) (e : slotOf (l .held) i ≡ some c) where
+    module _ (c : Capa) (e : atSlot (l .held) i ≡ some c) where
       used : isFreeB (slotIn (listFor n l) i) ≡ false
       used = ap isFreeB (slot-in i h ∙ ap (slotFor (l .free) i) e) ∙ capa-used c
 
@@ -105,11 +106,11 @@ module _ (n : ℕ) (l : LocalList) where
 
 module _ (n : ℕ) (l : LocalList) (listed : Listed n l) where
   pub room-for : ltb (listFor n l .count) (listFor n l .size) ≡ not (isEmpty (l .free))
-  room-for = go (l .free) (free-fits n (inUse (l .held)) (l .free) (listed .once))
+  room-for = go (l .free) (free-fits n (slotUses (l .held)) (l .free) (listed .once))
     where
       go : (f : List ℕ) → length f ≤ n → ltb (n - length f) n ≡ not (isEmpty f)
-      go [] h = ltb-f (n - 0) n (omega arith)
-      go (i ∷ f) h = ltb-t (n - suc (length f)) n (omega arith)
+      go [] h = le-ltb (n - 0) n (omega arith)
+      go (i ∷ f) h = lt-ltb (n - suc (length f)) n (omega arith)
 
   pub give-none : l .free ≡ [] → giveSlot (listFor n l) ≡ record { at = Full; list = listFor n l }
   unfolding giveSlot givesB
@@ -120,8 +121,8 @@ module _ (n : ℕ) (l : LocalList) (listed : Listed n l) where
       no-room false b = refl
 
   module _ (i : ℕ) (is : List ℕ) (e : l .free ≡ i ∷ is) where
-    once-first : OnceEach n (inUse (l .held)) (i ∷ is)
-    once-first = subst (OnceEach n (inUse (l .held))) e (listed .once)
+    once-first : OnceEach n (slotUses (l .held)) (i ∷ is)
+    once-first = subst (OnceEach n (slotUses (l .held))) e (listed .once)
 
     first-below : i < n
     first-below = next-free n (l .held) i is once-first .1
@@ -139,7 +140,7 @@ module _ (n : ℕ) (l : LocalList) (listed : Listed n l) where
 
     gives : givesB (listFor n l) ≡ true
     unfolding givesB
-    gives = rw (ltb-t (slotOr0 (firstOf (l .free))) n (omega (arith, first-top, first-below)), room-for ∙ ap (λ (f : List ℕ). not (isEmpty f)) e, first-free)
+    gives = rw (lt-ltb (slotOr0 (firstOf (l .free))) n (omega (arith, first-top, first-below)), room-for ∙ ap (λ (f : List ℕ). not (isEmpty f)) e, first-free)
 
     give-some : giveSlot (listFor n l) ≡ record { at = At (slotOr0 (firstOf (l .free))); list = allocated (listFor n l) }
     unfolding giveSlot
@@ -156,7 +157,7 @@ module _ (n : ℕ) (l : LocalList) (listed : Listed n l) where
         ap (λ (k : ℕ). set (set (padded (slotsFor n l)) k noSlot) i (capaSlot c)) first-top
         ∙ set-set (padded (slotsFor n l)) i noSlot (capaSlot c)
         ∙ slots-put n l i (capaSlot c) m first-below (slots-filled n l i first-below (listed .heldLength) c is e) in
-        let k : n - length (l .free) + 1 ≡ n - length is = omega (arith, ap length e, free-fits n (inUse (l .held)) (l .free) (listed .once)) in
+        let k : n - length (l .free) + 1 ≡ n - length is = omega (arith, ap length e, free-fits n (slotUses (l .held)) (l .free) (listed .once)) in
         ap (λ (g : Given). putIn (g .list) i (capaSlot c)) give-some
         ∙ (λ t. record { slots = ss t; head = first-free t .handle .slot; count = k t; size = n })
 
@@ -164,22 +165,22 @@ module _ (n : ℕ) (l : LocalList) (listed : Listed n l) where
 
 module _ (s : State) (long : length (s .domains) ≡ s .sizes .domains) (d : ℕ) (x : state.Domain) (at : In (s .domains) d x) where
   -- what local slot l holds, where it is in use; else a free slot
-  pub capa-read : (l : ℕ) (c : Capa) → length (x .locals .held) ≡ s .sizes .slots → slotOf (x .locals .held) l ≡ some c → capaAt (tablesOf s) d l ≡ capaSlot c
+  pub capa-read : (l : ℕ) (c : Capa) → length (x .locals .held) ≡ s .sizes .slots → atSlot (x .locals .held) l ≡ some c → capaAt (tablesOf s) d l ≡ capaSlot c
   unfolding capaAt
   capa-read l c m e =
       let n = s .sizes .slots in
       ap (λ (y : Domain). getD (y .slots) l (freeSlot 0)) (domain-row s long d x at)
-      ∙ getD-up (λ j. slotFor (x .locals .free) j (slotOf (x .locals .held) j)) n l (freeSlot 0) (omega (arith, in-below (x .locals .held) l c e))
+      ∙ getD-up (λ j. slotFor (x .locals .free) j (atSlot (x .locals .held) j)) n l (freeSlot 0) (omega (arith, in-length (x .locals .held) l c e))
       ∙ ap (slotFor (x .locals .free) l) e
 
-  pub capa-none : (l : ℕ) → slotOf (x .locals .held) l ≡ none → capaAt (tablesOf s) d l .kind ≡ 1
+  pub capa-none : (l : ℕ) → atSlot (x .locals .held) l ≡ none → capaAt (tablesOf s) d l .kind ≡ 1
   unfolding capaAt
   capa-none l e =
       let n = s .sizes .slots in
       let ss = slotsFor n (x .locals) in
       ap (λ (y : Domain). getD (y .slots) l (freeSlot 0) .kind) (domain-row s long d x at)
       ∙ elim (cmp l n) [
-        | lt h ↦ ap (λ (y : Slot). y .kind) (getD-up (λ j. slotFor (x .locals .free) j (slotOf (x .locals .held) j)) n l (freeSlot 0) h ∙ ap (slotFor (x .locals .free) l) e)
+        | lt h ↦ ap (λ (y : Slot). y .kind) (getD-up (λ j. slotFor (x .locals .free) j (atSlot (x .locals .held) j)) n l (freeSlot 0) h ∙ ap (slotFor (x .locals .free) l) e)
         | ge h ↦ ap (λ (y : Slot). y .kind) (List·getD-eq-default ss (freeSlot 0) {n = l} (omega (arith, slots-long n (x .locals))))
       ]
 
@@ -209,7 +210,7 @@ module _ (s : State) (long : length (s .domains) ≡ s .sizes .domains) (d : ℕ
   module _ (listed : Listed (s .sizes .slots) (x .locals)) where
     -- ---- a capability goes in
 
-    insert-full : (c : Capa) → x .locals .free ≡ [] → insert d (capaSlot c) (tablesOf s) .answer ≡ Refused NoLocal
+    insert-full : (c : Capa) → x .locals .free ≡ [] → insert d (capaSlot c) (tablesOf s) .answer ≡ Refused noLocal
     unfolding insert
     insert-full c e = ap (λ m. insertedAnswer (giveSlot m .at)) list-for ∙ ap (λ (g : Given). insertedAnswer (g .at)) (give-none (s .sizes .slots) (x .locals) listed e)
 
@@ -231,9 +232,9 @@ module _ (s : State) (long : length (s .domains) ≡ s .sizes .domains) (d : ℕ
 
     -- ---- a slot in use is freed, or emptied
 
-    module _ (i : ℕ) (c : Capa) (e : slotOf (x .locals .held) i ≡ some c) where
+    module _ (i : ℕ) (c : Capa) (e : atSlot (x .locals .held) i ≡ some c) where
       inside : i < s .sizes .slots
-      inside = omega (arith, in-below (x .locals .held) i c e, listed .heldLength)
+      inside = omega (arith, in-length (x .locals .held) i c e, listed .heldLength)
 
       pub remove-is : withoutCapa (tablesOf s) d i ≡ tablesOf (removeCapa d i s)
       unfolding withoutCapa removeCapa

@@ -9,25 +9,25 @@ use native.Mathlib.Numerals.{add-one}
 use lib.Dec.{ltb}
 use lib.ListN.{length, getD, set, take, replicate, getD-replicate}
 use lib.Seq.{set-set, getD-set-same}
-use Rattle.model.specs.Lists.{slotOf, countUp, firstOf, afterIn}
+use borrow.Author.Tests.{lt-ltb, le-ltb}
+use Rattle.base.specs.Cases.{lt, ge, cmp, pick}
+use Rattle.model.specs.Lists.{atSlot, countUp, afterIn}
 use Rattle.model.specs.State as state
 use Rattle.model.specs.State.{State}
-use Rattle.model.specs.Outcome.{ok, refuse, _>>=_, noDomainRoom}
+use Rattle.model.specs.Outcome.{ok, refuse, _>>=_}
+use Rattle.refusals.specs.Refusals.{noDomainRoom}
 use Rattle.model.specs.Pool.{allocate, handleOf}
 use Rattle.model.specs.Layout.{link, slotOr0}
 use Rattle.model.specs.Locals.{freshLocals}
 use Rattle.model.specs.Calls as calls
-use Rattle.model.specs.Sound.{PoolSound, inUse}
-use Rattle.laws.specs.Cases.{lt, ge, cmp, ltb-t, ltb-f}
+use Rattle.model.specs.Sound.{PoolSound, slotUses}
 use Rattle.laws.specs.Parts.{up-length}
-use Rattle.words.specs.Cases.{pick}
 use Rattle.tables.specs.declared.Slot.{Slot}
 use Rattle.tables.specs.declared.DomainHead.{DomainHead}
 use Rattle.tables.specs.Tables.{Tables, Domain, noDomain, noSlot, putHead, withHead, withDomains, withDomainPool}
 use Rattle.arena.specs.declared.Given.the-variants.{At, Full}
 use Rattle.arena.specs.Arena.{given}
 use Rattle.answers.specs.declared.Answer.the-variants.{Refused}
-use Rattle.answers.specs.declared.Refusal.the-variants.{NoDomainRoom}
 use Rattle.slot_list.specs.declared.SlotList.{SlotList}
 use Rattle.stored_slots.specs.Record.{putList, withList}
 use Rattle.domain.specs.Opened.{freshFrom, freshList, newHead, taken, newDomain}
@@ -38,6 +38,7 @@ use Rattle.decoded.specs.Words.{slots-many}
 use Rattle.refine.specs.Agrees.{Agrees, agrees-call}
 use Rattle.refine.specs.Arenas.Pools.{given-is, given-first, first-inside}
 use Rattle.refine.specs.Arenas.PoolSlots.{domain-opened}
+use Rattle.refine.specs.Making.{fresh-head}
 
 -- ---- the stack k, k + 1, .. of n slots
 
@@ -59,14 +60,14 @@ up-end i k (suc (suc n)) h j = ap slotOr0 (after-under k i (countUp (suc k) (suc
 module _ (n : ℕ) where
   -- what the model has in slot i
   abbrev fresh : ℕ → Slot
-  fresh i = slotFor (countUp 0 n) i (slotOf (replicate {A = Option state.Capa} n none) i)
+  fresh i = slotFor (countUp 0 n) i (atSlot (replicate {A = Option state.Capa} n none) i)
 
   fresh-slot : (i : ℕ) → i < n → pick (ltb i n) (freeSlot (pick (ltb (i + 1) n) (i + 1) 0)) noSlot ≡ fresh i
   fresh-slot i h =
-      rw (ltb-t i n h, getD-replicate {A = Option state.Capa} n i none none h)
+      rw (lt-ltb i n h, getD-replicate {A = Option state.Capa} n i none none h)
       (elim (cmp (i + 1) n) [
-        | lt l ↦ rw (ltb-t (i + 1) n l) (ap freeSlot (add-one i ∙ sym (up-next i 0 n (omega arith) (omega arith))))
-        | ge l ↦ rw (ltb-f (i + 1) n l) (ap freeSlot (sym (up-end i 0 n (omega arith) (omega arith))))
+        | lt l ↦ rw (lt-ltb (i + 1) n l) (ap freeSlot (add-one i ∙ sym (up-next i 0 n (omega arith) (omega arith))))
+        | ge l ↦ rw (le-ltb (i + 1) n l) (ap freeSlot (sym (up-end i 0 n (omega arith) (omega arith))))
       ])
 
   -- the first k of m places from slot i on
@@ -79,13 +80,6 @@ module _ (n : ℕ) where
       let b = fresh-from k m (suc i) (omega arith) (omega arith) in
       λ t. a t ∷ b t
 
-  fresh-top : slotOr0 (firstOf (countUp 0 n)) ≡ 0
-  fresh-top = go n
-    where
-      go : (m : ℕ) → slotOr0 (firstOf (countUp 0 m)) ≡ 0
-      go zero = refl
-      go (suc m) = refl
-
   -- a new domain
   abbrev pub opened : Option ℕ → ℕ → state.Domain
   opened m cores = record { manager = m; cores = cores; locals = freshLocals n; tracker = [] }
@@ -97,7 +91,7 @@ module _ (n : ℕ) where
   fresh-row m cores y high e =
       let ss : take (length (y .slots)) (freshFrom n 128 0) ≡ slotsFor n (freshLocals n) = ap (λ (k : ℕ). take k (freshFrom n 128 0)) e ∙ fresh-from n 128 0 high (omega arith) in
       let c : 0 ≡ n - length (countUp 0 n) = omega (arith, up-length 0 n) in
-      let t = sym fresh-top in
+      let t = sym (fresh-head n) in
       λ i. record { head = record { manager = link m; cores = cores; tracker = 0; head = t i; count = c i }; slots = ss i }
 
 -- ---- the tables
@@ -110,18 +104,18 @@ both-put t i h l b =
     let r = putHead (getD (t .domains) i noDomain) h in
     rw (getD-set-same (t .domains) i r noDomain b, set-set (t .domains) i r (putList r l))
 
-module _ (s : State) (long : length (s .domains) ≡ s .sizes .domains) (pool : PoolSound (s .sizes .domains) (inUse (s .domains)) (s .domainPool)) (high : s .sizes .slots ≤ 128) (m : Option ℕ) (cores : ℕ) where
+module _ (s : State) (long : length (s .domains) ≡ s .sizes .domains) (pool : PoolSound (s .sizes .domains) (slotUses (s .domains)) (s .domainPool)) (high : s .sizes .slots ≤ 128) (m : Option ℕ) (cores : ℕ) where
   -- no slot is free
   module _ (e : s .domainPool .free ≡ []) where
     none-given : given (tablesOf s .domainPool) ≡ Full
     unfolding tablesOf allocate
-    none-given = given-is (s .sizes .domains) (inUse (s .domains)) (s .domainPool) pool noDomainRoom ∙ rw e
+    none-given = given-is (s .sizes .domains) (slotUses (s .domains)) (s .domainPool) pool noDomainRoom ∙ rw e
 
     open-refused : calls.newDomain m cores s ≡ refuse noDomainRoom
     unfolding calls.newDomain allocate _>>=_
     open-refused = rw e
 
-    refused-too : newDomain (link m) cores (tablesOf s) .answer ≡ Refused NoDomainRoom
+    refused-too : newDomain (link m) cores (tablesOf s) .answer ≡ Refused noDomainRoom
     unfolding newDomain
     refused-too = rw none-given
 
@@ -131,11 +125,11 @@ module _ (s : State) (long : length (s .domains) ≡ s .sizes .domains) (pool : 
     after = state.withDomains (record { gens = s .domainPool .gens; free = is }) (set (s .domains) i (some (opened (s .sizes .slots) m cores))) s
 
     inside : i < s .sizes .domains
-    inside = first-inside (s .sizes .domains) (inUse (s .domains)) (s .domainPool) pool i is e
+    inside = first-inside (s .sizes .domains) (slotUses (s .domains)) (s .domainPool) pool i is e
 
     slot-given : given (tablesOf s .domainPool) ≡ At (handleFor (handleOf (s .domainPool) i))
     unfolding tablesOf
-    slot-given = given-first (s .sizes .domains) (inUse (s .domains)) (s .domainPool) pool i is e
+    slot-given = given-first (s .sizes .domains) (slotUses (s .domains)) (s .domainPool) pool i is e
 
     open-is : calls.newDomain m cores s ≡ ok (i, after)
     unfolding calls.newDomain allocate _>>=_
@@ -143,13 +137,13 @@ module _ (s : State) (long : length (s .domains) ≡ s .sizes .domains) (pool : 
 
     rows-many : length (tablesOf s .domains) ≡ s .sizes .domains
     unfolding tablesOf domainsFor
-    rows-many = map-up-length (λ j. domainFor (s .sizes .slots) (slotOf (s .domains) j)) (s .sizes .domains)
+    rows-many = map-up-length (λ j. domainFor (s .sizes .slots) (atSlot (s .domains) j)) (s .sizes .domains)
 
     row-many : length (getD (tablesOf s .domains) i noDomain .slots) ≡ s .sizes .slots
     unfolding tablesOf domainsFor
     row-many =
-        ap (λ (y : Domain). length (y .slots)) (getD-up (λ j. domainFor (s .sizes .slots) (slotOf (s .domains) j)) (s .sizes .domains) i noDomain inside)
-        ∙ slots-many (s .sizes .slots) (slotOf (s .domains) i)
+        ap (λ (y : Domain). length (y .slots)) (getD-up (λ j. domainFor (s .sizes .slots) (atSlot (s .domains) j)) (s .sizes .domains) i noDomain inside)
+        ∙ slots-many (s .sizes .slots) (atSlot (s .domains) i)
 
     left-is : withList (withHead (taken (tablesOf s)) i (newHead (link m) cores)) i (freshList (s .sizes .slots)) ≡ tablesOf after
     unfolding withDomainPool tablesOf

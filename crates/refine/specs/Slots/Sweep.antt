@@ -9,20 +9,21 @@ use native.Mathlib.Omega.{arith}
 use lib.Dec.{ltb}
 use lib.ListN.{length, set, drop, length-append, length-set, drop-of-length-le, replicate}
 use lib.Seq.{drop-cons, drop-set-lt, set-getD, getD-set-same}
-use Rattle.model.specs.Lists.{if_then_else_, isEmpty, slotOf, In}
+use borrow.Author.Tests.{lt-ltb, le-ltb}
+use Rattle.base.specs.Cases.{lt, ge, cmp, holds, fails, test}
+use Rattle.model.specs.Lists.{if_then_else_, isEmpty, atSlot, In}
 use Rattle.model.specs.State as state
 use Rattle.model.specs.State.{State, Capa, noCapa, region, regionRevoke, management, channel, LocalList, putDomain, withLocals}
-use Rattle.model.specs.Outcome.{Outcome, ok, _>>=_, _>>_, require, noLocal}
+use Rattle.model.specs.Outcome.{Outcome, ok, _>>=_, _>>_, require}
+use Rattle.refusals.specs.Refusals.{noLocal}
 use Rattle.model.specs.Locals.{freeLocal, freeLocals, isInvalid, invalidSlots, freeInvalidCapas, hasCapacity}
-use Rattle.model.specs.Sound.{PoolSound, inUse}
-use Rattle.laws.specs.Cases.{lt, ge, cmp, ltb-t, ltb-f, holds, fails, test}
+use Rattle.model.specs.Sound.{PoolSound, slotUses}
 use Rattle.laws.specs.Capas.Slots.{once-give}
-use Rattle.laws.specs.Capas.Held.{domain-at}
-use Rattle.laws.specs.Words.SameTables.{in-below}
 use Rattle.laws.specs.Words.SameDomains.{Listed}
+use Rattle.laws.specs.Tree.Slots.{in-length}
+use Rattle.laws.specs.Tree.Steps.{domain-at}
 use Rattle.tables.specs.declared.Slot.{Slot}
 use Rattle.tables.specs.Tables.{Tables, noSlot}
-use Rattle.answers.specs.declared.Refusal.the-variants.{NoLocal}
 use Rattle.slot_list.specs.declared.SlotList.{SlotList}
 use Rattle.slots.specs.Sweep.{sweepSlot, sweepFrom, sweep}
 use Rattle.stored_slots.specs.Record.{padded}
@@ -35,7 +36,7 @@ use Rattle.refine.specs.Slots.ListSteps.{listFor, slot-for, slots-long, 
 
 -- ---- the sweep by value
 
-pub freed-listed : (n : ℕ) (l : LocalList) (i : ℕ) (c : Capa) → slotOf (l .held) i ≡ some c → Listed n l → Listed n (freeLocal i l)
+pub freed-listed : (n : ℕ) (l : LocalList) (i : ℕ) (c : Capa) → atSlot (l .held) i ≡ some c → Listed n l → Listed n (freeLocal i l)
 freed-listed n l i c e h =
     record { heldLength = length-set (l .held) i none ∙ h .heldLength; once = once-give n (l .held) (h .heldLength) i (l .free) c e (h .once) }
 
@@ -56,17 +57,17 @@ module _ (s : State) (bad : Slot → Bool) (kept : (k : ℕ) → bad (freeSlot k
   sweep-none i l h q = rw (none-left l i h (omega arith)) (refl, h)
 
   module _ (m i : ℕ) (ih : SweepOk m (suc i)) (l : LocalList) (h : Listed n l) (q : n ≤ suc m + i) where
-    slot-kept : i < n → bad (slotFor (l .free) i (slotOf (l .held) i)) ≡ false → sweepSlot bad (listFor n l) i ≡ listFor n l
+    slot-kept : i < n → bad (slotFor (l .free) i (atSlot (l .held) i)) ≡ false → sweepSlot bad (listFor n l) i ≡ listFor n l
     unfolding sweepSlot
-    slot-kept b e = rw (ltb-t i n b, slot-for n l i noSlot b, e)
+    slot-kept b e = rw (lt-ltb i n b, slot-for n l i noSlot b, e)
 
     slot-past : n ≤ i → sweepSlot bad (listFor n l) i ≡ listFor n l
     unfolding sweepSlot
-    slot-past b = rw (ltb-f i n b)
+    slot-past b = rw (le-ltb i n b)
 
-    slot-hit : i < n → bad (slotFor (l .free) i (slotOf (l .held) i)) ≡ true → sweepSlot bad (listFor n l) i ≡ listFor n (freeLocal i l)
+    slot-hit : i < n → bad (slotFor (l .free) i (atSlot (l .held) i)) ≡ true → sweepSlot bad (listFor n l) i ≡ listFor n (freeLocal i l)
     unfolding sweepSlot
-    slot-hit b e = rw (ltb-t i n b, slot-for n l i noSlot b, e) (freed-for n l (h .heldLength) i b)
+    slot-hit b e = rw (lt-ltb i n b, slot-for n l i noSlot b, e) (freed-for n l (h .heldLength) i b)
 
     -- what follows, whatever slot i does
     abbrev Rest : LocalList → List ℕ → Type 0
@@ -76,7 +77,7 @@ module _ (s : State) (bad : Slot → Bool) (kept : (k : ℕ) → bad (freeSlot k
     unfolding SweepOk
     go-kept = ih l h (omega arith)
 
-    go-hit : (c : Capa) → slotOf (l .held) i ≡ some c → Rest (freeLocal i l) (invalidSlots s (suc i) (drop (suc i) (l .held)))
+    go-hit : (c : Capa) → atSlot (l .held) i ≡ some c → Rest (freeLocal i l) (invalidSlots s (suc i) (drop (suc i) (l .held)))
     unfolding SweepOk
     go-hit c e = rw (drop-set-lt (suc i) (l .held) i none (omega arith)) at (ih (freeLocal i l) (freed-listed n l i c e h) (omega arith))
 
@@ -84,10 +85,10 @@ module _ (s : State) (bad : Slot → Bool) (kept : (k : ℕ) → bad (freeSlot k
     Here o = (sweepFrom bad m (suc i) (sweepSlot bad (listFor n l) i) ≡ listFor n (freeLocals (invalidSlots s i o) l)) × Listed n (freeLocals (invalidSlots s i o) l)
 
     -- slot i holds o
-    sweep-one : i < n → (o : Option Capa) → slotOf (l .held) i ≡ o → Here (o ∷ drop (suc i) (l .held))
+    sweep-one : i < n → (o : Option Capa) → atSlot (l .held) i ≡ o → Here (o ∷ drop (suc i) (l .held))
     sweep-one b none e = rw (slot-kept b (ap (λ o. bad (slotFor (l .free) i o)) e ∙ kept _)) go-kept
     sweep-one b (some c) e =
-        let f : bad (slotFor (l .free) i (slotOf (l .held) i)) ≡ isInvalid s c = ap (λ o. bad (slotFor (l .free) i o)) e ∙ same c in
+        let f : bad (slotFor (l .free) i (atSlot (l .held) i)) ≡ isInvalid s c = ap (λ o. bad (slotFor (l .free) i o)) e ∙ same c in
         elim (test (isInvalid s c)) [
           | holds t ↦ rw (slot-hit b (f ∙ t), t) (go-hit c e)
           | fails t ↦ rw (slot-kept b (f ∙ t), t) go-kept
@@ -96,7 +97,7 @@ module _ (s : State) (bad : Slot → Bool) (kept : (k : ℕ) → bad (freeSlot k
     sweep-here : Here (drop i (l .held))
     sweep-here =
         elim (cmp i n) [
-          | lt b ↦ rw (drop-cons (l .held) i none (omega (arith, h .heldLength))) (sweep-one b (slotOf (l .held) i) refl)
+          | lt b ↦ rw (drop-cons (l .held) i none (omega (arith, h .heldLength))) (sweep-one b (atSlot (l .held) i) refl)
           | ge b ↦ rw (slot-past b, none-left l i h b) (rw (none-left l (suc i) h (omega arith)) at go-kept)
         ]
 
@@ -116,7 +117,7 @@ module _ (s : State) (bad : Slot → Bool) (kept : (k : ℕ) → bad (freeSlot k
 
 -- ---- the tables
 
-module _ (s : State) (domains : PoolSound (s .sizes .domains) (inUse (s .domains)) (s .domainPool)) (regions : PoolSound (s .sizes .regions) (inUse (s .regions)) (s .regionPool)) where
+module _ (s : State) (domains : PoolSound (s .sizes .domains) (slotUses (s .domains)) (s .domainPool)) (regions : PoolSound (s .sizes .regions) (slotUses (s .regions)) (s .regionPool)) where
   -- "None or a dead handle"
   pub invalid-is : (c : Capa) → isInvalidB (tablesOf s) (capaSlot c) ≡ isInvalid s c
   unfolding isInvalidB tablesOf
@@ -146,7 +147,7 @@ module _ (s : State) (long : length (s .domains) ≡ s .sizes .domains) (d : ℕ
 
   pub room-after : (l : LocalList) → Listed (s .sizes .slots) l → roomB (tablesOf (relisted l)) d ≡ not (isEmpty (l .free))
   room-after l h =
-      room-is (relisted l) d (withLocals l x) (length-set (s .domains) d (some (withLocals l x)) ∙ long) (getD-set-same (s .domains) d (some (withLocals l x)) none (in-below (s .domains) d x at)) h
+      room-is (relisted l) d (withLocals l x) (length-set (s .domains) d (some (withLocals l x)) ∙ long) (getD-set-same (s .domains) d (some (withLocals l x)) none (in-length (s .domains) d x at)) h
 
   -- the list as it is, put back
   same-put : relisted (x .locals) ≡ s
@@ -165,7 +166,7 @@ module _ (s : State) (long : length (s .domains) ≡ s .sizes .domains) (d : ℕ
   unfolding hasCapacity
   capacity-is = rw (domain-at s d x at)
 
-  module _ (domains : PoolSound (s .sizes .domains) (inUse (s .domains)) (s .domainPool)) (regions : PoolSound (s .sizes .regions) (inUse (s .regions)) (s .regionPool)) where
+  module _ (domains : PoolSound (s .sizes .domains) (slotUses (s .domains)) (s .domainPool)) (regions : PoolSound (s .sizes .regions) (slotUses (s .regions)) (s .regionPool)) where
     -- the tables that are left, and the list in them
     left-is : (withCapacity (tablesOf s) d ≡ tablesOf (relisted roomy)) × Listed (s .sizes .slots) roomy
     unfolding withCapacity
@@ -179,8 +180,8 @@ module _ (s : State) (long : length (s .domains) ≡ s .sizes .domains) (d : ℕ
 
     answer-for : (b : Bool) → roomB (withCapacity (tablesOf s) d) d ≡ b → Agrees (reserve d (tablesOf s)) ((require b noLocal >> ok (relisted roomy)) >>= (λ t. ok (0, t)))
     unfolding reserve require _>>_ _>>=_
-    answer-for true e = (ap (orRefused NoLocal) e, left-is .0)
-    answer-for false e = ap (orRefused NoLocal) e
+    answer-for true e = (ap (orRefused noLocal) e, left-is .0)
+    answer-for false e = ap (orRefused noLocal) e
 
     pub reserve-refines : Agrees (reserve d (tablesOf s)) (hasCapacity d s >>= λ t. ok (0, t))
     reserve-refines =

@@ -9,7 +9,7 @@ use Rattle.model.specs.Tracker as tracker
 use Rattle.model.specs.Tracker.{gain}
 use Rattle.model.specs.Sound.{Rising}
 use Rattle.laws.specs.Answers.{answer}
-use Rattle.laws.specs.Tracker.Pools.{stay}
+use Rattle.laws.specs.Tracker.Pools.{moved-none}
 use Rattle.laws.specs.Tracker.Slots.{add-moves}
 use Rattle.region.specs.declared.AccessRights.{AccessRights}
 use Rattle.region.specs.declared.Way.the-variants.{Add}
@@ -29,4 +29,4 @@ add-refines s d x a h o u k =
     let l = x .tracker in
     let p = s .recordPool in
     walked-merged s d x a h Add (tracker.addRegion (a .ops .0) (a .start) (a .end) l p) (answer (add-moves (a .ops .0) (a .start) (a .end) l p))
-    (gain-walks s d x a _ (a .start) l p (held-moved s d x h p l (stay p l)) o k u (omega (arith, tracker-fits s d x h)))
+    (gain-walks s d x a _ (a .start) l p (held-moved s d x h p l (moved-none p l)) o k u (omega (arith, tracker-fits s d x h)))

@@ -7,13 +7,15 @@ use mathlib.Core.Bool.{true, false, not, _||_}
 use mathlib.Core.List.{List, [], _∷_, _++_}
 use native.Mathlib.Omega.{arith}
 use native.Mathlib.Nat.{le-refl}
+use borrow.Author.Tests.{lt-ltb, le-ltb}
+use Rattle.base.specs.Cases.{lt, ge, cmp}
 use Rattle.model.specs.Lists.{isEmpty}
-use Rattle.model.specs.Outcome.{Outcome, ok, _>>=_, noTracker}
+use Rattle.model.specs.Outcome.{Outcome, ok, _>>=_}
+use Rattle.refusals.specs.Refusals.{noTracker}
 use Rattle.model.specs.State.{Record, Pool}
 use Rattle.model.specs.Pool.{allocate}
 use Rattle.model.specs.Tracker.{Walk, newCounts, raise, changes, withEnd, withCounts, cutBefore, cutAfter, fillGap, meets, addTo, addRegion}
 use Rattle.model.specs.Sound.{Rising}
-use Rattle.laws.specs.Cases.{lt, ge, cmp, ltb-t, ltb-f}
 use Rattle.refine.specs.Agrees.{ok-then, bind-assoc, bind-same}
 use Rattle.refine.specs.Tracker.RecordSteps.{from}
 use Rattle.refine.specs.Tracker.WalkSteps.{walked, ahead, ahead-ahead, ahead-then, ahead-out, before-whole, before-cut, after-whole, after-cut, meets-t, meets-below, meets-above}
@@ -36,11 +38,11 @@ addAfter r s e q l y = addTo r s e q (y .1) >>= λ w. ahead (y .0 ++ w .records)
 module _ (r s e : ℕ) (p : Pool) where
   fill-none : e ≤ s → fillGap r s e p ≡ ok ([], p)
   unfolding fillGap
-  fill-none h = rw (ltb-f s e h)
+  fill-none h = rw (le-ltb s e h)
 
   fill-some : s < e → fillGap r s e p ≡ allocate noTracker p >>= λ z. ok (newRecord r s e (z .0) ∷ [], z .1)
   unfolding fillGap
-  fill-some h = rw (ltb-t s e h)
+  fill-some h = rw (lt-ltb s e h)
 
 module _ (r s e : ℕ) (q : Record) (l : List Record) where
   add-cons : (p : Pool) → addRegion r s e (q ∷ l) p ≡ fillGap r s (min e (q .start)) p >>= addAfter r s e q l

@@ -2,17 +2,17 @@
 -- starts at st. Each law says what the turn does to the tables of the state in the middle of the walk.
 use mathlib.Core.Path.{_≡_, refl, sym, ap, _∙_}
 use Prim.Native.Nat.{ℕ, suc, _≤_, _<_, min}
-use mathlib.Core.Bool.{Bool, true, false, _||_, or-false}
+use mathlib.Core.Bool.{Bool, false, _||_, or-false}
 use mathlib.Core.List.{List, [], _∷_, _++_}
 use native.Mathlib.Omega.{arith}
 use lib.Dec.{ltb}
+use borrow.Author.Tests.{lt-ltb, le-ltb, ne-eqb, le-leb, lt-leb}
+use Rattle.base.specs.Cases.{lt, ge, cmp, pick, pick-t, pick-f}
 use Rattle.model.specs.Lists.{oneIf}
 use Rattle.model.specs.State.{State, Record, Pool, Domain}
 use Rattle.model.specs.Layout.{link}
 use Rattle.model.specs.Tracker.{raise, changes}
-use Rattle.laws.specs.Cases.{lt, ge, cmp, ltb-t, ltb-f, eqb-f}
 use Rattle.laws.specs.Words.SameTrackers.{firstSlot}
-use Rattle.words.specs.Cases.{pick}
 use Rattle.tables.specs.declared.Region.{Region}
 use Rattle.tables.specs.Tables.{Tables, recordAt, withRecord}
 use Rattle.region.specs.declared.AccessRights.{AccessRights}
@@ -28,38 +28,32 @@ use Rattle.refine.specs.Tracker.Linked.{slot-of, lastLink}
 use Rattle.refine.specs.Tracker.RecordSteps.{tracked}
 use Rattle.refine.specs.Tracker.GainSteps.{newRecord, raisedRecord}
 use Rattle.refine.specs.Tracker.TrackerCounts.{Raisable, made-is, raised-is, changes-is, noted-is}
-use Rattle.refine.specs.Tracker.Walking.{leb-t, leb-f, cursor, Fits, row-here, changed-here}
+use Rattle.refine.specs.Tracker.Walking.{cursor, Fits, row-here, changed-here}
 use Rattle.refine.specs.Tracker.Walks.{behind}
-
-pub pick-t : {A : Type 0} (b : Bool) (x y : A) → b ≡ true → pick b x y ≡ x
-pick-t b x y e = rw e
-
-pub pick-f : {A : Type 0} (b : Bool) (x y : A) → b ≡ false → pick b x y ≡ y
-pick-f b x y e = rw e
 
 pick-min : (m e : ℕ) → pick (ltb m e) m e ≡ min e m
 pick-min m e = elim (cmp m e) [
-  | lt h ↦ let k : min e m ≡ m = omega arith in rw (ltb-t m e h, k)
-  | ge h ↦ let k : min e m ≡ e = omega arith in rw (ltb-f m e h, k)
+  | lt h ↦ let k : min e m ≡ m = omega arith in rw (lt-ltb m e h, k)
+  | ge h ↦ let k : min e m ≡ e = omega arith in rw (le-ltb m e h, k)
 ]
 
 -- the five cases, for a record with its row
 module _ (t : Tables) (d : ℕ) (a : AccessRights) (c : Cursor) (q : Region) where
   at-gap : c .start < q .start → addAt t d a c q ≡ fillTurn t d a c (pick (ltb (q .start) (a .end)) (q .start) (a .end))
   unfolding addAt
-  at-gap h = pick-t _ _ _ (ltb-t (c .start) (q .start) h)
+  at-gap h = pick-t _ _ _ (lt-ltb (c .start) (q .start) h)
 
   at-pass : q .start ≤ c .start → q .end ≤ c .start → addAt t d a c q ≡ to (Going (nextOf c (q .next) (c .start) false)) t
   unfolding addAt
-  at-pass h k = pick-f _ _ _ (ltb-f (c .start) (q .start) h) ∙ pick-t _ _ _ (leb-t (q .end) (c .start) k)
+  at-pass h k = pick-f _ _ _ (le-ltb (c .start) (q .start) h) ∙ pick-t _ _ _ (le-leb (q .end) (c .start) k)
 
   at-cut : q .start < c .start → c .start < q .end → addAt t d a c q ≡ cutStart t c
   unfolding addAt
-  at-cut h k = pick-f _ _ _ (ltb-f (c .start) (q .start) (omega arith)) ∙ pick-f _ _ _ (leb-f (q .end) (c .start) k) ∙ pick-t _ _ _ (ltb-t (q .start) (c .start) h)
+  at-cut h k = pick-f _ _ _ (le-ltb (c .start) (q .start) (omega arith)) ∙ pick-f _ _ _ (lt-leb (q .end) (c .start) k) ∙ pick-t _ _ _ (lt-ltb (q .start) (c .start) h)
 
   at-start : q .start ≡ c .start → c .start < q .end → addAt t d a c q ≡ pick (ltb (a .end) (q .end)) (cutEnd t c (a .end)) (raiseTurn t a c q)
   unfolding addAt
-  at-start h k = pick-f _ _ _ (ltb-f (c .start) (q .start) (omega arith)) ∙ pick-f _ _ _ (leb-f (q .end) (c .start) k) ∙ pick-f _ _ _ (ltb-f (q .start) (c .start) (omega arith))
+  at-start h k = pick-f _ _ _ (le-ltb (c .start) (q .start) (omega arith)) ∙ pick-f _ _ _ (lt-leb (q .end) (c .start) k) ∙ pick-f _ _ _ (le-ltb (q .start) (c .start) (omega arith))
 
 module _ (s : State) (d : ℕ) (x : Domain) (a : AccessRights) (st : ℕ) (z : Bool) (b : List Record) (p : Pool) where
   abbrev tables : List Record → Tables
@@ -68,7 +62,7 @@ module _ (s : State) (d : ℕ) (x : Domain) (a : AccessRights) (st : ℕ) (z : B
   -- the range is done
   pub turn-done : (l : List Record) → a .end ≤ st → turn Add (tables l) d a (cursor b l st z) ≡ over (cursor b l st z) (tables l)
   unfolding addTurn cursor
-  turn-done l h = rw (leb-t (a .end) st h)
+  turn-done l h = rw (le-leb (a .end) st h)
 
   fill-is : (l : List Record) (e : ℕ) → fillTurn (tables l) d a (cursor b l st z) e
       ≡ onward (inserted (tables l) d (lastLink b) (recordFor (newRecord (a .ops .0) st e 0) (firstSlot l))) (λ k. record { prev = k; at = link (firstSlot l); start = e; changed = 1 })
@@ -80,7 +74,7 @@ module _ (s : State) (d : ℕ) (x : Domain) (a : AccessRights) (st : ℕ) (z : B
     pub turn-last : turn Add (tables []) d a (cursor b [] st z)
         ≡ onward (inserted (tables []) d (lastLink b) (recordFor (newRecord (a .ops .0) st (a .end) 0) (firstSlot []))) (λ k. record { prev = k; at = link (firstSlot []); start = a .end; changed = 1 })
     unfolding addTurn cursor
-    turn-last = pick-f _ _ _ (leb-f (a .end) st todo) ∙ fill-is [] (a .end)
+    turn-last = pick-f _ _ _ (lt-leb (a .end) st todo) ∙ fill-is [] (a .end)
 
     module _ (q : Record) (l : List Record) (h : Fits s d x (b ++ q ∷ l) p) where
       abbrev t : Tables
@@ -95,7 +89,7 @@ module _ (s : State) (d : ℕ) (x : Domain) (a : AccessRights) (st : ℕ) (z : B
       turn-row : turn Add t d a c ≡ addAt t d a c row
       unfolding addTurn cursor
       turn-row =
-          rw (leb-f (a .end) st todo, eqb-f (suc (q .slot)) 0 (λ k. omega arith)) (ap (λ (i : ℕ). addAt t d a c (recordAt t i)) (slot-of (q .slot)) ∙ ap (addAt t d a c) (row-here s d x b l q p h))
+          rw (lt-leb (a .end) st todo, ne-eqb (suc (q .slot)) 0 (λ k. omega arith)) (ap (λ (i : ℕ). addAt t d a c (recordAt t i)) (slot-of (q .slot)) ∙ ap (addAt t d a c) (row-here s d x b l q p h))
 
       -- a gap before q
       pub turn-gap : st < q .start → turn Add t d a c
@@ -118,7 +112,7 @@ module _ (s : State) (d : ℕ) (x : Domain) (a : AccessRights) (st : ℕ) (z : B
         -- the range starts with q, and ends inside it
         pub turn-trim : a .end < q .end → turn Add t d a c ≡ onward (split t (q .slot) (a .end)) (λ k. c)
         unfolding cutEnd cursor
-        turn-trim m = turn-row ∙ at-start t d a c row same (omega arith) ∙ pick-t _ _ _ (ltb-t (a .end) (q .end) m) ∙ ap (λ (i : ℕ). onward (split t i (a .end)) (λ k. c)) (slot-of (q .slot))
+        turn-trim m = turn-row ∙ at-start t d a c row same (omega arith) ∙ pick-t _ _ _ (lt-ltb (a .end) (q .end) m) ∙ ap (λ (i : ℕ). onward (split t i (a .end)) (λ k. c)) (slot-of (q .slot))
 
         pub turn-raise : q .end ≤ a .end → Raisable (q .counts)
             → turn Add t d a c ≡ to (Going (behind (raisedRecord (a .ops .0) q) l (q .end) (z || changes (q .counts) (raise (a .ops .0) (q .counts))))) (tables (raisedRecord (a .ops .0) q ∷ l))
@@ -128,7 +122,7 @@ module _ (s : State) (d : ℕ) (x : Domain) (a : AccessRights) (st : ℕ) (z : B
             let next : Region → Turn = λ y. to (Going (nextOf c (link (firstSlot l)) (q .end) (changesB row y))) (withRecord t (slotTo (suc (q .slot))) y) in
             turn-row
             ∙ at-start t d a c row same (omega arith)
-            ∙ pick-f _ _ _ (ltb-f (a .end) (q .end) m)
+            ∙ pick-f _ _ _ (le-ltb (a .end) (q .end) m)
             ∙ ap next (raised-is (a .ops .0) q (firstSlot l) u)
             ∙ ap (λ (i : ℕ). to (Going (nextOf c (link (firstSlot l)) (q .end) (changesB row (recordFor r (firstSlot l))))) (withRecord t i (recordFor r (firstSlot l)))) (slot-of (q .slot))
             ∙ ap (λ (u : Tables). to (Going (nextOf c (link (firstSlot l)) (q .end) (changesB row (recordFor r (firstSlot l))))) u) (changed-here s d x b l q p h r refl)

@@ -9,14 +9,15 @@ use mathlib.Core.List.{List, [], _∷_, _++_}
 use native.Mathlib.Omega.{arith}
 use native.Mathlib.Nat.{le-refl}
 use lib.ListN.{length}
+use Rattle.base.specs.Cases.{lt, ge, cmp}
 use Rattle.model.specs.Lists.{Each}
-use Rattle.model.specs.Outcome.{_>>=_, noTracker}
+use Rattle.model.specs.Outcome.{_>>=_}
+use Rattle.refusals.specs.Refusals.{noTracker}
 use Rattle.model.specs.State.{State, Record, Pool, Domain}
 use Rattle.model.specs.Pool.{allocate}
 use Rattle.model.specs.Layout.{link}
 use Rattle.model.specs.Tracker.{raise, changes, withEnd, addRegion}
 use Rattle.model.specs.Sound.{Rising}
-use Rattle.laws.specs.Cases.{lt, ge, cmp}
 use Rattle.laws.specs.Words.SameTrackers.{firstSlot}
 use Rattle.laws.specs.Tracker.Pools.{uses-append}
 use Rattle.laws.specs.Tracker.Span.{weaken-rising}

@@ -3,34 +3,35 @@
 -- Invariant: every slot is in at most one tracker, once. `lastLink b` is the link of the record before, 0 where the domain itself comes before.
 use mathlib.Core.Path.{_≡_, refl, sym, ap, subst, _∙_}
 use mathlib.Core.Logic.{_≢_}
-use Prim.Native.Nat.{ℕ, zero, suc, _≤_, _<_}
+use Prim.Native.Nat.{ℕ, suc, _≤_, _<_}
 use mathlib.Core.Option.{Option, none, some}
 use mathlib.Core.List.{List, [], _∷_, _++_, append-assoc}
 use native.Mathlib.Omega.{arith}
 use lib.Dec.{eqb}
-use lib.ListN.{length, set}
-use lib.Seq.{getD-set-same, getD-set-other}
+use lib.ListN.{length}
+use lib.Seq.{getD-set-same, getD-set-other, set-comm}
+use borrow.Author.Tests.{ne-eqb}
+use Rattle.base.specs.Cases.{lt, ge, cmp, holds, fails, test}
 use Rattle.model.specs.Lists.{In}
 use Rattle.model.specs.State as state
 use Rattle.model.specs.State.{State, Record, putDomain, withTracker}
 use Rattle.model.specs.Layout.{link}
 use Rattle.model.specs.Sound.{recordUses}
-use Rattle.laws.specs.Cases.{lt, ge, cmp, eqb-f, holds, fails, test}
 use Rattle.laws.specs.Stack.{one}
-use Rattle.laws.specs.Words.SameTables.{in-below}
 use Rattle.laws.specs.Words.SameTrackers.{uses, firstSlot, owned}
 use Rattle.laws.specs.Tracker.Pools.{uses-append}
+use Rattle.laws.specs.Tree.Slots.{in-length}
 use Rattle.tables.specs.declared.DomainHead.{DomainHead}
 use Rattle.tables.specs.declared.Region.{Region}
 use Rattle.tables.specs.Tables.{Tables, Arena, noRecord, headAt, recordAt, withDomains, withHead, withRecords, withRecord, withRecordPool}
 use Rattle.tracker_records.specs.Links as links
 use Rattle.tables.specs.Links.{slotTo}
-use Rattle.tracker_records.specs.Links.{withNext}
+use Rattle.tracker_records.specs.Links.{withNext, withFirst}
 use Rattle.decoded.specs.Rows.{getD-up}
 use Rattle.decoded.specs.Tables.{recordFor, headFor, recordIn, recordsFor, tablesOf}
 use Rattle.decoded.specs.Tracker.Trackers.{record-read}
 use Rattle.decoded.specs.Slots.Domains.{head-read}
-use Rattle.refine.specs.Tracker.TrackerSteps.{withFirst, domainsWith, record-changed, record-added, record-removed, front-added, front-removed}
+use Rattle.refine.specs.Tracker.TrackerSteps.{domainsWith, record-changed, record-added, record-removed, front-added, front-removed}
 
 -- ---- the record before
 
@@ -62,17 +63,10 @@ slot-of i = omega arith
 
 -- ---- tables
 
-set-swap : {A : Type 0} (l : List A) (i j : ℕ) (a b : A) → i ≢ j → set (set l i a) j b ≡ set (set l j b) i a
-set-swap [] i j a b h = refl
-set-swap (x ∷ l) zero zero a b h = absurd (h refl)
-set-swap (x ∷ l) zero (suc j) a b h = refl
-set-swap (x ∷ l) (suc i) zero a b h = refl
-set-swap (x ∷ l) (suc i) (suc j) a b h = ap (λ (m : List _). x ∷ m) (set-swap l i j a b (λ e. h (ap suc e)))
-
 module _ (t : Tables) where
   rows-swap : (i j : ℕ) (a b : Region) → i ≢ j → withRecord (withRecord t i a) j b ≡ withRecord (withRecord t j b) i a
   unfolding withRecord withRecords
-  rows-swap i j a b h = ap (withRecords t) (set-swap (t .records) i j a b h)
+  rows-swap i j a b h = ap (withRecords t) (set-comm (t .records) i j a b h)
 
   row-other : (i j : ℕ) (a : Region) → j ≢ i → recordAt (withRecord t i a) j ≡ recordAt t j
   unfolding recordAt withRecord withRecords
@@ -92,7 +86,7 @@ module _ (t : Tables) where
 
   next-behind : (d i k : ℕ) → withNext t d (suc i) k ≡ withRecord t i (links.withEnd (recordAt t i) (recordAt t i .end) k)
   unfolding withNext
-  next-behind d i k = rw (eqb-f (suc i) 0 (λ e. omega arith)) (ap (λ (j : ℕ). withRecord t j (links.withEnd (recordAt t j) (recordAt t j .end) k)) (slot-of i))
+  next-behind d i k = rw (ne-eqb (suc i) 0 (λ e. omega arith)) (ap (λ (j : ℕ). withRecord t j (links.withEnd (recordAt t j) (recordAt t j .end) k)) (slot-of i))
 
   -- the pool is another part
   pub row-pool : (i : ℕ) (a : Region) (p : Arena) → withRecordPool (withRecord t i a) p ≡ withRecord (withRecordPool t p) i a
@@ -151,11 +145,11 @@ module _ (s : State) (long : length (s .domains) ≡ s .sizes .domains) (d : ℕ
   -- a record of the new tracker
   inside : (l b a : List Record) (q : Record) → New l → l ≡ b ++ q ∷ a → q .slot < s .sizes .records
   inside l b a q new e =
-      slot-inside (s .sizes .records) (domainsWith s d x l) new d (withTracker l x) (getD-set-same (s .domains) d (some (withTracker l x)) none (in-below (s .domains) d x at)) b a q e
+      slot-inside (s .sizes .records) (domainsWith s d x l) new d (withTracker l x) (getD-set-same (s .domains) d (some (withTracker l x)) none (in-length (s .domains) d x at)) b a q e
 
   apart : (l b a : List Record) (q r : Record) → New l → l ≡ b ++ q ∷ r ∷ a → q .slot ≢ r .slot
   apart l b a q r new e =
-      slot-apart (s .sizes .records) (domainsWith s d x l) new d (withTracker l x) (getD-set-same (s .domains) d (some (withTracker l x)) none (in-below (s .domains) d x at)) b a q r e
+      slot-apart (s .sizes .records) (domainsWith s d x l) new d (withTracker l x) (getD-set-same (s .domains) d (some (withTracker l x)) none (in-length (s .domains) d x at)) b a q r e
 
   -- ---- one record more
 

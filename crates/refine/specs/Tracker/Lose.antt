@@ -10,7 +10,7 @@ use Rattle.model.specs.Tracker as tracker
 use Rattle.model.specs.Tracker.{lose}
 use Rattle.model.specs.Sound.{Rising}
 use Rattle.laws.specs.Answers.{answer}
-use Rattle.laws.specs.Tracker.Pools.{stay}
+use Rattle.laws.specs.Tracker.Pools.{moved-none}
 use Rattle.laws.specs.Tracker.Slots.{remove-moves}
 use Rattle.region.specs.declared.AccessRights.{AccessRights}
 use Rattle.region.specs.declared.Way.the-variants.{Remove}
@@ -29,4 +29,4 @@ remove-refines s d x a h o k =
     let l = x .tracker in
     let p = s .recordPool in
     walked-merged s d x a h Remove (tracker.removeRegion (a .ops .0) (a .start) (a .end) l p) (answer (remove-moves (a .ops .0) (a .start) (a .end) l p))
-    (lose-walks s d x a k _ l p (held-moved s d x h p l (stay p l)) o (omega (arith, tracker-fits s d x h)))
+    (lose-walks s d x a k _ l p (held-moved s d x h p l (moved-none p l)) o (omega (arith, tracker-fits s d x h)))

@@ -8,7 +8,8 @@ use mathlib.Core.List.{List, [], _∷_, _++_, append-assoc}
 use native.Mathlib.Omega.{arith}
 use native.Mathlib.Nat.{le-refl}
 use lib.Dec.{eqb}
-use Rattle.model.specs.Outcome.{Outcome, ok, _>>=_, noTracker}
+use Rattle.model.specs.Outcome.{Outcome, ok, _>>=_}
+use Rattle.refusals.specs.Refusals.{noTracker}
 use Rattle.model.specs.State.{Record, Pool}
 use Rattle.model.specs.Pool.{allocate, free}
 use Rattle.model.specs.Tracker.{Walk, lower, changes, withEnd, withCounts, cutBefore, cutAfter, meets, keepOrDrop, removeFrom, removeRegion}

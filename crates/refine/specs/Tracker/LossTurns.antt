@@ -6,13 +6,13 @@ use mathlib.Core.Bool.{Bool, true, false, _||_, or-false}
 use mathlib.Core.List.{List, [], _∷_, _++_}
 use native.Mathlib.Omega.{arith}
 use lib.Dec.{eqb, ltb}
+use borrow.Author.Tests.{lt-ltb, le-ltb, ne-eqb, le-leb, lt-leb}
+use Rattle.base.specs.Cases.{pick, pick-t, pick-f}
 use Rattle.model.specs.Lists.{oneIf}
 use Rattle.model.specs.State.{State, Record, Pool, Domain}
 use Rattle.model.specs.Layout.{link}
 use Rattle.model.specs.Tracker.{lower}
-use Rattle.laws.specs.Cases.{ltb-t, ltb-f, eqb-f}
 use Rattle.laws.specs.Words.SameTrackers.{firstSlot}
-use Rattle.words.specs.Cases.{pick}
 use Rattle.tables.specs.declared.Region.{Region}
 use Rattle.tables.specs.Tables.{Tables, recordAt, withRecord}
 use Rattle.region.specs.declared.AccessRights.{AccessRights}
@@ -28,27 +28,26 @@ use Rattle.refine.specs.Tracker.Linked.{slot-of, lastLink}
 use Rattle.refine.specs.Tracker.RecordSteps.{tracked}
 use Rattle.refine.specs.Tracker.LossSteps.{loweredRecord, lowers}
 use Rattle.refine.specs.Tracker.TrackerCounts.{lowered-is, changes-is, noted-is}
-use Rattle.refine.specs.Tracker.Walking.{leb-t, leb-f, cursor, Fits, row-here, changed-here}
+use Rattle.refine.specs.Tracker.Walking.{cursor, Fits, row-here, changed-here}
 use Rattle.refine.specs.Tracker.Walks.{behind}
-use Rattle.refine.specs.Tracker.GainTurns.{pick-t, pick-f}
 
 -- the cases, for a record with its row
 module _ (t : Tables) (d : ℕ) (a : AccessRights) (c : Cursor) (q : Region) where
   at-beyond : a .end ≤ q .start → removeAt t d a c q ≡ over c t
   unfolding removeAt
-  at-beyond h = pick-t _ _ _ (leb-t (a .end) (q .start) h)
+  at-beyond h = pick-t _ _ _ (le-leb (a .end) (q .start) h)
 
   at-pass : q .start < a .end → q .end ≤ c .start → removeAt t d a c q ≡ to (Going (nextOf c (q .next) (c .start) false)) t
   unfolding removeAt
-  at-pass h k = pick-f _ _ _ (leb-f (a .end) (q .start) h) ∙ pick-t _ _ _ (leb-t (q .end) (c .start) k)
+  at-pass h k = pick-f _ _ _ (lt-leb (a .end) (q .start) h) ∙ pick-t _ _ _ (le-leb (q .end) (c .start) k)
 
   at-cut : q .start < a .end → q .start < c .start → c .start < q .end → removeAt t d a c q ≡ cutStart t c
   unfolding removeAt
-  at-cut h k m = pick-f _ _ _ (leb-f (a .end) (q .start) h) ∙ pick-f _ _ _ (leb-f (q .end) (c .start) m) ∙ pick-t _ _ _ (ltb-t (q .start) (c .start) k)
+  at-cut h k m = pick-f _ _ _ (lt-leb (a .end) (q .start) h) ∙ pick-f _ _ _ (lt-leb (q .end) (c .start) m) ∙ pick-t _ _ _ (lt-ltb (q .start) (c .start) k)
 
   at-first : q .start < a .end → c .start ≤ q .start → c .start < q .end → removeAt t d a c q ≡ pick (ltb (a .end) (q .end)) (cutEnd t c (a .end)) (lowerTurn t d a c q)
   unfolding removeAt
-  at-first h k m = pick-f _ _ _ (leb-f (a .end) (q .start) h) ∙ pick-f _ _ _ (leb-f (q .end) (c .start) m) ∙ pick-f _ _ _ (ltb-f (q .start) (c .start) k)
+  at-first h k m = pick-f _ _ _ (lt-leb (a .end) (q .start) h) ∙ pick-f _ _ _ (lt-leb (q .end) (c .start) m) ∙ pick-f _ _ _ (le-ltb (q .start) (c .start) k)
 
 module _ (s : State) (d : ℕ) (x : Domain) (a : AccessRights) (st : ℕ) (z : Bool) (b : List Record) (p : Pool) where
   abbrev tables : List Record → Tables
@@ -71,7 +70,7 @@ module _ (s : State) (d : ℕ) (x : Domain) (a : AccessRights) (st : ℕ) (z : B
 
     turn-row : turn Remove t d a c ≡ removeAt t d a c row
     unfolding removeTurn cursor
-    turn-row = rw (eqb-f (suc (q .slot)) 0 (λ k. omega arith)) (ap (λ (i : ℕ). removeAt t d a c (recordAt t i)) (slot-of (q .slot)) ∙ ap (removeAt t d a c) (row-here s d x b l q p h))
+    turn-row = rw (ne-eqb (suc (q .slot)) 0 (λ k. omega arith)) (ap (λ (i : ℕ). removeAt t d a c (recordAt t i)) (slot-of (q .slot)) ∙ ap (removeAt t d a c) (row-here s d x b l q p h))
 
     -- q lies beyond the range
     pub turn-beyond : a .end ≤ q .start → turn Remove t d a c ≡ over c t
@@ -92,7 +91,7 @@ module _ (s : State) (d : ℕ) (x : Domain) (a : AccessRights) (st : ℕ) (z : B
         -- the range ends inside q
         pub turn-trim : a .end < q .end → turn Remove t d a c ≡ onward (split t (q .slot) (a .end)) (λ k. c)
         unfolding cutEnd cursor
-        turn-trim m = turn-row ∙ at-first t d a c row near first (omega arith) ∙ pick-t _ _ _ (ltb-t (a .end) (q .end) m) ∙ ap (λ (i : ℕ). onward (split t i (a .end)) (λ k. c)) (slot-of (q .slot))
+        turn-trim m = turn-row ∙ at-first t d a c row near first (omega arith) ∙ pick-t _ _ _ (lt-ltb (a .end) (q .end) m) ∙ ap (λ (i : ℕ). onward (split t i (a .end)) (λ k. c)) (slot-of (q .slot))
 
         -- the range holds q
         module _ (m : q .end ≤ a .end) where
@@ -117,7 +116,7 @@ module _ (s : State) (d : ℕ) (x : Domain) (a : AccessRights) (st : ℕ) (z : B
           turn-lower =
               turn-row
               ∙ at-first t d a c row near first (omega arith)
-              ∙ pick-f _ _ _ (ltb-f (a .end) (q .end) m)
+              ∙ pick-f _ _ _ (le-ltb (a .end) (q .end) m)
               ∙ ap (λ (y : Region). next y (changesB row y)) (lowered-is (a .ops .0) q (firstSlot l))
               ∙ ap (next (recordFor r (firstSlot l))) (changes-is q r (firstSlot l) (firstSlot l))
 

@@ -9,12 +9,12 @@ use native.Mathlib.Omega.{arith}
 use native.Mathlib.Nat.{le-refl}
 use lib.Dec.{eqb}
 use lib.ListN.{length}
+use Rattle.base.specs.Cases.{lt, ge, cmp, holds, fails, test}
 use Rattle.model.specs.Outcome.{_>>=_}
 use Rattle.model.specs.State.{State, Record, Pool, Domain}
 use Rattle.model.specs.Pool.{free}
 use Rattle.model.specs.Tracker.{lower, withEnd, removeRegion}
 use Rattle.model.specs.Sound.{Rising}
-use Rattle.laws.specs.Cases.{lt, ge, cmp, holds, fails, test}
 use Rattle.laws.specs.Words.SameTrackers.{uses}
 use Rattle.laws.specs.Tracker.Pools.{uses-append}
 use Rattle.laws.specs.Tracker.Span.{weaken-rising}

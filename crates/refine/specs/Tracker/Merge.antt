@@ -8,15 +8,15 @@ use mathlib.Core.List.{List, [], _∷_, _++_}
 use native.Mathlib.Omega.{arith}
 use lib.Dec.{eqb}
 use lib.ListN.{length}
+use borrow.Author.Tests.{ne-eqb}
+use Rattle.base.specs.Cases.{holds, fails, test, pick}
 use Rattle.model.specs.Outcome.{Outcome, ok, _>>=_}
 use Rattle.model.specs.State.{State, Record, Pool, Domain}
 use Rattle.model.specs.Pool.{free}
 use Rattle.model.specs.Layout.{link}
 use Rattle.model.specs.Tracker.{Walk, withEnd, mergeable, mergeInto, coalesce}
-use Rattle.laws.specs.Cases.{eqb-f, holds, fails, test}
 use Rattle.laws.specs.Words.SameTrackers.{uses, firstSlot}
 use Rattle.laws.specs.Tracker.Pools.{uses-append}
-use Rattle.words.specs.Cases.{pick}
 use Rattle.tables.specs.declared.Region.{Region}
 use Rattle.tables.specs.Tables.{Tables, recordAt, withRecord}
 use Rattle.region.specs.declared.AccessRights.{AccessRights}
@@ -76,7 +76,7 @@ module _ (s : State) (d : ℕ) (x : Domain) (a : AccessRights) (st : ℕ) (z : B
         ap (λ (k : ℕ). g k (recordAt t (slotTo k))) e
         ∙ ap (λ (i : ℕ). g (suc (q .slot)) (recordAt t i)) (slot-of (q .slot))
         ∙ ap (g (suc (q .slot))) (row-here s d x b l q p h)
-        ∙ rw (eqb-f (suc (q .slot)) 0 (λ k. omega arith))
+        ∙ rw (ne-eqb (suc (q .slot)) 0 (λ k. omega arith))
 
     turn-end : Fits s d x (b ++ q ∷ []) p → turn Merge (tables (q ∷ [])) d a (cursor b (q ∷ []) st z) ≡ over (cursor b (q ∷ []) st z) (tables (q ∷ []))
     unfolding cursor
@@ -91,7 +91,7 @@ module _ (s : State) (d : ℕ) (x : Domain) (a : AccessRights) (st : ℕ) (z : B
           let t = tables (q ∷ n ∷ l) in
           let c = cursor b (q ∷ n ∷ l) st z in
           turn-row (n ∷ l) h c refl
-          ∙ rw (eqb-f (suc (n .slot)) 0 (λ k. omega arith))
+          ∙ rw (ne-eqb (suc (n .slot)) 0 (λ k. omega arith))
           (ap (λ (i : ℕ). mergeAt t c (recordFor q (some (n .slot))) (recordAt t i)) (slot-of (n .slot)) ∙ ap (mergeAt t c (recordFor q (some (n .slot)))) (row-after-here s d x b l q n p h))
 
       turn-in : mergeable q n ≡ true

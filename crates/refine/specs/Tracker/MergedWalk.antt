@@ -3,19 +3,19 @@
 use mathlib.Core.Path.{_≡_, refl, sym, ap, _∙_}
 use Prim.Native.Nat.{ℕ, _+_, _-_, _*_, _≤_}
 use mathlib.Core.Bool.{Bool, false, or-false}
-use mathlib.Core.List.{List, [], _∷_, map}
+use mathlib.Core.List.{List, [], map}
 use native.Mathlib.Omega.{arith}
 use lib.Dec.{eqb}
 use lib.ListN.{length, length-map}
-use Rattle.model.specs.Lists.{oneIf, count}
+use Rattle.model.specs.Lists.{oneIf, countIf}
 use Rattle.model.specs.Outcome.{Outcome, ok, _>>=_}
 use Rattle.model.specs.State.{State, Record, Pool, Domain, withTracker}
 use Rattle.model.specs.Layout.{link}
 use Rattle.model.specs.Tracker.{Walk, coalesce, merged}
 use Rattle.model.specs.Sound.{OnceEach, recordUses}
 use Rattle.laws.specs.Accepted.{All, all-ok}
-use Rattle.laws.specs.Words.SameTrackers.{uses, firstSlot, owned}
-use Rattle.laws.specs.Tracker.Pools.{Moved, stay}
+use Rattle.laws.specs.Words.SameTrackers.{uses, firstSlot, owned, slots-uses}
+use Rattle.laws.specs.Tracker.Pools.{Moved, moved-none}
 use Rattle.answers.specs.Answers.{andThen}
 use Rattle.region.specs.declared.AccessRights.{AccessRights}
 use Rattle.region.specs.declared.Way.{Way}
@@ -33,17 +33,13 @@ use Rattle.refine.specs.Tracker.Merge.{joining, coalesce-walks}
 
 -- ---- how long a tracker is
 
-slots-counted : (i : ℕ) (l : List Record) → count (eqb i) (map (λ (q : Record). q .slot) l) ≡ uses i l
-slots-counted i [] = refl
-slots-counted i (q ∷ l) = ap (λ (k : ℕ). oneIf (eqb i (q .slot)) + k) (slots-counted i l)
-
 -- at most as long as there are slots
 pub tracker-fits : (s : State) (d : ℕ) (x : Domain) → Held s d x → length (x .tracker) ≤ s .sizes .records
 tracker-fits s d x h =
     let l = x .tracker in
     let ks = map (λ (q : Record). q .slot) l in
-    let others : ℕ → ℕ = λ i. recordUses (s .domains) i - uses i l + count (eqb i) (s .recordPool .free) in
-    let once : OnceEach (s .sizes .records) others ks = λ i. omega (arith, slots-counted i l, owned (s .domains) d x (h .at) i .0, h .sound .once i) in
+    let others : ℕ → ℕ = λ i. recordUses (s .domains) i - uses i l + countIf (eqb i) (s .recordPool .free) in
+    let once : OnceEach (s .sizes .records) others ks = λ i. omega (arith, slots-uses i l, owned (s .domains) d x (h .at) i .0, h .sound .once i) in
     omega (arith, free-fits (s .sizes .records) others ks once, length-map l (λ (q : Record). q .slot))
 
 -- ---- a walk from the first record on
@@ -95,7 +91,7 @@ module _ (s : State) (d : ℕ) (x : Domain) (a : AccessRights) where
   -- a walk that agrees with the model's m, and the merge
   module _ (h : Held s d x) (w : Way) (m : Outcome Walk) (moves : All (λ y. Moved (s .recordPool) (y .pool) (x .tracker) (y .records)) m) where
     start-fits : Fits s d x (x .tracker) (s .recordPool)
-    start-fits = held-moved s d x h (s .recordPool) (x .tracker) (stay (s .recordPool) (x .tracker))
+    start-fits = held-moved s d x h (s .recordPool) (x .tracker) (moved-none (s .recordPool) (x .tracker))
 
     first-walk : Walks s d x a w (3 * s .sizes .records + 3) (a .start) false [] (x .tracker) (s .recordPool) m → Agrees (turns.walked w d a 0 (tablesOf s)) (m >>= finish s d x false [])
     first-walk k =

@@ -7,8 +7,9 @@ use mathlib.Core.List.{List, [], _∷_, _++_, append-assoc}
 use native.Mathlib.Omega.{arith}
 use lib.Dec.{eqb}
 use lib.ListN.{getD, set}
+use Rattle.base.specs.Cases.{holds, fails, test}
 use Rattle.model.specs.Lists.{oneIf}
-use Rattle.model.specs.Outcome as outcome
+use Rattle.refusals.specs.Refusals.{spent}
 use Rattle.model.specs.Outcome.{ok, refuse, _>>=_, _>>_, require}
 use Rattle.model.specs.State as state
 use Rattle.model.specs.State.{State, Record, Pool, Domain, withTracker}
@@ -16,10 +17,9 @@ use Rattle.model.specs.Pool.{free}
 use Rattle.model.specs.Layout.{link}
 use Rattle.model.specs.Sound.{recordUses}
 use Rattle.laws.specs.Answers.{answer}
-use Rattle.laws.specs.Cases.{holds, fails, test}
 use Rattle.laws.specs.Stack.{one}
 use Rattle.laws.specs.Words.SameTrackers.{uses, firstSlot, owned}
-use Rattle.laws.specs.Tracker.Pools.{Moved, uses-append, stay, frame, free-moves}
+use Rattle.laws.specs.Tracker.Pools.{Moved, uses-append, moved-none, frame, free-moves}
 use Rattle.laws.specs.Keep.Tracked.{uses-set}
 use Rattle.tables.specs.Tables.{Tables, Arena, noRecord, withRecord, withRecordPool}
 use Rattle.arena.specs.Arena as arena
@@ -40,7 +40,7 @@ abbrev given-back : Pool → ℕ → Pool
 given-back p i = record { gens = set (p .gens) i (suc (getD (p .gens) i 0)); free = i ∷ p .free }
 
 module _ (p : Pool) (i : ℕ) where
-  free-spent : eqb (getD (p .gens) i 0) (2 ^ 64 - 1) ≡ true → free i p ≡ refuse outcome.spent
+  free-spent : eqb (getD (p .gens) i 0) (2 ^ 64 - 1) ≡ true → free i p ≡ refuse spent
   unfolding free require _>>_
   free-spent e = rw e
 
@@ -160,7 +160,7 @@ module _ (s : State) (d : ℕ) (x : Domain) (h : Held s d x) where
 
   module _ (b a : List Record) (q p : Record) (same : p .slot ≡ q .slot) (e : x .tracker ≡ b ++ q ∷ a) where
     moves-none : Moved (s .recordPool) (s .recordPool) (x .tracker) (b ++ p ∷ a)
-    moves-none = frame (stay (s .recordPool) []) (λ k. omega (arith, ap (uses k) e, uses-append k b (q ∷ a), uses-append k b (p ∷ a), ap (λ (i : ℕ). oneIf (eqb k i)) same))
+    moves-none = frame (moved-none (s .recordPool) []) (λ k. omega (arith, ap (uses k) e, uses-append k b (q ∷ a), uses-append k b (p ∷ a), ap (λ (i : ℕ). oneIf (eqb k i)) same))
 
     pub changed-is : withRecord (tablesOf s) (p .slot) (recordFor p (firstSlot a)) ≡ tablesOf (tracked s d x (b ++ p ∷ a) (s .recordPool))
     unfolding tracked

@@ -8,8 +8,9 @@ use mathlib.Core.List.{List, [], _∷_, _++_}
 use native.Mathlib.Omega.{arith}
 use lib.ListN.{length, getD, length-set}
 use lib.Seq.{getD-set-same, set-set}
+use borrow.Author.Tests.{lt-ltb}
 use Rattle.model.specs.Lists.{In}
-use Rattle.model.specs.Outcome as outcome
+use Rattle.refusals.specs.declared.Refusal.{Refusal}
 use Rattle.model.specs.Outcome.{Outcome, ok, refuse, _>>=_}
 use Rattle.model.specs.State as state
 use Rattle.model.specs.State.{State, Record, Pool, Domain, putDomain, withTracker}
@@ -18,20 +19,19 @@ use Rattle.model.specs.Tracker.{withEnd}
 use Rattle.model.specs.Sound.{PoolSound, recordUses}
 use Rattle.laws.specs.Accepted.{all-ok, All, accepted}
 use Rattle.laws.specs.Answers.{answer}
-use Rattle.laws.specs.Cases.{ltb-t}
 use Rattle.laws.specs.Stack.{none-beyond, once-at-most}
-use Rattle.laws.specs.Words.SameTables.{in-below}
 use Rattle.laws.specs.Words.SameTrackers.{uses, firstSlot}
 use Rattle.laws.specs.Tracker.Pools.{Moved, uses-append, frame, allocate-moves}
 use Rattle.laws.specs.Keep.Tracked.{uses-set}
+use Rattle.laws.specs.Tree.Slots.{in-length}
 use Rattle.tables.specs.declared.Handle.{Handle}
 use Rattle.tables.specs.declared.Region.{Region}
 use Rattle.tables.specs.Tables.{Tables, recordAt, withRecord, withRecordPool}
 use Rattle.arena.specs.declared.Given.the-variants.{At, Full}
 use Rattle.arena.specs.Arena as arena
 use Rattle.answers.specs.declared.Answer.the-variants.{Refused}
-use Rattle.answers.specs.declared.Refusal.the-variants.{NoTracker}
-use Rattle.answers.specs.Answers.{Step, done, refused}
+use Rattle.refusals.specs.Refusals.{noTracker}
+use Rattle.answers.specs.Answers.{Effect, done, refused}
 use Rattle.tracker_records.specs.Links as links
 use Rattle.tables.specs.Links.{linkTo}
 use Rattle.tracker_records.specs.Links.{withNext, taken, inserted, split}
@@ -79,7 +79,7 @@ module _ (s : State) (d : ℕ) (x : Domain) (h : Held s d x) where
   unfolding tracked
   held-moved p l m = record {
     long = length-set (s .domains) d (some (withTracker l x)) ∙ h .long;
-    at = getD-set-same (s .domains) d (some (withTracker l x)) none (in-below (s .domains) d x (h .at));
+    at = getD-set-same (s .domains) d (some (withTracker l x)) none (in-length (s .domains) d x (h .at));
     few = h .few;
     sound = moved-sound p l m;
   }
@@ -98,11 +98,11 @@ first (i ∷ is) = next i is refl
 abbrev rest : Pool → List ℕ → Pool
 rest p is = record { gens = p .gens; free = is }
 
-allocate-none : (r : outcome.Refusal) (p : Pool) → p .free ≡ [] → allocate r p ≡ refuse r
+allocate-none : (r : Refusal) (p : Pool) → p .free ≡ [] → allocate r p ≡ refuse r
 unfolding allocate
 allocate-none r p e = rw e
 
-allocate-next : (r : outcome.Refusal) (p : Pool) (i : ℕ) (is : List ℕ) → p .free ≡ i ∷ is → allocate r p ≡ ok (i, rest p is)
+allocate-next : (r : Refusal) (p : Pool) (i : ℕ) (is : List ℕ) → p .free ≡ i ∷ is → allocate r p ≡ ok (i, rest p is)
 unfolding allocate
 allocate-next r p i is e = rw e
 
@@ -115,10 +115,10 @@ abbrev pub from : ℕ → ℕ → Record → Record
 from c i q = record { slot = i; start = c; end = q .end; counts = q .counts }
 
 link-to : (i : ℕ) → i < 1024 → linkTo i ≡ suc i
-link-to i h = rw (ltb-t i (2 ^ 64 - 1) (omega arith)) (omega arith)
+link-to i h = rw (lt-ltb i (2 ^ 64 - 1) (omega arith)) (omega arith)
 
 module _ (t : Tables) where
-  inserted-full : (d k : ℕ) (q : Region) → arena.given (t .recordPool) ≡ Full → inserted t d k q ≡ refused NoTracker (taken t)
+  inserted-full : (d k : ℕ) (q : Region) → arena.given (t .recordPool) ≡ Full → inserted t d k q ≡ refused noTracker (taken t)
   unfolding inserted
   inserted-full d k q e = rw e
 
@@ -127,7 +127,7 @@ module _ (t : Tables) where
   unfolding inserted
   inserted-at d k q h e = rw e
 
-  split-full : (i c : ℕ) → arena.given (t .recordPool) ≡ Full → split t i c ≡ refused NoTracker (taken t)
+  split-full : (i c : ℕ) → arena.given (t .recordPool) ≡ Full → split t i c ≡ refused noTracker (taken t)
   unfolding split
   split-full i c e = rw e
 
@@ -138,23 +138,23 @@ module _ (t : Tables) where
   split-at i c h e = rw e
 
 -- the slot goes into the list
-pub moves-in : (p p′ : Pool) (i : ℕ) (n : Record) (l m : List Record) → allocate outcome.noTracker p ≡ ok (i, p′) → n .slot ≡ i
+pub moves-in : (p p′ : Pool) (i : ℕ) (n : Record) (l m : List Record) → allocate noTracker p ≡ ok (i, p′) → n .slot ≡ i
     → ((k : ℕ) → uses k l + uses k (n ∷ []) ≡ uses k m) → Moved p p′ l m
 moves-in p p′ i n l m e k u = frame (all-ok _ _ (i, p′) (answer (allocate-moves p)) e n k) (λ j. omega (arith, u j))
 
 module _ (s : State) (d : ℕ) (x : Domain) (h : Held s d x) where
   -- a step that takes slot i, and leaves the list f i
-  module _ (f : ℕ → List Record) (y : Step) where
-    taking : (arena.given (tablesOf s .recordPool) ≡ Full → y .answer ≡ Refused NoTracker)
+  module _ (f : ℕ → List Record) (y : Effect) where
+    taking : (arena.given (tablesOf s .recordPool) ≡ Full → y .answer ≡ Refused noTracker)
         → ((i : ℕ) (is : List ℕ) → s .recordPool .free ≡ i ∷ is → Agrees y (ok (suc i, tracked s d x (f i) (rest (s .recordPool) is))))
-        → Agrees y (allocate outcome.noTracker (s .recordPool) >>= λ z. ok (suc (z .0), tracked s d x (f (z .0)) (z .1)))
+        → Agrees y (allocate noTracker (s .recordPool) >>= λ z. ok (suc (z .0), tracked s d x (f (z .0)) (z .1)))
     unfolding _>>=_ tablesOf
     taking out in-use =
         let p = s .recordPool in
         elim (first (p .free)) [
           | nothing e ↦
-              rw (allocate-none outcome.noTracker p e) (out (given-is (s .sizes .records) (recordUses (s .domains)) p (h .sound) outcome.noTracker ∙ rw (allocate-none outcome.noTracker p e)))
-          | next i is e ↦ rw (allocate-next outcome.noTracker p i is e) (in-use i is e)
+              rw (allocate-none noTracker p e) (out (given-is (s .sizes .records) (recordUses (s .domains)) p (h .sound) noTracker ∙ rw (allocate-none noTracker p e)))
+          | next i is e ↦ rw (allocate-next noTracker p i is e) (in-use i is e)
         ]
 
   module _ (i : ℕ) (is : List ℕ) (e : s .recordPool .free ≡ i ∷ is) where
@@ -186,7 +186,7 @@ module _ (s : State) (d : ℕ) (x : Domain) (h : Held s d x) where
         let s₁ = state.withRecordPool (rest (s .recordPool) is) s in
         let r = inSlot i q in
         let more-uses : (j : ℕ) → uses j (x .tracker) + uses j (r ∷ []) ≡ uses j (b ++ r ∷ a) = λ j. omega (arith, ap (uses j) e, uses-append j b a, uses-append j b (r ∷ a)) in
-        let v = moves-in (s .recordPool) (rest (s .recordPool) is) i r (x .tracker) (b ++ r ∷ a) (allocate-next outcome.noTracker (s .recordPool) i is k) refl more-uses in
+        let v = moves-in (s .recordPool) (rest (s .recordPool) is) i r (x .tracker) (b ++ r ∷ a) (allocate-next noTracker (s .recordPool) i is k) refl more-uses in
         inserted-at (tablesOf s) d (lastLink b) (recordFor q (firstSlot a)) _ (given-slot i is k)
         ∙ ap (λ (t : Tables). done (linkTo i) (withNext (withRecord t i (recordFor q (firstSlot a))) d (lastLink b) (linkTo i))) (taken-is i is k)
         ∙ ap (λ (j : ℕ). done j (withNext (withRecord (tablesOf s₁) i (recordFor q (firstSlot a))) d (lastLink b) j)) (link-is i is k)
@@ -194,10 +194,10 @@ module _ (s : State) (d : ℕ) (x : Domain) (h : Held s d x) where
 
     -- q behind the last of b
     pub inserted-is : Agrees (inserted (tablesOf s) d (lastLink b) (recordFor q (firstSlot a)))
-        (allocate outcome.noTracker (s .recordPool) >>= λ z. ok (suc (z .0), tracked s d x (b ++ inSlot (z .0) q ∷ a) (z .1)))
+        (allocate noTracker (s .recordPool) >>= λ z. ok (suc (z .0), tracked s d x (b ++ inSlot (z .0) q ∷ a) (z .1)))
     inserted-is =
         taking (λ i. b ++ inSlot i q ∷ a) (inserted (tablesOf s) d (lastLink b) (recordFor q (firstSlot a)))
-        (λ k. ap (λ (y : Step). y .answer) (inserted-full (tablesOf s) d (lastLink b) (recordFor q (firstSlot a)) k))
+        (λ k. ap (λ (y : Effect). y .answer) (inserted-full (tablesOf s) d (lastLink b) (recordFor q (firstSlot a)) k))
         (λ i is k. agrees-step _ _ (ok (suc i, _)) (inserted-to i is k) (refl, refl))
 
   -- ---- a record cut in two
@@ -210,8 +210,8 @@ module _ (s : State) (d : ℕ) (x : Domain) (h : Held s d x) where
         let s₁ = state.withRecordPool (rest (s .recordPool) is) s in
         let m = b ++ withEnd c q ∷ from c i q ∷ a in
         let more-uses : (j : ℕ) → uses j (x .tracker) + uses j (from c i q ∷ []) ≡ uses j m = λ j. omega (arith, ap (uses j) e, uses-append j b (q ∷ a), uses-append j b (withEnd c q ∷ from c i q ∷ a)) in
-        let v = moves-in (s .recordPool) (rest (s .recordPool) is) i (from c i q) (x .tracker) m (allocate-next outcome.noTracker (s .recordPool) i is k) refl more-uses in
-        let cut : Tables → Region → ℕ → Step = λ t z j. done j (withRecord (withRecord t i (links.withStart z c)) (q .slot) (links.withEnd z c j)) in
+        let v = moves-in (s .recordPool) (rest (s .recordPool) is) i (from c i q) (x .tracker) m (allocate-next noTracker (s .recordPool) i is k) refl more-uses in
+        let cut : Tables → Region → ℕ → Effect = λ t z j. done j (withRecord (withRecord t i (links.withStart z c)) (q .slot) (links.withEnd z c j)) in
         let w = spread-now i is k in
         split-at (tablesOf s) (q .slot) c _ (given-slot i is k)
         ∙ ap (λ (t : Tables). cut t (recordAt t (q .slot)) (linkTo i)) (taken-is i is k)
@@ -220,8 +220,8 @@ module _ (s : State) (d : ℕ) (x : Domain) (h : Held s d x) where
         ∙ ap (done (suc i)) (cut-in-two s₁ (h .long) d x (h .at) w b a q (withEnd c q) refl e (from c i q) (spread-in i is k m v))
 
     pub split-is : Agrees (split (tablesOf s) (q .slot) c)
-        (allocate outcome.noTracker (s .recordPool) >>= λ z. ok (suc (z .0), tracked s d x (b ++ withEnd c q ∷ from c (z .0) q ∷ a) (z .1)))
+        (allocate noTracker (s .recordPool) >>= λ z. ok (suc (z .0), tracked s d x (b ++ withEnd c q ∷ from c (z .0) q ∷ a) (z .1)))
     split-is =
         taking (λ i. b ++ withEnd c q ∷ from c i q ∷ a) (split (tablesOf s) (q .slot) c)
-        (λ k. ap (λ (y : Step). y .answer) (split-full (tablesOf s) (q .slot) c k))
+        (λ k. ap (λ (y : Effect). y .answer) (split-full (tablesOf s) (q .slot) c k))
         (λ i is k. agrees-step _ _ (ok (suc i, _)) (split-to i is k) (refl, refl))

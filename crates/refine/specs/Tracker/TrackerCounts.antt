@@ -5,19 +5,22 @@ use mathlib.Core.Bool.{Bool, true, false, not, _&&_, _||_}
 use mathlib.Core.Option.{Option}
 use native.Mathlib.Omega.{arith}
 use lib.Dec.{eqb}
+use borrow.Author.Tests.{le-leb}
+use Rattle.base.specs.Cases.{pick}
+use Rattle.base.specs.Tests.{both}
 use Rattle.rights.specs.Rights as rights
-use Rattle.rights.specs.Rights.{has, READ, WRITE, EXEC, SUPER, UNCACHEABLE, countersOf}
-use Rattle.model.specs.Lists.{if_then_else_, oneIf, any}
+use Rattle.rights.specs.Counters as counters
+use Rattle.rights.specs.Rights.{has, READ, WRITE, EXEC, SUPER, UNCACHEABLE}
+use Rattle.rights.specs.Counters.{countersOf}
+use Rattle.model.specs.Lists.{if_then_else_, oneIf, exists}
 use Rattle.model.specs.State.{Counts, Record}
 use Rattle.model.specs.Fields.{Field, fields, get, passes, counter}
 use Rattle.model.specs.Layout.{link}
 use Rattle.model.specs.Tracker.{lower, crosses, changes, mergeable, withCounts}
 use Rattle.laws.specs.Stack.{one-at-most}
-use Rattle.words.specs.Cases.{pick, both}
 use Rattle.tables.specs.declared.Region.{Region}
 use Rattle.tracker_records.specs.Counts.{up, made, raised, lowered, crossesB, changesB, mergeableB}
 use Rattle.decoded.specs.Tables.{recordFor}
-use Rattle.refine.specs.Tracker.Walking.{leb-t}
 use Rattle.refine.specs.Tracker.GainSteps.{newRecord, raisedRecord}
 
 -- ---- tests
@@ -26,7 +29,7 @@ pick-if : {A : Type 0} (b : Bool) (x y : A) → pick b x y ≡ if b then x else 
 pick-if true x y = refl
 pick-if false x y = refl
 
-count-one : (b : Bool) → rights.count b ≡ oneIf b
+count-one : (b : Bool) → counters.oneIf b ≡ oneIf b
 count-one true = refl
 count-one false = refl
 
@@ -64,7 +67,7 @@ Raisable k = (f : Field) → get f k < 2 ^ 64 - 1
 
 up-by : (n k : ℕ) → n < 2 ^ 64 - 1 → k ≤ 1 → up n k ≡ n + k
 unfolding up
-up-by n k h l = rw (leb-t k (2 ^ 64 - 1 - n) (omega arith))
+up-by n k h l = rw (le-leb k (2 ^ 64 - 1 - n) (omega arith))
 
 module _ (r : ℕ) (q : Record) (f : Option ℕ) where
   pub raised-is : Raisable (q .counts) → raised r (recordFor q f) ≡ recordFor (raisedRecord r q) f
@@ -94,7 +97,7 @@ unfolding changesB
 changes-is q n f g =
     let cross : Field → Bool = λ c. crossesB (get c (q .counts)) (get c (n .counts)) in
     any-is (cross Field.Reach) (cross Field.Read) (cross Field.Write) (cross Field.Exec) (cross Field.Super)
-    ∙ (λ t. any (λ c. cross-is (get c (q .counts)) (get c (n .counts)) t) fields)
+    ∙ (λ t. exists (λ c. cross-is (get c (q .counts)) (get c (n .counts)) t) fields)
 
 -- the seven tests in the code's order and in the model's
 seven : (t a u b c d e : Bool) → both (both t (both a u)) (both (both b c) (both d e)) ≡ (t && ((a && (b && (c && (d && (e && true))))) && u))

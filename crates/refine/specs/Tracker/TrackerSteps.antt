@@ -12,19 +12,15 @@ use Rattle.model.specs.State as state
 use Rattle.model.specs.State.{State, Record, putDomain, withTracker}
 use Rattle.model.specs.Layout.{link}
 use Rattle.model.specs.Sound.{recordUses}
-use Rattle.laws.specs.Words.SameTables.{in-below}
 use Rattle.laws.specs.Words.SameTrackers.{firstSlot}
-use Rattle.tables.specs.declared.DomainHead.{DomainHead}
+use Rattle.laws.specs.Tree.Slots.{in-length}
 use Rattle.tables.specs.declared.Region.{Region}
 use Rattle.tables.specs.Tables.{Tables, Domain, noDomain, noRecord, putHead, withDomains, withHead, withRecords, withRecord}
+use Rattle.tracker_records.specs.Links.{withFirst}
 use Rattle.decoded.specs.Rows.{set-up, set-table, set-two}
 use Rattle.decoded.specs.Tables.{recordFor, inTrackerFor, recordIn, headFor, domainFor, domainsFor, recordsFor, tablesOf}
 use Rattle.decoded.specs.Tracker.Trackers.{trackerOf, first-same, row-later, row-before, record-unused, record-read, record-same}
 use Rattle.decoded.specs.Slots.Domains.{domain-row}
-
--- a domain's words with another first record
-abbrev pub withFirst : DomainHead → ℕ → DomainHead
-withFirst h k = record { manager = h .manager; cores = h .cores; tracker = k; head = h .head; count = h .count }
 
 -- the domains with tracker l in domain x, slot d
 abbrev pub domainsWith : State → ℕ → state.Domain → List Record → List (Option state.Domain)
@@ -36,7 +32,7 @@ head-same t d = ap (withDomains t) (set-getD (t .domains) d noDomain)
 
 module _ (s : State) (long : length (s .domains) ≡ s .sizes .domains) (d : ℕ) (x : state.Domain) (at : In (s .domains) d x) (l : List Record) where
   here : d < length (s .domains)
-  here = in-below (s .domains) d x at
+  here = in-length (s .domains) d x at
 
   -- x's head names the first record; the rows are those of the new trackers
   tracker-put : tablesOf (putDomain d (withTracker l x) s)
@@ -48,7 +44,7 @@ module _ (s : State) (long : length (s .domains) ≡ s .sizes .domains) (d : ℕ
       let h = withFirst (headFor n x) (link (firstSlot l)) in
       let r = set-table (λ j. domainFor n) (s .domains) (s .sizes .domains) d (some (withTracker l x)) long (omega (arith, here))
       ∙ ap (λ (z : Domain). set (t .domains) d (putHead z h)) (sym (domain-row s long d x at)) in
-      λ i. record { sizes = t .sizes; read = t .read; write = t .write; domainPool = t .domainPool; regionPool = t .regionPool; recordPool = t .recordPool; domains = r i; regions = t .regions; records = recordsFor (s .sizes .records) (domainsWith s d x l); ring = t .ring }
+      λ i. withRecords (withDomains t (r i)) (recordsFor (s .sizes .records) (domainsWith s d x l))
 
   -- with the same first record the head is as it was
   tracker-kept : firstSlot l ≡ firstSlot (x .tracker) → tablesOf (putDomain d (withTracker l x) s) ≡ withRecords (tablesOf s) (recordsFor (s .sizes .records) (domainsWith s d x l))

@@ -3,11 +3,13 @@ use mathlib.Core.Path.{_≡_, refl, sym, ap, _∙_}
 use Prim.Native.Nat.{ℕ, _≤_, _<_}
 use mathlib.Core.Bool.{Bool, true, false, _||_, or-assoc}
 use mathlib.Core.List.{List, [], _∷_, _++_, append-assoc}
-use Rattle.model.specs.Outcome.{Outcome, ok, refuse, _>>=_, Refusal, noTracker}
+use Rattle.model.specs.Outcome.{Outcome, ok, refuse, _>>=_}
+use Rattle.refusals.specs.declared.Refusal.{Refusal}
+use Rattle.refusals.specs.Refusals.{noTracker}
+use borrow.Author.Tests.{lt-ltb, le-ltb}
 use Rattle.model.specs.State.{Record, Pool}
 use Rattle.model.specs.Pool.{allocate}
 use Rattle.model.specs.Tracker.{Walk, withEnd, splitAt, cutBefore, cutAfter, meets}
-use Rattle.laws.specs.Cases.{ltb-t, ltb-f}
 use Rattle.refine.specs.Agrees.{ok-then, bind-assoc}
 use Rattle.refine.specs.Tracker.RecordSteps.{from}
 
@@ -54,27 +56,27 @@ module _ (n : Pool → Outcome Walk) where
 module _ (c : ℕ) (q : Record) (p : Pool) where
   pub before-whole : c ≤ q .start → cutBefore c q p ≡ ok ([], q, p)
   unfolding cutBefore
-  before-whole h = rw (ltb-f (q .start) c h)
+  before-whole h = rw (le-ltb (q .start) c h)
 
   pub before-cut : q .start < c → cutBefore c q p ≡ allocate noTracker p >>= λ z. ok (withEnd c q ∷ [], from c (z .0) q, z .1)
   unfolding cutBefore splitAt _>>=_
-  before-cut h = rw (ltb-t (q .start) c h) (bind-assoc (allocate noTracker p) _ _)
+  before-cut h = rw (lt-ltb (q .start) c h) (bind-assoc (allocate noTracker p) _ _)
 
   pub after-whole : q .end ≤ c → cutAfter c q p ≡ ok (q, [], p)
   unfolding cutAfter
-  after-whole h = rw (ltb-f c (q .end) h)
+  after-whole h = rw (le-ltb c (q .end) h)
 
   pub after-cut : c < q .end → cutAfter c q p ≡ allocate noTracker p >>= λ z. ok (withEnd c q, from c (z .0) q ∷ [], z .1)
   unfolding cutAfter splitAt _>>=_
-  after-cut h = rw (ltb-t c (q .end) h) (bind-assoc (allocate noTracker p) _ _)
+  after-cut h = rw (lt-ltb c (q .end) h) (bind-assoc (allocate noTracker p) _ _)
 
 -- ---- does a record meet the range
 
 pub meets-t : (s e : ℕ) (q : Record) → s < q .end → q .start < e → meets s e q ≡ true
-meets-t s e q a b = rw (ltb-t s (q .end) a, ltb-t (q .start) e b)
+meets-t s e q a b = rw (lt-ltb s (q .end) a, lt-ltb (q .start) e b)
 
 pub meets-below : (s e : ℕ) (q : Record) → q .end ≤ s → meets s e q ≡ false
-meets-below s e q a = rw (ltb-f s (q .end) a)
+meets-below s e q a = rw (le-ltb s (q .end) a)
 
 pub meets-above : (s e : ℕ) (q : Record) → s < q .end → e ≤ q .start → meets s e q ≡ false
-meets-above s e q a b = rw (ltb-t s (q .end) a, ltb-f (q .start) e b)
+meets-above s e q a b = rw (lt-ltb s (q .end) a, le-ltb (q .start) e b)

@@ -2,30 +2,28 @@
 -- still to come. The tables are those of the state with the tracker b ++ l and the record pool p; the cursor has the link of the last record of b and of
 -- the first of l. The walk agrees with the model where it agrees with the model's walk over l, put behind b.
 use mathlib.Core.Path.{_≡_, refl, sym, ap, subst, _∙_}
-use Prim.Native.Nat.{ℕ, suc, _+_, _≤_, _<_}
-use mathlib.Core.Bool.{Bool, true, false, _||_, or-assoc}
+use Prim.Native.Nat.{ℕ, suc, _+_}
+use mathlib.Core.Bool.{Bool, _||_, or-assoc}
 use mathlib.Core.Option.{Option, none}
 use mathlib.Core.List.{List, [], _∷_, _++_, append-assoc}
 use native.Mathlib.Omega.{arith}
-use lib.Dec.{leb, leb→le, le→leb, not-T}
 use lib.ListN.{set}
 use lib.Seq.{set-getD}
 use Rattle.model.specs.Lists.{oneIf, In}
-use Rattle.model.specs.Outcome as outcome
+use Rattle.refusals.specs.Refusals.{noTracker}
 use Rattle.model.specs.Outcome.{Outcome, ok, refuse, _>>=_}
 use Rattle.model.specs.State as state
 use Rattle.model.specs.State.{State, Record, Pool, Domain, withTracker}
 use Rattle.model.specs.Pool.{allocate, free}
 use Rattle.model.specs.Layout.{link}
 use Rattle.model.specs.Tracker.{Walk, withEnd}
-use Rattle.laws.specs.Cases.{is-true, is-false}
 use Rattle.laws.specs.Words.SameTrackers.{uses, firstSlot}
-use Rattle.laws.specs.Tracker.Pools.{Moved, stay, frame}
+use Rattle.laws.specs.Tracker.Pools.{Moved, moved-none, frame}
 use Rattle.tables.specs.declared.DomainHead.{DomainHead}
 use Rattle.tables.specs.Tables.{Tables, recordAt, withRecord}
 use Rattle.answers.specs.declared.Answer.{Answer}
 use Rattle.answers.specs.declared.Answer.the-variants.{Done, Refused}
-use Rattle.answers.specs.Answers.{Step, andThen}
+use Rattle.answers.specs.Answers.{Effect, andThen}
 use Rattle.region.specs.declared.AccessRights.{AccessRights}
 use Rattle.region.specs.declared.Cursor.{Cursor}
 use Rattle.region.specs.declared.Progress.the-variants.{Going, Over}
@@ -40,18 +38,10 @@ use Rattle.refine.specs.Tracker.RecordSteps.{tracked, Held, spread, trac
 use Rattle.refine.specs.Tracker.RecordFrees.{removed-is, joined-is, changed-is}
 use Rattle.refine.specs.Tracker.WalkSteps.{ahead}
 
--- ---- tests
-
-pub leb-t : (m n : ℕ) → m ≤ n → leb m n ≡ true
-leb-t m n h = is-true (le→leb m n h)
-
-pub leb-f : (m n : ℕ) → n < m → leb m n ≡ false
-leb-f m n h = is-false (not-T (leb m n) λ t. let k = leb→le m n t in omega arith)
-
 -- ---- one turn
 
 module _ (w : Way) (d : ℕ) (a : AccessRights) (n : ℕ) where
-  abbrev next : Turn → Step
+  abbrev next : Turn → Effect
   next y = elim (y .answer) [ Going k ↦ walk w d a n k (y .tables) | Over x ↦ record { answer = x; tables = y .tables } ]
 
   walk-next : (c : Cursor) (t : Tables) → walk w d a (suc n) c t ≡ next (turn w t d a c)
@@ -70,11 +60,11 @@ module _ (w : Way) (d : ℕ) (a : AccessRights) (n : ℕ) where
     pub walk-over : (x : Answer) (u : Tables) → turn w t d a c ≡ to (Over x) u → walk w d a (suc n) c t ≡ record { answer = x; tables = u }
     walk-over x u e = walk-next c t ∙ ap next e
 
-    walk-onward : (x : Step) (f : ℕ → Cursor) → turn w t d a c ≡ onward x f → walk w d a (suc n) c t ≡ andThen x (λ v u. walk w d a n (f v) u)
+    walk-onward : (x : Effect) (f : ℕ → Cursor) → turn w t d a c ≡ onward x f → walk w d a (suc n) c t ≡ andThen x (λ v u. walk w d a n (f v) u)
     walk-onward x f e = walk-next c t ∙ ap next e ∙ next-onward (x .answer) (x .tables) f
 
     -- a step, and then the walk from the cursor that its value gives
-    pub turned : {A : Type 0} (x : Step) (f : ℕ → Cursor) (m : Outcome A) (g : A → ℕ × State) (k : A → Outcome (ℕ × State)) → turn w t d a c ≡ onward x f
+    pub turned : {A : Type 0} (x : Effect) (f : ℕ → Cursor) (m : Outcome A) (g : A → ℕ × State) (k : A → Outcome (ℕ × State)) → turn w t d a c ≡ onward x f
         → Agrees x (m >>= λ y. ok (g y)) → ((y : A) → m ≡ ok y → Agrees (walk w d a n (f (g y .0)) (tablesOf (g y .1))) (k y)) → Agrees (walk w d a (suc n) c t) (m >>= k)
     turned x f m g k e h j = agrees-step (walk w d a (suc n) c t) (andThen x (λ v u. walk w d a n (f v) u)) (m >>= k) (walk-onward x f e) (agrees-from x (λ v u. walk w d a n (f v) u) m g k h j)
 
@@ -115,17 +105,17 @@ module _ (s : State) (d : ℕ) (x : Domain) where
   fits-on b l q p h = subst (λ (m : List Record). Fits m p) (sym (append-assoc b (q ∷ []) l)) h
 
   -- a slot is taken, and goes into the list
-  pub fits-in : (l m : List Record) (p : Pool) (y : ℕ × Pool) (q : Record) → Fits l p → allocate outcome.noTracker p ≡ ok y → q .slot ≡ y .0
+  pub fits-in : (l m : List Record) (p : Pool) (y : ℕ × Pool) (q : Record) → Fits l p → allocate noTracker p ≡ ok y → q .slot ≡ y .0
       → ((k : ℕ) → uses k l + uses k (q ∷ []) ≡ uses k m) → Fits m (y .1)
   fits-in l m p y q h e k u = fits-moved l m p (y .1) h (moves-in p (y .1) (y .0) q l m e k u)
 
   -- the same slots
   pub fits-kept : (l m : List Record) (p : Pool) → Fits l p → ((k : ℕ) → uses k l ≡ uses k m) → Fits m p
-  fits-kept l m p h u = fits-moved l m p p h (frame (stay p []) (λ k. omega (arith, u k)))
+  fits-kept l m p h u = fits-moved l m p p h (frame (moved-none p []) (λ k. omega (arith, u k)))
 
   module _ (l : List Record) (p : Pool) (h : Fits l p) where
     -- a call that puts back over it
-    again : {A : Type 0} (m : Outcome A) (v : A → ℕ) (f : A → List Record) (g : A → Pool) (y : Step)
+    again : {A : Type 0} (m : Outcome A) (v : A → ℕ) (f : A → List Record) (g : A → Pool) (y : Effect)
         → Agrees y (m >>= λ z. ok (v z, tracked (tracked s d x l p) d (withTracker l x) (f z) (g z))) → Agrees y (m >>= λ z. ok (v z, tracked s d x (f z) (g z)))
     again m v f g y k = agrees-call y _ _ (bind-same m _ _ (λ z. ap (λ (u : State). ok (v z, u)) (sym (tracked-again s d x l (f z) p (g z))))) k
 
@@ -135,10 +125,10 @@ module _ (s : State) (d : ℕ) (x : Domain) where
 
   module _ (b a : List Record) (p : Pool) (h : Fits (b ++ a) p) where
     pub inserted-here : (q : Record) → Agrees (inserted (tablesOf (tracked s d x (b ++ a) p)) d (lastLink b) (recordFor q (firstSlot a)))
-        (allocate outcome.noTracker p >>= λ z. ok (suc (z .0), tracked s d x (b ++ inSlot (z .0) q ∷ a) (z .1)))
+        (allocate noTracker p >>= λ z. ok (suc (z .0), tracked s d x (b ++ inSlot (z .0) q ∷ a) (z .1)))
     unfolding tracked
     inserted-here q =
-        again (b ++ a) p h (allocate outcome.noTracker p) (λ z. suc (z .0)) (λ z. b ++ inSlot (z .0) q ∷ a) (λ z. z .1) _
+        again (b ++ a) p h (allocate noTracker p) (λ z. suc (z .0)) (λ z. b ++ inSlot (z .0) q ∷ a) (λ z. z .1) _
         (inserted-is (tracked s d x (b ++ a) p) d (withTracker (b ++ a) x) h b a q refl)
 
   module _ (b a : List Record) (q : Record) (p : Pool) (h : Fits (b ++ q ∷ a) p) where
@@ -150,10 +140,10 @@ module _ (s : State) (d : ℕ) (x : Domain) where
     row-here = row-is now (h .long) d (withTracker (b ++ q ∷ a) x) (h .at) (spread (now .sizes .records) (now .domains) p (h .sound)) b a q refl
 
     pub split-here : (c : ℕ) → Agrees (split (tablesOf now) (q .slot) c)
-        (allocate outcome.noTracker p >>= λ z. ok (suc (z .0), tracked s d x (b ++ withEnd c q ∷ from c (z .0) q ∷ a) (z .1)))
+        (allocate noTracker p >>= λ z. ok (suc (z .0), tracked s d x (b ++ withEnd c q ∷ from c (z .0) q ∷ a) (z .1)))
     unfolding tracked
     split-here c =
-        again (b ++ q ∷ a) p h (allocate outcome.noTracker p) (λ z. suc (z .0)) (λ z. b ++ withEnd c q ∷ from c (z .0) q ∷ a) (λ z. z .1) _
+        again (b ++ q ∷ a) p h (allocate noTracker p) (λ z. suc (z .0)) (λ z. b ++ withEnd c q ∷ from c (z .0) q ∷ a) (λ z. z .1) _
         (split-is now d (withTracker (b ++ q ∷ a) x) h b a q refl c)
 
     pub removed-here : Agrees (freedRecord (withNext (tablesOf now) d (lastLink b) (link (firstSlot a))) (q .slot)) (free (q .slot) p >>= λ z. ok (0, tracked s d x (b ++ a) z))

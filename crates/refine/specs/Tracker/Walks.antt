@@ -6,7 +6,8 @@ use mathlib.Core.Bool.{Bool, false, _||_, or-false}
 use mathlib.Core.List.{List, [], _∷_, _++_, append-assoc}
 use native.Mathlib.Omega.{arith}
 use Rattle.model.specs.Lists.{oneIf}
-use Rattle.model.specs.Outcome.{Outcome, ok, _>>=_, noTracker}
+use Rattle.model.specs.Outcome.{Outcome, ok, _>>=_}
+use Rattle.refusals.specs.Refusals.{noTracker}
 use Rattle.model.specs.State.{State, Record, Pool, Domain}
 use Rattle.model.specs.Pool.{allocate}
 use Rattle.model.specs.Layout.{link}
@@ -15,7 +16,7 @@ use Rattle.laws.specs.Words.SameTrackers.{firstSlot}
 use Rattle.laws.specs.Tracker.Pools.{uses-append}
 use Rattle.tables.specs.Tables.{Tables}
 use Rattle.answers.specs.declared.Answer.the-variants.{Done}
-use Rattle.answers.specs.Answers.{Step, done}
+use Rattle.answers.specs.Answers.{Effect, done}
 use Rattle.region.specs.declared.AccessRights.{AccessRights}
 use Rattle.region.specs.declared.Cursor.{Cursor}
 use Rattle.region.specs.declared.Progress.the-variants.{Going}
@@ -56,7 +57,7 @@ module _ {s : State} {d : ℕ} {x : Domain} {a : AccessRights} {w : Way} where
       → Agrees (walk w d a n (behind q l st z) (tablesOf (tracked s d x (b ++ q ∷ l) p))) (m >>= finish s d x z (b ++ q ∷ []))
   unfolding cursor
   behind-last {n} {st} {z} {l} {p} {m} b q h =
-      let step : ℕ → List Record → Step = λ k c. walk w d a n (record { prev = k; at = link (firstSlot l); start = st; changed = oneIf z }) (tablesOf (tracked s d x c p)) in
+      let step : ℕ → List Record → Effect = λ k c. walk w d a n (record { prev = k; at = link (firstSlot l); start = st; changed = oneIf z }) (tablesOf (tracked s d x c p)) in
       agrees-step _ _ (m >>= finish s d x z (b ++ q ∷ []))
       (sym (ap (λ (k : ℕ). step k ((b ++ q ∷ []) ++ l)) (last-of b q) ∙ ap (step (suc (q .slot))) (append-assoc b (q ∷ []) l))) (h .agrees)
 
@@ -74,7 +75,7 @@ module _ {s : State} {d : ℕ} {x : Domain} {a : AccessRights} {w : Way} where
       }
 
   -- a step that takes or frees a slot: the pool gives y
-  module _ {A : Type 0} {n st : ℕ} {z : Bool} {b l₀ : List Record} {p₀ : Pool} (u : Step) (v : ℕ → Cursor) (c : Outcome A) (g : A → ℕ × State) (m : A → Outcome Walk) where
+  module _ {A : Type 0} {n st : ℕ} {z : Bool} {b l₀ : List Record} {p₀ : Pool} (u : Effect) (v : ℕ → Cursor) (c : Outcome A) (g : A → ℕ × State) (m : A → Outcome Walk) where
     pub walks-then : turn w (tablesOf (tracked s d x (b ++ l₀) p₀)) d a (cursor b l₀ st z) ≡ onward u v → Agrees u (c >>= λ y. ok (g y))
         → ((y : A) → c ≡ ok y → Agrees (walk w d a n (v (g y .0)) (tablesOf (g y .1))) (m y >>= finish s d x z b)) → Walks s d x a w (suc n) st z b l₀ p₀ (c >>= m)
     walks-then e h k =

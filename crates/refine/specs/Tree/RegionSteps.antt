@@ -7,18 +7,19 @@ use mathlib.Core.List.{List, [], _∷_}
 use native.Mathlib.Omega.{arith}
 use lib.Dec.{T, eqb}
 use lib.ListN.{length, getD, set}
-use Rattle.model.specs.Lists.{Each, oneIf, isSome, count, slotOf, In, afterIn}
-use Rattle.model.specs.Outcome.{Outcome, ok, refuse, _>>=_, _>>_, require, Refusal, noRegion}
+use Rattle.base.specs.Cases.{lt, ge, cmp, holds, fails, test}
+use Rattle.model.specs.Lists.{Each, oneIf, isSome, countIf, atSlot, In, afterIn}
+use Rattle.model.specs.Outcome.{Outcome, ok, refuse, _>>=_, _>>_, require}
+use Rattle.refusals.specs.declared.Refusal.{Refusal}
+use Rattle.refusals.specs.Refusals.{noRegion}
 use Rattle.model.specs.State as state
 use Rattle.model.specs.State.{State, Kind, Root, Alias, Carve, parentOf, regionIn}
 use Rattle.model.specs.Pool.{allocate, free}
 use Rattle.model.specs.Regions as model
 use Rattle.model.specs.Layout.{link, kindWord, siblings}
-use Rattle.model.specs.Sound.{PoolSound, inUse}
-use Rattle.laws.specs.Cases.{lt, ge, cmp, holds, fails, test}
-use Rattle.laws.specs.Words.SameTables.{in-below}
-use Rattle.laws.specs.Tree.Slots.{each-in}
-use Rattle.laws.specs.Tree.Steps.{region-at}
+use Rattle.model.specs.Sound.{PoolSound, slotUses}
+use Rattle.laws.specs.Tree.Slots.{each-in, in-length}
+use Rattle.laws.specs.Lists.{not-used}
 use Rattle.tables.specs.declared.Handle.{Handle}
 use Rattle.tables.specs.declared.RegionCapa.{RegionCapa}
 use Rattle.tables.specs.Tables.{Tables, Arena, withRegionPool, withRegion}
@@ -26,49 +27,46 @@ use Rattle.arena.specs.declared.Given.the-variants.{At, Full}
 use Rattle.arena.specs.Arena.{given, allocated}
 use Rattle.pools.specs.declared.Pool.the-variants as pool
 use Rattle.pools.specs.Wiping.{slotFreed}
-use Rattle.answers.specs.declared.Refusal.the-variants.{NoRegion}
 use Rattle.answers.specs.declared.Answer.{Answer}
 use Rattle.answers.specs.declared.Answer.the-variants.{Done, Refused}
-use Rattle.answers.specs.Answers.{Step, done, refused}
+use Rattle.answers.specs.Answers.{Effect, done, refused}
 use Rattle.region.specs.declared.AccessRights.{AccessRights}
 use Rattle.tracker_records.specs.Links.{freedAnswer}
 use Rattle.segment.specs.Regions.{capaFor, newRegion, freedRegion}
-use Rattle.revocation.specs.Revoke.{leaveParent}
 use Rattle.decoded.specs.Links.{after-out}
 use Rattle.refine.specs.Arenas.Pools.{answerBy, given-first, given-none, first-unused, answer-is}
-use Rattle.refine.specs.Arenas.PoolSlots.{free-slot, region-made, region-freed, stateAfter}
-use Rattle.decoded.specs.Tree.Regions.{region-read}
-use Rattle.refine.specs.Tree.Joins.{link-to}
+use Rattle.refine.specs.Arenas.PoolSlots.{region-made, region-freed, stateAfter}
+use Rattle.refine.specs.Tree.ChildLists.{link-to}
 use Rattle.refine.specs.Tree.ChildChecks.{accessFor}
-use Rattle.refine.specs.Agrees.{refusalFor, Agrees, agrees-step, agrees-call, agrees-done, agrees-refused}
+use Rattle.refine.specs.Agrees.{Agrees, agrees-step, agrees-call, agrees-done, agrees-refused}
 use Rattle.decoded.specs.Tables.{poolOf, regionFor, tablesOf}
 
 -- a step and a call that are accepted, or refused, alike
-pub agrees-ok : (x : Step) (m : Outcome (ℕ × State)) (v : ℕ) (t : Tables) (s : State) → x ≡ done v t → m ≡ ok (v, s) → t ≡ tablesOf s → Agrees x m
+pub agrees-ok : (x : Effect) (m : Outcome (ℕ × State)) (v : ℕ) (t : Tables) (s : State) → x ≡ done v t → m ≡ ok (v, s) → t ≡ tablesOf s → Agrees x m
 agrees-ok x m v t s e f h = agrees-step x (done v t) m e (agrees-call (done v t) m (ok (v, s)) f (agrees-done v t s h))
 
-pub agrees-no : (x : Step) (m : Outcome (ℕ × State)) (r : Refusal) (t : Tables) → x ≡ refused (refusalFor r) t → m ≡ refuse r → Agrees x m
-agrees-no x m r t e f = agrees-step x (refused (refusalFor r) t) m e (agrees-call (refused (refusalFor r) t) m (refuse r) f (agrees-refused r t))
+pub agrees-no : (x : Effect) (m : Outcome (ℕ × State)) (r : Refusal) (t : Tables) → x ≡ refused r t → m ≡ refuse r → Agrees x m
+agrees-no x m r t e f = agrees-step x (refused r t) m e (agrees-call (refused r t) m (refuse r) f (agrees-refused r t))
 
 -- every child in every list is live
 abbrev pub ChildrenLive : List (Option state.Region) → Type 0
-ChildrenLive rs = (p : ℕ) (g : state.Region) → In rs p g → Each (λ c. T (isSome (slotOf rs c))) (g .children)
+ChildrenLive rs = (p : ℕ) (g : state.Region) → In rs p g → Each (λ c. T (isSome (atSlot rs c))) (g .children)
 
 -- a free slot is in no list
-module _ (rs : List (Option state.Region)) (live : ChildrenLive rs) (i : ℕ) (free : slotOf rs i ≡ none) where
-  in-none : (p : ℕ) (o : Option state.Region) → slotOf rs p ≡ o → afterIn (regionIn rs p .children) i ≡ none
+module _ (rs : List (Option state.Region)) (live : ChildrenLive rs) (i : ℕ) (free : atSlot rs i ≡ none) where
+  in-none : (p : ℕ) (o : Option state.Region) → atSlot rs p ≡ o → afterIn (regionIn rs p .children) i ≡ none
   in-none p none e = rw e
   in-none p (some g) e =
-      let out : count (eqb i) (g .children) ≡ 0 = elim (cmp 0 (count (eqb i) (g .children))) [
-        | lt h ↦ absurd (rw free at (each-in (λ c. T (isSome (slotOf rs c))) (g .children) (live p g e) i h))
+      let out : countIf (eqb i) (g .children) ≡ 0 = elim (cmp 0 (countIf (eqb i) (g .children))) [
+        | lt h ↦ absurd (rw free at (each-in (λ c. T (isSome (atSlot rs c))) (g .children) (live p g e) i h))
         | ge h ↦ omega arith
       ] in
       rw e (after-out (g .children) i out)
 
   no-next : (k : Kind) → afterIn (siblings rs k) i ≡ none
   no-next Root = refl
-  no-next (Alias p) = in-none p (slotOf rs p) refl
-  no-next (Carve p) = in-none p (slotOf rs p) refl
+  no-next (Alias p) = in-none p (atSlot rs p) refl
+  no-next (Carve p) = in-none p (atSlot rs p) refl
 
 -- ---- a region is made
 
@@ -76,7 +74,7 @@ made-at : (r : RegionCapa) (t : Tables) (h : Handle) → given (t .regionPool) �
 unfolding newRegion
 made-at r t h e = rw (newRegion, e)
 
-made-none : (r : RegionCapa) (t : Tables) → given (t .regionPool) ≡ Full → newRegion r t ≡ refused NoRegion (withRegionPool t (allocated (t .regionPool)))
+made-none : (r : RegionCapa) (t : Tables) → given (t .regionPool) ≡ Full → newRegion r t ≡ refused noRegion (withRegionPool t (allocated (t .regionPool)))
 unfolding newRegion
 made-none r t e = rw (newRegion, e)
 
@@ -88,14 +86,14 @@ none-given : (r : Refusal) (p : state.Pool) → p .free ≡ [] → allocate r p 
 unfolding allocate
 none-given r p e = ap (λ (l : List ℕ). elim l [ [] ↦ refuse r | j ∷ js ↦ ok (j, record { gens = p .gens; free = js }) ]) e
 
-module _ (s : State) (long : length (s .regions) ≡ s .sizes .regions) (sound : PoolSound (s .sizes .regions) (inUse (s .regions)) (s .regionPool)) (live : ChildrenLive (s .regions)) (d : ℕ) (small : d < 2 ^ 64 - 1) (k : Kind) (a : AccessRights) where
+module _ (s : State) (long : length (s .regions) ≡ s .sizes .regions) (sound : PoolSound (s .sizes .regions) (slotUses (s .regions)) (s .regionPool)) (live : ChildrenLive (s .regions)) (d : ℕ) (small : d < 2 ^ 64 - 1) (k : Kind) (a : AccessRights) where
   abbrev made : state.Region
   made = record { owner = d; kind = k; start = a .start; end = a .end; rights = a .ops .0; children = [] }
 
   abbrev capa : RegionCapa
   capa = capaFor d (kindWord k) (link (parentOf k)) a
 
-  capa-is : (i : ℕ) → slotOf (s .regions) i ≡ none → regionFor (s .regions) i (some made) ≡ capa
+  capa-is : (i : ℕ) → atSlot (s .regions) i ≡ none → regionFor (s .regions) i (some made) ≡ capa
   capa-is i e =
       let o = sym (link-to d small) in
       let n = ap link (no-next (s .regions) live i e k) in
@@ -119,8 +117,8 @@ module _ (s : State) (long : length (s .regions) ≡ s .sizes .regions) (sound :
       let full : given (tablesOf s .regionPool) ≡ Full = ap given pool-here ∙ ap (λ l. given (poolOf (s .sizes .regions) (record { gens = s .regionPool .gens; free = l }))) e ∙ given-none (s .sizes .regions) (s .regionPool .gens) in
       agrees-no _ _ noRegion _ (made-none capa (tablesOf s) full) (model-none e)
   by-free (i ∷ is) e =
-      let at = ap given pool-here ∙ given-first (s .sizes .regions) (inUse (s .regions)) (s .regionPool) sound i is e in
-      let o = free-slot (slotOf (s .regions) i) (first-unused (s .sizes .regions) (inUse (s .regions)) (s .regionPool) sound i is e) in
+      let at = ap given pool-here ∙ given-first (s .sizes .regions) (slotUses (s .regions)) (s .regionPool) sound i is e in
+      let o = not-used (atSlot (s .regions) i) (first-unused (s .sizes .regions) (slotUses (s .regions)) (s .regionPool) sound i is e) in
       agrees-ok _ _ i _ _ (made-at capa (tablesOf s) _ at) (model-made i is e) (
       ap (λ (q : RegionCapa). withRegion (withRegionPool (tablesOf s) (allocated (tablesOf s .regionPool))) i q) (sym (capa-is i o))
       ∙ ap (λ (q : Arena). withRegion (withRegionPool (tablesOf s) (allocated q)) i (regionFor (s .regions) i (some made))) pool-here
@@ -134,22 +132,22 @@ module _ (s : State) (long : length (s .regions) ≡ s .sizes .regions) (sound :
 
 abbrev answerFor : Outcome State → Answer
 answerFor (ok t) = Done 0
-answerFor (refuse r) = Refused (refusalFor r)
+answerFor (refuse r) = Refused r
 
 -- a step that answers as the call does, and leaves its state
-agrees-after : (x : Step) (s : State) (m : Outcome State) → x .answer ≡ answerFor m → x .tables ≡ tablesOf (stateAfter s m) → Agrees x (m >>= λ t. ok (0, t))
+agrees-after : (x : Effect) (s : State) (m : Outcome State) → x .answer ≡ answerFor m → x .tables ≡ tablesOf (stateAfter s m) → Agrees x (m >>= λ t. ok (0, t))
 unfolding _>>=_
 agrees-after x s (ok t) a e = (a, e)
 agrees-after x s (refuse r) a e = a
 
-module _ (s : State) (long : length (s .regions) ≡ s .sizes .regions) (sound : PoolSound (s .sizes .regions) (inUse (s .regions)) (s .regionPool)) (i : ℕ) (g : state.Region) (at : In (s .regions) i g) (leaf : g .children ≡ []) where
+module _ (s : State) (long : length (s .regions) ≡ s .sizes .regions) (sound : PoolSound (s .sizes .regions) (slotUses (s .regions)) (s .regionPool)) (i : ℕ) (g : state.Region) (at : In (s .regions) i g) (leaf : g .children ≡ []) where
   model-answers : freedAnswer (answerBy (free i (s .regionPool))) ≡ answerFor (model.freeRegion i s)
   unfolding model.freeRegion free require _>>_ _>>=_
   model-answers = elim (test (eqb (getD (s .regionPool .gens) i 0) (2 ^ 64 - 1))) [ holds t ↦ rw t | fails t ↦ rw t ]
 
   code-answers : freedRegion i (tablesOf s) .answer ≡ freedAnswer (answerBy (free i (s .regionPool)))
   unfolding freedRegion tablesOf
-  code-answers = ap freedAnswer (answer-is (s .sizes .regions) (inUse (s .regions)) (s .regionPool) sound i (omega (arith, in-below (s .regions) i g at, long)) (ap (λ o. oneIf (isSome o)) at))
+  code-answers = ap freedAnswer (answer-is (s .sizes .regions) (slotUses (s .regions)) (s .regionPool) sound i (omega (arith, in-length (s .regions) i g at, long)) (ap (λ o. oneIf (isSome o)) at))
 
   code-leaves : freedRegion i (tablesOf s) .tables ≡ slotFreed (tablesOf s) pool.Regions i
   unfolding freedRegion
@@ -157,17 +155,3 @@ module _ (s : State) (long : length (s .regions) ≡ s .sizes .regions) (sound :
 
   pub free-region-refines : Agrees (freedRegion i (tablesOf s)) (model.freeRegion i s >>= λ s₁. ok (0, s₁))
   free-region-refines = agrees-after (freedRegion i (tablesOf s)) s (model.freeRegion i s) (code-answers ∙ model-answers) (code-leaves ∙ region-freed s long sound i g at leaf)
-
--- ---- a root leaves no list
-
-module _ (s : State) (long : length (s .regions) ≡ s .sizes .regions) (i : ℕ) (g : state.Region) (at : In (s .regions) i g) (root : g .kind ≡ Root) where
-  code-stays : leaveParent i (tablesOf s) ≡ tablesOf s
-  unfolding leaveParent
-  code-stays = rw (leaveParent, region-read s long i g at, root)
-
-  model-stays : model.leaveParent i s ≡ s
-  unfolding model.leaveParent
-  model-stays = rw (model.leaveParent, region-at s i g at, root)
-
-  pub leave-root-is : leaveParent i (tablesOf s) ≡ tablesOf (model.leaveParent i s)
-  leave-root-is = code-stays ∙ ap tablesOf (sym model-stays)

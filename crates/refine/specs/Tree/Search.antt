@@ -8,17 +8,17 @@ use mathlib.Core.List.{List, [], _∷_, _++_}
 use native.Mathlib.Omega.{arith}
 use lib.Dec.{eqb}
 use lib.ListN.{length}
-use Rattle.model.specs.Lists.{count, slotOf, In, firstOf, afterIn}
+use borrow.Author.Tests.{ne-eqb}
+use Rattle.base.specs.Cases.{lt, ge, cmp, holds, fails, test, pick}
+use Rattle.model.specs.Lists.{countIf, atSlot, In, firstOf, afterIn}
 use Rattle.model.specs.State as state
 use Rattle.model.specs.State.{State, parentOf}
 use Rattle.model.specs.Layout.{link}
-use Rattle.laws.specs.Cases.{lt, ge, cmp, eqb-f, holds, fails, test}
-use Rattle.laws.specs.Stack.{one}
-use Rattle.laws.specs.Tree.Sum.{sum-le}
+use Rattle.laws.specs.Stack.{one, stack-length}
+use Rattle.laws.specs.Tree.Sum.{sum-le, sum-each}
 use Rattle.laws.specs.Tree.Slots.{in-length}
 use Rattle.laws.specs.Tree.Shares.{child}
 use Rattle.laws.specs.Tree.Facts.{Regions, listing, own, child-le, has-parent}
-use Rattle.words.specs.Cases.{pick}
 use Rattle.tables.specs.declared.RegionCapa.{RegionCapa}
 use Rattle.tables.specs.Tables.{Tables, noRegion, regionAt}
 use Rattle.segment.specs.declared.Place.{Place}
@@ -26,7 +26,6 @@ use Rattle.segment.specs.declared.Search.{Search}
 use Rattle.segment.specs.Children.{endsB, findFrom, find}
 use Rattle.decoded.specs.Rows.{getD-up}
 use Rattle.decoded.specs.Links.{after-top, after-under}
-use Rattle.decoded.specs.Free.{stack-length, sum-slots}
 use Rattle.decoded.specs.Tree.Regions.{childrenIn, region-read}
 use Rattle.decoded.specs.Tree.Children.{rowIn, sibling-list}
 use Rattle.decoded.specs.Tables.{regionsFor, tablesOf}
@@ -66,7 +65,7 @@ module _ (w : Search) (t : Tables) where
   -- at a child
   at-child : (n k x : ℕ) → findFrom w t (suc n) (record { prev = k; at = suc x }) ≡ pick (ends x) (record { prev = k; at = suc x }) (findFrom w t n (record { prev = suc x; at = regionAt t x .next }))
   unfolding findFrom
-  at-child n k x = let z : suc x - 1 ≡ x = omega arith in rw (findFrom, eqb-f (suc x) 0 (λ e. omega arith), z)
+  at-child n k x = let z : suc x - 1 ≡ x = omega arith in rw (findFrom, ne-eqb (suc x) 0 (λ e. omega arith), z)
 
   at-end : (n k : ℕ) → findFrom w t n (record { prev = k; at = 0 }) ≡ record { prev = k; at = 0 }
   unfolding findFrom
@@ -81,34 +80,34 @@ module _ (w : Search) (t : Tables) where
 -- ---- the children of a region
 
 -- each child of region p is live and under it, and is there once; p is not among them
-pub record Kids (rs : List (Option state.Region)) (p : ℕ) (cs : List ℕ) : Type 0 where
-  pub under : (c : ℕ) → 0 < count (eqb c) cs → (x : state.Region) × In rs c x × (parentOf (x .kind) ≡ some p)
-  pub once : (c : ℕ) → count (eqb c) cs ≤ 1
-  pub other : count (eqb p) cs ≡ 0
+pub record Children (rs : List (Option state.Region)) (p : ℕ) (cs : List ℕ) : Type 0 where
+  pub under : (c : ℕ) → 0 < countIf (eqb c) cs → (x : state.Region) × In rs c x × (parentOf (x .kind) ≡ some p)
+  pub once : (c : ℕ) → countIf (eqb c) cs ≤ 1
+  pub other : countIf (eqb p) cs ≡ 0
 
-pub regions-kids : (rs : List (Option state.Region)) → Regions rs → (p : ℕ) (g : state.Region) → In rs p g → Kids rs p (g .children)
-regions-kids rs z p g e = record {
-  under = λ c h. go c (slotOf rs c) refl (omega (arith, listing rs z p g e c));
-  once = λ c. omega (arith, listing rs z p g e c, child-le (slotOf rs c) p);
+pub regions-children : (rs : List (Option state.Region)) → Regions rs → (p : ℕ) (g : state.Region) → In rs p g → Children rs p (g .children)
+regions-children rs z p g e = record {
+  under = λ c h. go c (atSlot rs c) refl (omega (arith, listing rs z p g e c));
+  once = λ c. omega (arith, listing rs z p g e c, child-le (atSlot rs c) p);
   other = listing rs z p g e p ∙ ap (λ (o : Option state.Region). child o p) e ∙ own rs z p g e;
 }
   where
-    go : (c : ℕ) (o : Option state.Region) → slotOf rs c ≡ o → 0 < child o p → (x : state.Region) × In rs c x × (parentOf (x .kind) ≡ some p)
+    go : (c : ℕ) (o : Option state.Region) → atSlot rs c ≡ o → 0 < child o p → (x : state.Region) × In rs c x × (parentOf (x .kind) ≡ some p)
     go c none q h = absurd (omega arith)
     go c (some x) q h = (x, q, has-parent (x .kind) p h)
 
 -- there are no more children than slots
-pub kids-few : (rs : List (Option state.Region)) (p : ℕ) (cs : List ℕ) → Kids rs p cs → length cs ≤ length rs
-kids-few rs p cs k =
+pub children-few : (rs : List (Option state.Region)) (p : ℕ) (cs : List ℕ) → Children rs p cs → length cs ≤ length rs
+children-few rs p cs k =
     omega (
       arith,
-      stack-length (length rs) cs (λ c h. elim (cmp 0 (count (eqb c) cs)) [ lt u ↦ let (x, e, q) = k .under c u in absurd (omega (arith, in-length rs c x e)) | ge u ↦ omega arith ]),
-      sum-le (λ c. count (eqb c) cs) (λ c. 1) (length rs) (k .once),
-      sum-slots (length rs),
+      stack-length (length rs) cs (λ c h. elim (cmp 0 (countIf (eqb c) cs)) [ lt u ↦ let (x, e, q) = k .under c u in absurd (omega (arith, in-length rs c x e)) | ge u ↦ omega arith ]),
+      sum-le (λ c. countIf (eqb c) cs) (λ c. 1) (length rs) (k .once),
+      sum-each (length rs),
     )
 
 -- rows that link by the list are chained
-chained : (t : Tables) (cs : List ℕ) → ((c : ℕ) → count (eqb c) cs ≤ 1) → ((c : ℕ) → 0 < count (eqb c) cs → regionAt t c .next ≡ link (afterIn cs c)) → Chained t cs
+chained : (t : Tables) (cs : List ℕ) → ((c : ℕ) → countIf (eqb c) cs ≤ 1) → ((c : ℕ) → 0 < countIf (eqb c) cs → regionAt t c .next ≡ link (afterIn cs c)) → Chained t cs
 chained t [] o h = tt
 chained t (c ∷ cs) o h = (
   h c (omega (arith, one c c refl)) ∙ ap link (after-top c cs),
@@ -120,19 +119,19 @@ module _ (s : State) (long : length (s .regions) ≡ s .sizes .regions) where
   unfolding tablesOf regionAt regionsFor
   row-read j h = getD-up (rowIn (s .regions)) (s .sizes .regions) j noRegion h
 
-  module _ (p : ℕ) (g : state.Region) (at : In (s .regions) p g) (kids : Kids (s .regions) p (g .children)) where
-    pub next-of : (c : ℕ) → 0 < count (eqb c) (g .children) → regionAt (tablesOf s) c .next ≡ link (afterIn (g .children) c)
+  module _ (p : ℕ) (g : state.Region) (at : In (s .regions) p g) (children : Children (s .regions) p (g .children)) where
+    pub next-of : (c : ℕ) → 0 < countIf (eqb c) (g .children) → regionAt (tablesOf s) c .next ≡ link (afterIn (g .children) c)
     next-of c h =
-        let (x, e, q) = kids .under c h in
+        let (x, e, q) = children .under c h in
         ap (λ (r : RegionCapa). r .next) (region-read s long c x e)
         ∙ ap (λ (l : List ℕ). link (afterIn l c)) (sibling-list (s .regions) (x .kind) p q ∙ ap childrenIn at)
 
     pub children-chained : Chained (tablesOf s) (g .children)
-    children-chained = chained (tablesOf s) (g .children) (kids .once) next-of
+    children-chained = chained (tablesOf s) (g .children) (children .once) next-of
 
     enough : length (g .children) ≤ tablesOf s .sizes .regions
     unfolding tablesOf
-    enough = omega (arith, kids-few (s .regions) p (g .children) kids, long)
+    enough = omega (arith, children-few (s .regions) p (g .children) children, long)
 
     pub find-is : (w : Search) → find w (tablesOf s) p ≡ placeOf 0 (before (ends w (tablesOf s)) (g .children)) (rest (ends w (tablesOf s)) (g .children))
     unfolding find

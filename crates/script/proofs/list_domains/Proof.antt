@@ -1,9 +1,8 @@
--- The text stays in its run, and the slots that are left fall.
-use Rattle.tables.specs.Tests.{sized-true}
-use mathlib.Core.Path.{sym, _∙_}
+-- The text stays in its run, and the slots that are left fall. Reached tables are sized.
 use Prim.Native.Nat.{_-_, _≤_}
 use mathlib.Core.Path.{_≡_}
 use lib.ListN.{length}
+use Rattle.running.specs.Reached.{reached-sized}
 use borrow.Author.Needs.{needs}
 use Rattle.script.proofs.list_domains.Statement.{statement}
 use Rattle.script.proofs.list_domains.Tie as tie
@@ -14,14 +13,11 @@ Inv-loop text₀ n t m₀ d₀ text m d = (m ≤ length text₀) × (length text
 abbrev μ-loop : tie.MeasureT-loop
 μ-loop text₀ n t m₀ d₀ text m d = 8 - d
 
-is-sized-requires : tie.Need-is-sized-requires Inv-loop μ-loop
-is-sized-requires c κs = search needs
-
 loop-holds : tie.Need-loop-holds Inv-loop μ-loop
 loop-holds c = search needs
 
 list-domain-requires : tie.Need-list-domain-requires Inv-loop μ-loop
-list-domain-requires c κs = (search needs, (search needs, sized-true _ (sym (c .before .before .before .before .is-sized .ensures) ∙ (c .before .before .before .if1 .taken))))
+list-domain-requires c κs = (search needs, (search needs, reached-sized _ _ (c .before .before .before .before .before .pre .1 .1)))
 
 add-d : tie.Need-add-d Inv-loop μ-loop
 add-d c = search needs
@@ -38,21 +34,16 @@ same-length c = search needs
 returns : tie.Need-returns Inv-loop μ-loop
 returns c = search needs
 
-returns-2 : tie.Need-returns-2 Inv-loop μ-loop
-returns-2 c = search needs
-
 pub list-domains-spec : {M : Type 1} → statement M
 list-domains-spec =
     tie.close
     (tie.spec
     Inv-loop
     μ-loop
-    is-sized-requires
     loop-holds
     list-domain-requires
     add-d
     loop-less
     loop-again
     same-length
-    returns
-    returns-2)
+    returns)

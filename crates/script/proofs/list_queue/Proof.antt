@@ -1,13 +1,15 @@
--- The text stays in its run, and the updates that can still be there fall.
+-- The text stays in its run, a pop leads the tables on, and the updates that can still be there fall.
 use Prim.Native.Nat.{_-_, _≤_}
 use mathlib.Core.Path.{_≡_}
 use lib.ListN.{length}
+use Rattle.promise.specs.Reached.{reached-then, pop-leads}
+use Rattle.running.specs.RunScript.{ScriptTables}
 use borrow.Author.Needs.{needs}
 use Rattle.script.proofs.list_queue.Statement.{statement}
 use Rattle.script.proofs.list_queue.Tie as tie
 
 abbrev Inv-loop : tie.InvT-loop
-Inv-loop text₀ n t₀ w₀ m₀ left₀ text t w m left = (m ≤ length text₀) × (length text ≡ length text₀) × (length t ≡ length t₀) × (length w ≡ length w₀)
+Inv-loop text₀ n t₀ w₀ m₀ left₀ text t w m left = (m ≤ length text₀) × (length text ≡ length text₀) × (length t ≡ length t₀) × (length w ≡ length w₀) × ScriptTables t
 
 abbrev μ-loop : tie.MeasureT-loop
 μ-loop text₀ n t₀ w₀ m₀ left₀ text t w m left = left
@@ -28,7 +30,7 @@ same-length-3 : tie.Need-same-length-3 Inv-loop μ-loop
 same-length-3 c = search needs
 
 returns : tie.Need-returns Inv-loop μ-loop
-returns c = search needs
+returns c = (search needs, reached-then (c .before .before .before .before .before .before .before .before .before .before .loop .inv .4) (pop-leads (c .before .before .before .before .before .before .mityvurno-pop .ensures .after)))
 
 room-requires : tie.Need-room-requires Inv-loop μ-loop
 room-requires c κs = search needs
@@ -43,7 +45,7 @@ loop-less : tie.Need-loop-less Inv-loop μ-loop
 loop-less c = search needs
 
 loop-again : tie.Need-loop-again Inv-loop μ-loop
-loop-again c = search needs
+loop-again c = (search needs, search needs, search needs, search needs, reached-then (c .before .before .before .before .before .before .before .before .before .before .before .before .before .before .before .before .loop .inv .4) (pop-leads (c .before .before .before .before .before .before .before .before .before .before .before .before .mityvurno-pop .ensures .after)))
 
 same-length-4 : tie.Need-same-length-4 Inv-loop μ-loop
 same-length-4 c = search needs

@@ -1,20 +1,21 @@
--- The bytes at hand stay in their run, and the text in its. The lines that can still be numbered fall.
+-- The bytes at hand stay in their run, and the text in its. Each record leads the tables on. The lines that can still be numbered fall.
 use Prim.Native.Nat.{_-_, _≤_}
 use mathlib.Core.Path.{_≡_}
 use lib.ListN.{length}
 use Rattle.byte_io.specs.Buffered.{Within}
+use Rattle.promise.specs.Reached.{Leads, leads-none, leads-then}
 use borrow.Author.Needs.{needs}
 use Rattle.script.proofs.run_records.Statement.{statement}
 use Rattle.script.proofs.run_records.Tie as tie
 
 abbrev Inv-loop : tie.InvT-loop
-Inv-loop b₀ text₀ t₀ w₀ h₀ n₀ k₀ b text t w h n k = Within h (length b₀) × (n ≤ length text₀) × (length b ≡ length b₀) × (length text ≡ length text₀) × (length t ≡ length t₀) × (length w ≡ length w₀)
+Inv-loop b₀ text₀ t₀ w₀ h₀ n₀ k₀ b text t w h n k = Within h (length b₀) × (n ≤ length text₀) × (length b ≡ length b₀) × (length text ≡ length text₀) × (length t ≡ length t₀) × (length w ≡ length w₀) × Leads t₀ t
 
 abbrev μ-loop : tie.MeasureT-loop
 μ-loop b₀ text₀ t₀ w₀ h₀ n₀ k₀ b text t w h n k = 18446744073709551615 - k
 
 loop-holds : tie.Need-loop-holds Inv-loop μ-loop
-loop-holds c = search needs
+loop-holds c = (search needs, search needs, search needs, search needs, search needs, search needs, leads-none _)
 
 ready-requires : tie.Need-ready-requires Inv-loop μ-loop
 ready-requires c κs = search needs
@@ -62,7 +63,7 @@ same-length-8 : tie.Need-same-length-8 Inv-loop μ-loop
 same-length-8 c = search needs
 
 returns-2 : tie.Need-returns-2 Inv-loop μ-loop
-returns-2 c = search needs
+returns-2 c = (search needs, leads-then (c .before .before .before .before .before .before .before .before .before .before .before .before .before .before .before .before .before .before .before .before .before .before .loop .inv .6) (c .before .before .before .before .before .before .before .before .turn .ensures .1))
 
 add-h : tie.Need-add-h Inv-loop μ-loop
 add-h c = search needs
@@ -74,7 +75,7 @@ loop-less : tie.Need-loop-less Inv-loop μ-loop
 loop-less c = search needs
 
 loop-again : tie.Need-loop-again Inv-loop μ-loop
-loop-again c = search needs
+loop-again c = (search needs, search needs, search needs, search needs, search needs, search needs, leads-then (c .before .before .before .before .before .before .before .before .before .before .before .before .before .before .before .before .before .before .before .before .before .before .before .loop .inv .6) (c .before .before .before .before .before .before .before .before .before .turn .ensures .1))
 
 same-length-9 : tie.Need-same-length-9 Inv-loop μ-loop
 same-length-9 c = search needs

@@ -1,10 +1,11 @@
 -- The marks are lent, as many as there are regions and domains.
 use Prim.Native.Nat.{_+_}
-use Rattle.sound_capas.specs.Steps.{sizes-seen, lent-long, lent-clear, lent-same, rows-fit, marks-fit, capas-are}
+use Rattle.sound_capas.specs.Steps.{sizes-seen, lent-clear, lent-same, rows-fit, marks-fit, capas-are}
 use Rattle.sizes.specs.declared.Sizes.{Sizes}
 use borrow.Author.Needs.{needs}
 use mathlib.Core.Path.{ap, _∙_}
 use native.Mathlib.Omega.{arith}
+use Rattle.base.specs.Lists.{length-first}
 use Rattle.sound_capas.proofs.capas_hold.Statement.{statement}
 use Rattle.sound_capas.proofs.capas_hold.Tie as tie
 
@@ -48,7 +49,7 @@ same-length : tie.Need-same-length
 same-length c = search needs
 
 returns : tie.Need-returns
-returns c = (capas-are _ _ _ _ _ _ _ _ ((c .before .before .before .before .before .before .before .before .before .before .before .read-sizes .ensures) ∙ sizes-seen _) (c .before .before .before .before .before .before .before .before .before .region-capacity .ensures) (c .before .before .before .before .before .before .before .before .less .ensures) (c .before .before .before .before .before .before .before .domain-capacity .ensures) (c .before .before .before .before .before .before .less2 .ensures) (lent-long _ _ (omega (arith, ap (λ (z : Sizes). z .regions) (c .before .before .before .before .before .before .before .before .before .before .before .read-sizes .ensures), ap (λ (z : Sizes). z .domains) (c .before .before .before .before .before .before .before .before .before .before .before .read-sizes .ensures), marks-fit ((c .before .before .before .before .before .before .before .before .before .before .before .before .before .before .args .t) .now) ((c .before .before .before .before .before .before .before .before .before .before .before .before .before .before .pre) .0), (c .before .before .before .before .before .before .before .before .before .before .before .before .before .before .pre) .1))) ((c .before .before .claims-hold .ensures) .0), lent-same _ _ ((c .before .before .before .before .before .before .before .before .before .before .before .read-sizes .result) .regions + (c .before .before .before .before .before .before .before .before .before .before .before .read-sizes .result) .domains) ((c .before .before .claims-hold .ensures) .1))
+returns c = (capas-are _ _ _ _ _ _ _ _ ((c .before .before .before .before .before .before .before .before .before .before .before .read-sizes .ensures) ∙ sizes-seen _) (c .before .before .before .before .before .before .before .before .before .region-capacity .ensures) (c .before .before .before .before .before .before .before .before .less .ensures) (c .before .before .before .before .before .before .before .domain-capacity .ensures) (c .before .before .before .before .before .before .less2 .ensures) (length-first _ _ (omega (arith, ap (λ (z : Sizes). z .regions) (c .before .before .before .before .before .before .before .before .before .before .before .read-sizes .ensures), ap (λ (z : Sizes). z .domains) (c .before .before .before .before .before .before .before .before .before .before .before .read-sizes .ensures), marks-fit ((c .before .before .before .before .before .before .before .before .before .before .before .before .before .before .args .t) .now) ((c .before .before .before .before .before .before .before .before .before .before .before .before .before .before .pre) .0), (c .before .before .before .before .before .before .before .before .before .before .before .before .before .before .pre) .1))) ((c .before .before .claims-hold .ensures) .0), lent-same _ _ ((c .before .before .before .before .before .before .before .before .before .before .before .read-sizes .result) .regions + (c .before .before .before .before .before .before .before .before .before .before .before .read-sizes .result) .domains) ((c .before .before .claims-hold .ensures) .1))
 
 pub capas-hold-spec : {M : Type 1} → statement M
 capas-hold-spec =

@@ -1,13 +1,14 @@
 -- What is left from domain d on is the whole.
 use Prim.Native.Nat.{_≤_, _-_}
 use Rattle.sound_trackers.specs.Chains.{every, slotsFrom}
-use Rattle.sound_trackers.specs.Laws.{domains-seen, up-start, up-fails, up-goes, up-end}
+use Rattle.sound_trackers.specs.Laws.{up-start, up-fails, up-goes, up-end}
 use Rattle.sound_trackers.specs.Trackers.{domainB, trackersHold}
 use Rattle.tables.specs.View.{view}
 use borrow.Author.Needs.{needs}
 use borrow.Author.Tests.{not-true, not-false}
 use mathlib.Core.Path.{_≡_, sym, _∙_}
 use native.Mathlib.Omega.{arith}
+use Rattle.tables.specs.Header.{domains-seen}
 use Rattle.sound_trackers.proofs.trackers_hold.Statement.{statement}
 use Rattle.sound_trackers.proofs.trackers_hold.Tie as tie
 

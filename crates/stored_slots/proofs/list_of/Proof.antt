@@ -1,4 +1,5 @@
 -- The first i slots are read.
+use Rattle.sizes.specs.Limits.{mostSlots}
 use Prim.Native.Nat.{_-_, _≤_}
 use Rattle.stored_slots.specs.Rows.{readTo, read-none, read-more, read-all}
 use borrow.Author.Needs.{needs}
@@ -18,7 +19,7 @@ no-slot-requires : tie.Need-no-slot-requires Inv-loop μ-loop
 no-slot-requires c κs = search needs
 
 loop-holds : tie.Need-loop-holds Inv-loop μ-loop
-loop-holds c = (omega arith, ap (replicate 128) (c .no-slot .ensures) ∙ sym (read-none (c .before .before .args .p .now)))
+loop-holds c = (omega arith, ap (replicate mostSlots) (c .no-slot .ensures) ∙ sym (read-none (c .before .before .args .p .now)))
 
 mul-read-slot : tie.Need-mul-read-slot Inv-loop μ-loop
 mul-read-slot c = omega arith

@@ -1,4 +1,4 @@
--- A domain's words are a row of section 4.
+-- A domain's words are a row of their section.
 use Prim.Native.Nat.{ℕ, _*_}
 use Rattle.stored_slots.specs.Rows.{row-found}
 use Rattle.tables.specs.Rows.{rows-inside}

@@ -1,11 +1,13 @@
 -- The first i slots are written, then head and count.
+use Rattle.sizes.specs.Limits.{mostSlots}
 use Prim.Native.Nat.{_-_, _≤_}
 use Rattle.slot_list.specs.Arrays.{length-mapped}
-use Rattle.stored_slots.specs.Rows.{Written, written-more, written-all, slots-many}
+use Rattle.stored_slots.specs.Rows.{Written, written-more, written-all}
 use Rattle.tables.specs.View.{domainOf}
 use lib.ListN.{length, length-set}
 use mathlib.Core.Path.{_≡_, refl, sym, _∙_}
 use native.Mathlib.Omega.{arith}
+use Rattle.tables.specs.Domains.{length-slots}
 use Rattle.stored_slots.proofs.write_list.Statement.{statement}
 use Rattle.stored_slots.proofs.write_list.Tie as tie
 
@@ -40,7 +42,7 @@ loop-less : tie.Need-loop-less Inv-loop μ-loop
 loop-less c = omega arith
 
 loop-again : tie.Need-loop-again Inv-loop μ-loop
-loop-again c = let n : length (c .before .before .before .before .before .before .before .before .args .t3 .slots) ≡ 128 = search length-mapped in (omega arith, rw (c .before .before .write-slot .ensures) (written-more _ _ _ _ _ (c .before .before .before .before .before .before .loop .inv .1) _ (c .before .before .before .before .before .loop-test .taken) (omega arith) refl))
+loop-again c = let n : length (c .before .before .before .before .before .before .before .before .args .t3 .slots) ≡ mostSlots = search length-mapped in (omega arith, rw (c .before .before .write-slot .ensures) (written-more _ _ _ _ _ (c .before .before .before .before .before .before .loop .inv .1) _ (c .before .before .before .before .before .loop-test .taken) (omega arith) refl))
 
 slice-write-p : tie.Need-slice-write-p Inv-loop μ-loop
 slice-write-p c = omega (arith, (c .before .loop .inv .1 .long))
@@ -52,7 +54,7 @@ same-length : tie.Need-same-length Inv-loop μ-loop
 same-length c = simp length-set ((c .before .loop .inv .1 .long) ∙ sym (c .before .before .before .pre .0))
 
 returns : tie.Need-returns Inv-loop μ-loop
-returns c = written-all _ _ _ _ _ (c .before .loop .inv .1) (omega arith) (slots-many (c .before .before .before .args .n) (c .before .before .before .args .p .now) (c .before .before .before .pre .0))
+returns c = written-all _ _ _ _ _ (c .before .loop .inv .1) (omega arith) (length-slots (c .before .before .before .args .n) (c .before .before .before .args .p .now))
 
 pub write-list-spec : {M : Type 1} → statement M
 write-list-spec =

@@ -3,6 +3,9 @@ use borrow.Author.Needs.{needs}
 use Rattle.update.proofs.store_place.Statement.{statement}
 use Rattle.update.proofs.store_place.Tie as tie
 
+place-in-requires : tie.Need-place-in-requires
+place-in-requires c κs = search needs
+
 store-update-requires : tie.Need-store-update-requires
 store-update-requires c κs = search needs
 
@@ -13,8 +16,8 @@ same-length : tie.Need-same-length
 same-length c = search needs
 
 returns : tie.Need-returns
-returns c = rw ((c .before .before .before .before .before .before .store-update .ensures) .seen) at (c .before .before .set-places .ensures)
+returns c = rw ((c .before .before .before .before .before .before .store-update .ensures) .seen, (c .before .before .before .before .before .before .before .place-in .ensures)) at (c .before .before .set-places .ensures)
 
 pub store-place-spec : {M : Type 1} → statement M
 store-place-spec =
-    tie.close (tie.spec store-update-requires set-places-requires same-length returns)
+    tie.close (tie.spec place-in-requires store-update-requires set-places-requires same-length returns)

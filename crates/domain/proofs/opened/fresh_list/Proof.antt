@@ -1,4 +1,5 @@
 -- The first i places are made.
+use Rattle.sizes.specs.Limits.{mostSlots}
 use Prim.Native.Nat.{_-_, _≤_}
 use lib.ListN.{replicate}
 use mathlib.Core.Path.{_≡_, sym, ap, _∙_}
@@ -10,16 +11,16 @@ use Rattle.domain.proofs.opened.fresh_list.Statement.{statement}
 use Rattle.domain.proofs.opened.fresh_list.Tie as tie
 
 abbrev Inv-loop : tie.InvT-loop
-Inv-loop n slots₀ i₀ slots i = (i ≤ 128) × (slots ≡ freshTo n i)
+Inv-loop n slots₀ i₀ slots i = (i ≤ mostSlots) × (slots ≡ freshTo n i)
 
 abbrev μ-loop : tie.MeasureT-loop
-μ-loop n slots₀ i₀ slots i = 128 - i
+μ-loop n slots₀ i₀ slots i = mostSlots - i
 
 no-slot-requires : tie.Need-no-slot-requires Inv-loop μ-loop
 no-slot-requires c κs = search needs
 
 loop-holds : tie.Need-loop-holds Inv-loop μ-loop
-loop-holds c = (omega arith, ap (replicate 128) (c .no-slot .ensures) ∙ sym (fresh-none (c .before .args .n)))
+loop-holds c = (omega arith, ap (replicate mostSlots) (c .no-slot .ensures) ∙ sym (fresh-none (c .before .args .n)))
 
 fresh-slot-requires : tie.Need-fresh-slot-requires Inv-loop μ-loop
 fresh-slot-requires c κs = search needs

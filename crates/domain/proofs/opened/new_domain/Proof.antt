@@ -1,8 +1,8 @@
 -- The slot that is given gets the head and the list.
 use mathlib.Core.Path.{refl}
 use Rattle.domain.specs.Opened.{newDomain}
-use Rattle.domain.specs.Fresh.{slots-read}
 use borrow.Author.Needs.{needs}
+use Rattle.tables.specs.Header.{slots-read}
 use Rattle.domain.proofs.opened.new_domain.Statement.{statement}
 use Rattle.domain.proofs.opened.new_domain.Tie as tie
 

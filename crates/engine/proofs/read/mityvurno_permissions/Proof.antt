@@ -48,16 +48,16 @@ use Rattle.readings.proofs.Found.Laws as F′
 use Rattle.readings.proofs.found_at.Symbol as found-at-def
 use Rattle.readings.proofs.found_at.Symbol.{name as #found-at}
 use Rattle.readings.proofs.found_at.Met as found-at-thm
-use Rattle.engine.specs.declared.read.Listing.{Listing}
+use Rattle.lent_readings.specs.declared.Listing.{Listing}
 use Rattle.frame.specs.Replies.{handle}
-use Rattle.engine.specs.Permissions.{Plans}
+use Rattle.lent_readings.specs.Permissions.{Plans}
 use Rattle.frame.proofs.replies.Reply.Laws as R′
-use Rattle.engine.proofs.read.Listing as P
-use Rattle.engine.proofs.read.Listing.Laws as P′
-use Rattle.engine.proofs.read.listing_of as listing-of
-use Rattle.engine.proofs.read.listing_of.Symbol as listing-of-def
-use Rattle.engine.proofs.read.listing_of.Symbol.{name as #listing-of}
-use Rattle.engine.proofs.read.listing_of.Met as listing-of-thm
+use Rattle.lent_readings.proofs.Listing as P
+use Rattle.lent_readings.proofs.Listing.Laws as P′
+use Rattle.lent_readings.proofs.listing_of as listing-of
+use Rattle.lent_readings.proofs.listing_of.Symbol as listing-of-def
+use Rattle.lent_readings.proofs.listing_of.Symbol.{name as #listing-of}
+use Rattle.lent_readings.proofs.listing_of.Met as listing-of-thm
 use Rattle.engine.proofs.read.mityvurno_permissions.Key.{name as #permissions}
 use Rattle.engine.proofs.read.mityvurno_permissions as permissions
 use Rattle.engine.proofs.read.mityvurno_permissions.Statement as stated
@@ -170,5 +170,5 @@ mityvurno-permissions-spec 𝓤 H 𝓜 𝓖 𝓡 =
     entered 𝓤 H (tripleOf 𝓤 H (𝓖 .A) permissions.signature (permissions.spec 𝓤 H (𝓖 .A) (𝓜 .mem) (𝓡 .run)))
     (tables 𝓤 H 𝓜 𝓡 code.env .C) (tables 𝓤 H 𝓜 𝓡 code.env .Λ) #permissions code.function (code.unfolded 𝓤 H 𝓜 𝓡)
     (permissions-meets 𝓤 H (𝓖 .A) (givenOf 𝓤 H 𝓜 𝓖) (𝓜 .mem) (𝓡 .run) (tablesOf 𝓤 H 𝓜 (tables 𝓤 H 𝓜 𝓡 code.env))
-    (cited 𝓤 H (ListingOf 𝓤 H (𝓖 .A) (𝓜 .mem) (𝓡 .run)) 𝓜 𝓡 code.env #listing-of listing-of-def.routine code.calls-engine·read·listing-of (listing-of-thm.met 𝓤 H 𝓜 𝓖 𝓡))
+    (cited 𝓤 H (ListingOf 𝓤 H (𝓖 .A) (𝓜 .mem) (𝓡 .run)) 𝓜 𝓡 code.env #listing-of listing-of-def.routine code.calls-lent-readings·listing-of (listing-of-thm.met 𝓤 H 𝓜 𝓖 𝓡))
     (cited 𝓤 H (FoundAt 𝓤 H (𝓖 .A) (𝓜 .mem) (𝓡 .run)) 𝓜 𝓡 code.env #found-at found-at-def.routine code.calls-readings·found-at (found-at-thm.met 𝓤 H 𝓜 𝓖 𝓡)))

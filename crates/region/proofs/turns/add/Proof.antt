@@ -1,15 +1,15 @@
 -- The range is done; or no record, or one, is at hand.
-use Rattle.region.proofs.Steps.{kept}
 use Rattle.region.specs.Turns.{addTurn}
 use borrow.Author.Needs.{needs}
 use borrow.Author.Tests.{eq-eqb, ne-eqb, le-leb, lt-leb}
 use mathlib.Core.Path.{refl}
+use Rattle.answers.specs.Then.{stays}
 use Rattle.region.proofs.turns.add.Statement.{statement}
 use Rattle.region.proofs.turns.add.Tie as tie
 
 returns : tie.Need-returns
 unfolding addTurn
-returns c = rw (le-leb _ _ (c .if1 .taken)) (refl, kept _ (c .before .before .before .before .pre))
+returns c = rw (le-leb _ _ (c .if1 .taken)) (refl, stays _ (c .before .before .before .before .pre))
 
 fill-requires : tie.Need-fill-requires
 fill-requires c κs = search needs

@@ -1,8 +1,8 @@
 -- By the tests in their order.
-use Rattle.region.proofs.Steps.{kept}
 use Rattle.region.specs.Turns.{addAt}
 use borrow.Author.Needs.{needs}
 use borrow.Author.Tests.{lt-ltb, le-ltb, le-leb, lt-leb}
+use Rattle.answers.specs.Then.{stays}
 use Rattle.region.proofs.turns.add_at.Statement.{statement}
 use Rattle.region.proofs.turns.add_at.Tie as tie
 
@@ -24,7 +24,7 @@ going-requires c κs = search needs
 
 returns-2 : tie.Need-returns-2
 unfolding addAt
-returns-2 c = rw (le-ltb _ _ (c .before .before .before .before .if1 .left), le-leb _ _ (c .before .if2 .taken)) ((c .going .ensures), kept _ (c .before .before .before .before .before .before .before .before .pre))
+returns-2 c = rw (le-ltb _ _ (c .before .before .before .before .if1 .left), le-leb _ _ (c .before .if2 .taken)) ((c .going .ensures), stays _ (c .before .before .before .before .before .before .before .before .pre))
 
 cut-start-requires : tie.Need-cut-start-requires
 cut-start-requires c κs = search needs

@@ -1,15 +1,15 @@
 -- No record is at hand, or none behind it, or both are.
-use Rattle.region.proofs.Steps.{kept}
 use Rattle.region.specs.Turns.{mergeTurn}
 use borrow.Author.Needs.{needs}
 use borrow.Author.Tests.{eq-eqb, ne-eqb}
 use mathlib.Core.Path.{refl}
+use Rattle.answers.specs.Then.{stays}
 use Rattle.region.proofs.turns.merge.Statement.{statement}
 use Rattle.region.proofs.turns.merge.Tie as tie
 
 returns : tie.Need-returns
 unfolding mergeTurn
-returns c = rw (eq-eqb _ _ (c .if1 .taken)) (refl, kept _ (c .before .before .before .pre))
+returns c = rw (eq-eqb _ _ (c .if1 .taken)) (refl, stays _ (c .before .before .before .pre))
 
 slot-to-requires : tie.Need-slot-to-requires
 slot-to-requires c κs = search needs
@@ -22,7 +22,7 @@ same-length c = search needs
 
 returns-2 : tie.Need-returns-2
 unfolding mergeTurn
-returns-2 c = rw (ne-eqb _ _ (c .before .before .before .before .before .if1 .left), ← (c .before .before .before .slot-to .ensures), ← (c .before .before .load-record .ensures), eq-eqb _ _ (c .if2 .taken)) (refl, kept _ (c .before .before .before .before .before .before .before .before .pre))
+returns-2 c = rw (ne-eqb _ _ (c .before .before .before .before .before .if1 .left), ← (c .before .before .before .slot-to .ensures), ← (c .before .before .load-record .ensures), eq-eqb _ _ (c .if2 .taken)) (refl, stays _ (c .before .before .before .before .before .before .before .before .pre))
 
 slot-to-requires-2 : tie.Need-slot-to-requires-2
 slot-to-requires-2 c κs = search needs

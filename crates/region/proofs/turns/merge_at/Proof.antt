@@ -1,8 +1,9 @@
 -- The right record is taken in and freed, or it is the next.
-use Rattle.region.proofs.Steps.{kept, onward-done, onward-refused}
+use Rattle.region.proofs.Steps.{onward-done, onward-refused}
 use Rattle.region.specs.Turns.{mergeAt}
 use borrow.Author.Needs.{needs}
 use borrow.Author.Tests.{not-true, not-false}
+use Rattle.answers.specs.Then.{stays}
 use Rattle.region.proofs.turns.merge_at.Statement.{statement}
 use Rattle.region.proofs.turns.merge_at.Tie as tie
 
@@ -14,7 +15,7 @@ going-requires c κs = search needs
 
 returns : tie.Need-returns
 unfolding mergeAt
-returns c = rw (← (c .before .before .mergeable .ensures), not-true (c .before .before .mergeable .result) (c .before .if1 .taken)) ((c .going .ensures), kept _ (c .before .before .before .before .pre))
+returns c = rw (← (c .before .before .mergeable .ensures), not-true (c .before .before .mergeable .result) (c .before .if1 .taken)) ((c .going .ensures), stays _ (c .before .before .before .before .pre))
 
 slot-to-requires : tie.Need-slot-to-requires
 slot-to-requires c κs = search needs

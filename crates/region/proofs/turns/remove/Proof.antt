@@ -1,15 +1,15 @@
 -- No record is at hand, or one.
-use Rattle.region.proofs.Steps.{kept}
 use Rattle.region.specs.Turns.{removeTurn}
 use borrow.Author.Needs.{needs}
 use borrow.Author.Tests.{eq-eqb, ne-eqb}
 use mathlib.Core.Path.{refl}
+use Rattle.answers.specs.Then.{stays}
 use Rattle.region.proofs.turns.remove.Statement.{statement}
 use Rattle.region.proofs.turns.remove.Tie as tie
 
 returns : tie.Need-returns
 unfolding removeTurn
-returns c = rw (eq-eqb _ _ (c .if1 .taken)) (refl, kept _ (c .before .before .before .pre))
+returns c = rw (eq-eqb _ _ (c .if1 .taken)) (refl, stays _ (c .before .before .before .pre))
 
 slot-to-requires : tie.Need-slot-to-requires
 slot-to-requires c κs = search needs

@@ -1,22 +1,22 @@
 -- By the tests in their order.
-use Rattle.region.proofs.Steps.{kept}
 use Rattle.region.specs.Turns.{removeAt}
 use borrow.Author.Needs.{needs}
 use borrow.Author.Tests.{lt-ltb, le-ltb, le-leb, lt-leb}
 use mathlib.Core.Path.{refl}
+use Rattle.answers.specs.Then.{stays}
 use Rattle.region.proofs.turns.remove_at.Statement.{statement}
 use Rattle.region.proofs.turns.remove_at.Tie as tie
 
 returns : tie.Need-returns
 unfolding removeAt
-returns c = rw (le-leb _ _ (c .if1 .taken)) (refl, kept _ (c .before .before .before .before .pre))
+returns c = rw (le-leb _ _ (c .if1 .taken)) (refl, stays _ (c .before .before .before .before .pre))
 
 going-requires : tie.Need-going-requires
 going-requires c κs = search needs
 
 returns-2 : tie.Need-returns-2
 unfolding removeAt
-returns-2 c = rw (lt-leb _ _ (c .before .before .before .before .if1 .left), le-leb _ _ (c .before .if2 .taken)) ((c .going .ensures), kept _ (c .before .before .before .before .before .before .before .before .pre))
+returns-2 c = rw (lt-leb _ _ (c .before .before .before .before .if1 .left), le-leb _ _ (c .before .if2 .taken)) ((c .going .ensures), stays _ (c .before .before .before .before .before .before .before .before .pre))
 
 cut-start-requires : tie.Need-cut-start-requires
 cut-start-requires c κs = search needs

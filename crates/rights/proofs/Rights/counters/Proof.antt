@@ -2,7 +2,9 @@
 use Prim.Native.Nat.{ℕ, _^_}
 use mathlib.Core.Path.{_≡_, ap, _∙_}
 use borrow.Author.Needs.{needs}
-use Rattle.rights.specs.Rights.{bit, contains, count}
+use Rattle.rights.specs.Rights.{contains}
+use Rattle.rights.specs.Counters.{oneIf}
+use Rattle.rights.specs.Bits.{bit}
 use Rattle.rights.specs.Laws.{contains-flag}
 use Rattle.rights.proofs.Rights.counters.Statement.{statement}
 use Rattle.rights.proofs.Rights.counters.Tie as tie
@@ -25,7 +27,7 @@ count-requires-5 c κs = search needs
 returns : tie.Need-returns
 returns c =
     let word = c .before .before .before .before .before .args .self .0 in
-    let flag : (k : ℕ) → count (contains word (2 ^ k)) ≡ count (bit k word) = λ k. ap count (contains-flag k word) in
+    let flag : (k : ℕ) → oneIf (contains word (2 ^ k)) ≡ oneIf (bit k word) = λ k. ap oneIf (contains-flag k word) in
     λ t. record {
       «read_count» = (c .before .before .before .before .count .ensures ∙ flag 0) t;
       «write_count» = (c .before .before .before .count2 .ensures ∙ flag 1) t;

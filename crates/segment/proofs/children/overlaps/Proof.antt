@@ -3,9 +3,9 @@ use mathlib.Core.Logic.{⊎-elim}
 use mathlib.Core.Path.{_≡_, _∙_}
 use mathlib.Core.Bool.{true}
 use lib.Dec.{eqb}
-use Rattle.words.specs.Cases.{pick}
 use Rattle.segment.specs.Children.{overlapsB}
 use borrow.Author.Needs.{needs}
+use Rattle.base.specs.Cases.{pick}
 use Rattle.segment.proofs.children.overlaps.Statement.{statement}
 use Rattle.segment.proofs.children.overlaps.Tie as tie
 

@@ -1,4 +1,5 @@
 -- The slots from i on are left to sweep.
+use Rattle.sizes.specs.Limits.{mostSlots}
 use Prim.Native.Nat.{_-_, _≤_}
 use Rattle.slot_list.specs.Arrays.{length-mapped}
 use Rattle.slots.specs.Capas.{isInvalidB}
@@ -15,10 +16,10 @@ use Rattle.slots.proofs.sweep.free_invalid_capas.Statement.{statement}
 use Rattle.slots.proofs.sweep.free_invalid_capas.Tie as tie
 
 abbrev Inv-loop : tie.InvT-loop
-Inv-loop t size slots₀ head₀ count₀ i₀ slots head count i = (i ≤ 128) × (sweepFrom (isInvalidB (view t)) (128 - i) i (record { slots = slots; head = head; count = count; size = size }) ≡ sweepFrom (isInvalidB (view t)) 128 0 (record { slots = slots₀; head = head₀; count = count₀; size = size }))
+Inv-loop t size slots₀ head₀ count₀ i₀ slots head count i = (i ≤ mostSlots) × (sweepFrom (isInvalidB (view t)) (mostSlots - i) i (record { slots = slots; head = head; count = count; size = size }) ≡ sweepFrom (isInvalidB (view t)) mostSlots 0 (record { slots = slots₀; head = head₀; count = count₀; size = size }))
 
 abbrev μ-loop : tie.MeasureT-loop
-μ-loop t size slots₀ head₀ count₀ i₀ slots head count i = 128 - i
+μ-loop t size slots₀ head₀ count₀ i₀ slots head count i = mostSlots - i
 
 loop-holds : tie.Need-loop-holds Inv-loop μ-loop
 loop-holds c = (omega arith, refl)
@@ -69,7 +70,7 @@ loop-again c =
 
 returns : tie.Need-returns Inv-loop μ-loop
 unfolding sweep
-returns c = let n : length (c .before .before .before .before .args .list .slots) ≡ 128 = search length-mapped in sym (sweep-end _ _ (c .before .loop .i) (c .loop-test .left)) ∙ (c .before .loop .inv .1) ∙ rw n
+returns c = let n : length (c .before .before .before .before .args .list .slots) ≡ mostSlots = search length-mapped in sym (sweep-end _ _ (c .before .loop .i) (c .loop-test .left)) ∙ (c .before .loop .inv .1) ∙ rw n
 
 pub free-invalid-capas-spec : {M : Type 1} → statement M
 free-invalid-capas-spec =

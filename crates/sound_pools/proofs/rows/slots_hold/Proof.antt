@@ -1,6 +1,5 @@
 -- The slots before j fit.
 use Rattle.sound_pools.specs.Answers.{slots-seen}
-use Rattle.sound_pools.specs.Walk.{allFrom}
 use borrow.Author.Tests.{not-true, not-false}
 use mathlib.Core.Path.{sym, ap, _∙_}
 use native.Mathlib.Omega.{arith}
@@ -9,6 +8,7 @@ use Rattle.sound_pools.specs.Marks.{Passed, passed-start, passed-go, pas
 use Rattle.tables.specs.View.{view}
 use borrow.Author.Needs.{needs}
 use Prim.Native.Nat.{_-_}
+use Rattle.base.specs.Tests.{allFrom}
 use Rattle.tables.specs.Tables.{slotAt}
 use Rattle.sound_pools.proofs.rows.slots_hold.Statement.{statement}
 use Rattle.sound_pools.proofs.rows.slots_hold.Tie as tie

@@ -18,14 +18,14 @@ link-to-requires c κs = search needs
 mark-requires : tie.Need-mark-requires
 mark-requires c κs = search needs
 
-settle-requires : tie.Need-settle-requires
-settle-requires c κs = search needs
+compare-marks-requires : tie.Need-compare-marks-requires
+compare-marks-requires c κs = search needs
 
 same-length : tie.Need-same-length
 same-length c = search needs
 
 returns : tie.Need-returns
-returns c = stack-is (c .before .before .before .before .before .before .before .before .before .before .before .before .before .before .args .t .now) (c .before .before .before .before .before .before .before .before .before .before .before .before .before .before .args .w .now) (c .before .before .before .before .before .before .before .before .before .before .before .before .before .before .pre .1) (c .before .before .before .before .before .before .before .before .before .before .before .before .before .before .args .s) _ _ (c .before .before .before .before .before .before .before .before .before .before .before .slots-of .ensures) (c .before .before .before .before .before .before .before .before .before .before .top-of .ensures) _ _ _ _ _ (c .before .before .before .before .before .before .before .before .before .if1 .taken) (c .before .before .before .before .before .before .before .before .link-to .ensures) (c .before .before .before .before .before .before .mark .ensures) (c .before .before .before .before .before .before .mark .kept .1 .1 .1 .1 .1 .0) (c .before .before .settle .ensures)
+returns c = stack-is (c .before .before .before .before .before .before .before .before .before .before .before .before .before .before .args .t .now) (c .before .before .before .before .before .before .before .before .before .before .before .before .before .before .args .w .now) (c .before .before .before .before .before .before .before .before .before .before .before .before .before .before .pre .1) (c .before .before .before .before .before .before .before .before .before .before .before .before .before .before .args .s) _ _ (c .before .before .before .before .before .before .before .before .before .before .before .slots-of .ensures) (c .before .before .before .before .before .before .before .before .before .before .top-of .ensures) _ _ _ _ _ (c .before .before .before .before .before .before .before .before .before .if1 .taken) (c .before .before .before .before .before .before .before .before .link-to .ensures) (c .before .before .before .before .before .before .mark .ensures) (c .before .before .before .before .before .before .mark .kept .1 .1 .1 .1 .1 .0) (c .before .before .compare-marks .ensures)
 
 returns-2 : tie.Need-returns-2
 returns-2 c = (stack-not (c .before .before .before .before .before .args .t .now) (c .before .before .before .before .before .args .w .now) (c .before .before .before .before .before .pre .1) (c .before .before .before .before .before .args .s) _ _ (c .before .before .slots-of .ensures) (c .before .top-of .ensures) (omega (arith, (c .if1 .left))), refl)
@@ -38,7 +38,7 @@ stack-holds-spec =
     top-of-requires
     link-to-requires
     mark-requires
-    settle-requires
+    compare-marks-requires
     same-length
     returns
     returns-2)

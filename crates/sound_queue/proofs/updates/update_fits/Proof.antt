@@ -4,8 +4,8 @@ use borrow.Author.Needs.{needs}
 use Rattle.sound_queue.proofs.updates.update_fits.Statement.{statement}
 use Rattle.sound_queue.proofs.updates.update_fits.Tie as tie
 
-is-tidy-requires : tie.Need-is-tidy-requires
-is-tidy-requires c κs = search needs
+is-well-formed-requires : tie.Need-is-well-formed-requires
+is-well-formed-requires c κs = search needs
 
 is-live-requires : tie.Need-is-live-requires
 is-live-requires c κs = search needs
@@ -15,7 +15,7 @@ both-requires c κs = search needs
 
 returns : tie.Need-returns
 unfolding updateFits
-returns c = rw ((c .both .ensures), (c .before .before .is-tidy .ensures), (c .before .is-live .ensures), (c .before .before .before .if1 .taken))
+returns c = rw ((c .both .ensures), (c .before .before .is-well-formed .ensures), (c .before .is-live .ensures), (c .before .before .before .if1 .taken))
 
 is-clear-requires : tie.Need-is-clear-requires
 is-clear-requires c κs = search needs
@@ -27,4 +27,4 @@ returns-2 c = rw ((c .before .if1 .left)) (c .is-clear .ensures)
 pub update-fits-spec : {M : Type 1} → statement M
 update-fits-spec =
     tie.close
-    (tie.spec is-tidy-requires is-live-requires both-requires returns is-clear-requires returns-2)
+    (tie.spec is-well-formed-requires is-live-requires both-requires returns is-clear-requires returns-2)

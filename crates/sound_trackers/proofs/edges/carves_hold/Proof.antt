@@ -1,6 +1,6 @@
 -- What is left from here is the whole.
 use Rattle.sound_trackers.specs.Chains.{every, chain}
-use Rattle.sound_trackers.specs.Laws.{regions-seen, passes, fails, all-none, all-fails, all-goes, all-end}
+use Rattle.sound_trackers.specs.Laws.{passes, fails, all-none, all-fails, all-goes, all-end}
 use Rattle.sound_trackers.specs.Trackers.{carveB, carvesEndB}
 use Rattle.tables.specs.Tables.{regionAt}
 use Rattle.tables.specs.View.{view}
@@ -8,6 +8,7 @@ use borrow.Author.Needs.{needs}
 use borrow.Author.Tests.{not-true, not-false}
 use mathlib.Core.Path.{_≡_, sym, _∙_}
 use native.Mathlib.Omega.{arith}
+use Rattle.tables.specs.Header.{regions-seen}
 use Rattle.sound_trackers.proofs.edges.carves_hold.Statement.{statement}
 use Rattle.sound_trackers.proofs.edges.carves_hold.Tie as tie
 

@@ -1,7 +1,7 @@
 -- What is left from slot j on is the whole.
 use Prim.Native.Nat.{_≤_, _-_}
 use Rattle.sound_trackers.specs.Chains.{every, slotsFrom}
-use Rattle.sound_trackers.specs.Laws.{slots-seen, passes, fails, up-start, up-fails, up-goes, up-end}
+use Rattle.sound_trackers.specs.Laws.{passes, fails, up-start, up-fails, up-goes, up-end}
 use Rattle.sound_trackers.specs.Trackers.{slotB, edgesB}
 use Rattle.tables.specs.Tables.{slotAt}
 use Rattle.tables.specs.View.{view}
@@ -9,6 +9,7 @@ use borrow.Author.Needs.{needs}
 use borrow.Author.Tests.{not-true, not-false}
 use mathlib.Core.Path.{_≡_, sym, _∙_}
 use native.Mathlib.Omega.{arith}
+use Rattle.tables.specs.Header.{slots-seen}
 use Rattle.sound_trackers.proofs.edges.edges_hold.Statement.{statement}
 use Rattle.sound_trackers.proofs.edges.edges_hold.Tie as tie
 

@@ -1,12 +1,13 @@
 -- What is left from here is the whole.
 use Rattle.sound_trackers.specs.Chains.{chain}
-use Rattle.sound_trackers.specs.Laws.{records-seen, passes, fails, point-none, point-found, point-goes, point-end}
+use Rattle.sound_trackers.specs.Laws.{passes, fails, point-none, point-found, point-goes, point-end}
 use Rattle.sound_trackers.specs.Trackers.{records, touchesB, insideB, pointIn, pointB}
 use Rattle.tables.specs.Tables.{recordAt}
 use Rattle.tables.specs.View.{view}
 use borrow.Author.Needs.{needs}
 use mathlib.Core.Path.{_≡_, sym, ap, _∙_}
 use native.Mathlib.Omega.{arith}
+use Rattle.tables.specs.Header.{records-seen}
 use Rattle.sound_trackers.proofs.edges.point_holds.Statement.{statement}
 use Rattle.sound_trackers.proofs.edges.point_holds.Tie as tie
 

@@ -1,6 +1,6 @@
 -- What is left from here is the whole.
 use Rattle.sound_trackers.specs.Chains.{every, chain}
-use Rattle.sound_trackers.specs.Laws.{records-seen, passes, fails, all-none, all-fails, all-goes, all-end}
+use Rattle.sound_trackers.specs.Laws.{passes, fails, all-none, all-fails, all-goes, all-end}
 use Rattle.sound_trackers.specs.Trackers.{records, recordB, recordsB}
 use Rattle.tables.specs.Tables.{recordAt}
 use Rattle.tables.specs.View.{view}
@@ -8,6 +8,7 @@ use borrow.Author.Needs.{needs}
 use borrow.Author.Tests.{not-true, not-false}
 use mathlib.Core.Path.{_≡_, sym, _∙_}
 use native.Mathlib.Omega.{arith}
+use Rattle.tables.specs.Header.{records-seen}
 use Rattle.sound_trackers.proofs.records.records_hold.Statement.{statement}
 use Rattle.sound_trackers.proofs.records.records_hold.Tie as tie
 

@@ -1,6 +1,6 @@
 -- What is left from here is the whole.
 use Rattle.sound_trackers.specs.Chains.{every, chain}
-use Rattle.sound_trackers.specs.Laws.{regions-seen, all-none, all-fails, all-goes, all-end, carve-found, carve-passed}
+use Rattle.sound_trackers.specs.Laws.{all-none, all-fails, all-goes, all-end, carve-found, carve-passed}
 use Rattle.sound_trackers.specs.Tally.{carvesB, uncarvedB}
 use Rattle.tables.specs.Tables.{regionAt}
 use Rattle.tables.specs.View.{view}
@@ -8,6 +8,7 @@ use borrow.Author.Needs.{needs}
 use mathlib.Core.Bool.{not}
 use mathlib.Core.Path.{_≡_, sym, _∙_}
 use native.Mathlib.Omega.{arith}
+use Rattle.tables.specs.Header.{regions-seen}
 use Rattle.sound_trackers.proofs.tally.is_uncarved.Statement.{statement}
 use Rattle.sound_trackers.proofs.tally.is_uncarved.Tie as tie
 

@@ -1,22 +1,17 @@
--- Field by field.
-use native.Mathlib.Omega.{arith}
+-- The counts of the rights word.
+use Rattle.sound_trackers.specs.Laws.{ones-counted}
+use borrow.Author.Needs.{needs}
 use Rattle.sound_trackers.proofs.tally.ones.Statement.{statement}
 use Rattle.sound_trackers.proofs.tally.ones.Tie as tie
 
-count-requires : tie.Need-count-requires
-count-requires c κs = omega arith
+cast-t4 : tie.Need-cast-t4
+cast-t4 c = search needs
 
-count-requires-2 : tie.Need-count-requires-2
-count-requires-2 c κs = omega arith
-
-count-requires-3 : tie.Need-count-requires-3
-count-requires-3 c κs = omega arith
-
-count-requires-4 : tie.Need-count-requires-4
-count-requires-4 c κs = omega arith
+counters-requires : tie.Need-counters-requires
+counters-requires c κs = search needs
 
 returns : tie.Need-returns
-returns c = rw ((c .before .before .before .count .ensures), (c .before .before .count2 .ensures), (c .before .count3 .ensures), (c .count4 .ensures))
+returns c = ones-counted (c .before .args .rights) _ (c .counters .ensures)
 
 pub ones-spec : {M : Type 1} → statement M
-ones-spec = tie.close (tie.spec count-requires count-requires-2 count-requires-3 count-requires-4 returns)
+ones-spec = tie.close (tie.spec cast-t4 counters-requires returns)

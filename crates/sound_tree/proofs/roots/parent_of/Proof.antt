@@ -6,11 +6,11 @@ use Rattle.sound_tree.proofs.roots.parent_of.Tie as tie
 load-region-requires : tie.Need-load-region-requires
 load-region-requires c κs = search needs
 
-unlinked-requires : tie.Need-unlinked-requires
-unlinked-requires c κs = search needs
+slot-to-requires : tie.Need-slot-to-requires
+slot-to-requires c κs = search needs
 
 returns : tie.Need-returns
-returns c = rw (← (c .before .load-region .ensures)) (c .unlinked .ensures)
+returns c = rw (← (c .before .load-region .ensures)) (c .slot-to .ensures)
 
 pub parent-of-spec : {M : Type 1} → statement M
-parent-of-spec = tie.close (tie.spec load-region-requires unlinked-requires returns)
+parent-of-spec = tie.close (tie.spec load-region-requires slot-to-requires returns)

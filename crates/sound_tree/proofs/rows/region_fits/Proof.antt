@@ -14,8 +14,8 @@ returns c = rw (← (c .before .region-is-free .ensures), (c .if1 .taken))
 load-region-requires : tie.Need-load-region-requires
 load-region-requires c κs = search needs
 
-unlinked-requires : tie.Need-unlinked-requires
-unlinked-requires c κs = search needs
+slot-to-requires : tie.Need-slot-to-requires
+slot-to-requires c κs = search needs
 
 load-region-requires-2 : tie.Need-load-region-requires-2
 load-region-requires-2 c κs = search needs
@@ -40,7 +40,7 @@ region-fits-spec =
     region-is-free-requires
     returns
     load-region-requires
-    unlinked-requires
+    slot-to-requires
     load-region-requires-2
     row-fits-requires
     place-fits-requires

@@ -22,7 +22,7 @@ use denote.Slice.{sliceVal, ShrSlice, MutSlice, shr-slice-copy}
 use denote.Steps.{owned, nothing}
 use denote.Triple.Spec.{tripleOf}
 use denote.Triple.Statement.{Contract}
-use Rattle.engine.proofs.read.listing_of as listing-of
+use Rattle.lent_readings.proofs.listing_of as listing-of
 
 module _ {M : Type 1} (𝓤 : URA M) (H : Heap 𝓤) (A : Atoms 𝓤) (mem : Memory → SProp 𝓤) (run : Routine → Fun 𝓤) where
   -- the contract that the proof cites

@@ -52,13 +52,13 @@ use Rattle.readings.proofs.Found as F
 use Rattle.readings.proofs.Found.Laws as F′
 use Rattle.readings.proofs.found_at as found-at
 use Rattle.readings.proofs.found_at.Symbol.{name as #found-at}
-use Rattle.engine.specs.declared.read.Listing.{Listing}
+use Rattle.lent_readings.specs.declared.Listing.{Listing}
 use Rattle.frame.specs.Replies.{handle}
-use Rattle.engine.specs.Permissions.{Plans}
+use Rattle.lent_readings.specs.Permissions.{Plans}
 use Rattle.frame.proofs.replies.Reply as R
 use Rattle.frame.proofs.replies.Reply.Laws as R′
-use Rattle.engine.proofs.read.Listing as P
-use Rattle.engine.proofs.read.Listing.Laws as P′
+use Rattle.lent_readings.proofs.Listing as P
+use Rattle.lent_readings.proofs.Listing.Laws as P′
 use Rattle.engine.proofs.read.mityvurno_permissions as permissions
 use Rattle.engine.proofs.read.mityvurno_permissions.Code.Mir.{turn-1, t-5, t-8}
 use Rattle.engine.proofs.read.mityvurno_permissions.Proof.Places.{word, t-slice, w-slice, run-slice, w-ref, w-lent, none, Locals, Dies}

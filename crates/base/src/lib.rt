@@ -1,0 +1,1 @@
+// No code: plain mathematics that several crates use, in specs/.

@@ -1,0 +1,3 @@
+pub mod Opening
+pub mod Popping
+pub mod Made

@@ -1,0 +1,3 @@
+pub mod Lookup
+pub mod Readings
+pub mod Permissions

@@ -1,0 +1,83 @@
+-- The lengths are right, so the making is accepted; what the records leave is reached.
+use Rattle.promise.specs.Reached.{reached-then}
+use Rattle.running.specs.Reached.{made-reached}
+use borrow.Author.Needs.{needs}
+use Rattle.script.proofs.main.Statement.{statement}
+use Rattle.script.proofs.main.Tie as tie
+
+slice-aggregate-mityvurno-make-tables : tie.Need-slice-aggregate-mityvurno-make-tables
+slice-aggregate-mityvurno-make-tables c = search needs
+
+slice-aggregate-mityvurno-make-tables-2 : tie.Need-slice-aggregate-mityvurno-make-tables-2
+slice-aggregate-mityvurno-make-tables-2 c = search needs
+
+mityvurno-make-tables-requires : tie.Need-mityvurno-make-tables-requires
+mityvurno-make-tables-requires c κs = search needs
+
+slice-aggregate-run-records : tie.Need-slice-aggregate-run-records
+slice-aggregate-run-records c = search needs
+
+slice-aggregate-run-records-2 : tie.Need-slice-aggregate-run-records-2
+slice-aggregate-run-records-2 c = search needs
+
+slice-aggregate-run-records-3 : tie.Need-slice-aggregate-run-records-3
+slice-aggregate-run-records-3 c = search needs
+
+slice-aggregate-run-records-4 : tie.Need-slice-aggregate-run-records-4
+slice-aggregate-run-records-4 c = search needs
+
+run-records-requires : tie.Need-run-records-requires
+run-records-requires c κs = search needs
+
+slice-aggregate-list-domains : tie.Need-slice-aggregate-list-domains
+slice-aggregate-list-domains c = search needs
+
+slice-aggregate-list-domains-2 : tie.Need-slice-aggregate-list-domains-2
+slice-aggregate-list-domains-2 c = search needs
+
+list-domains-requires : tie.Need-list-domains-requires
+list-domains-requires c κs = (search needs, (search needs, reached-then (made-reached tt (search needs) (search needs) (c .before .before .before .before .before .before .before .before .before .before .before .before .before .mityvurno-make-tables .ensures)) (c .before .before .before .before .before .before .run-records .ensures .1)))
+
+slice-aggregate-list-queue : tie.Need-slice-aggregate-list-queue
+slice-aggregate-list-queue c = search needs
+
+slice-aggregate-list-queue-2 : tie.Need-slice-aggregate-list-queue-2
+slice-aggregate-list-queue-2 c = search needs
+
+slice-aggregate-list-queue-3 : tie.Need-slice-aggregate-list-queue-3
+slice-aggregate-list-queue-3 c = search needs
+
+list-queue-requires : tie.Need-list-queue-requires
+list-queue-requires c κs = (search needs, (search needs, reached-then (made-reached tt (search needs) (search needs) (c .before .before .before .before .before .before .before .before .before .before .before .before .before .before .before .before .before .before .mityvurno-make-tables .ensures)) (c .before .before .before .before .before .before .before .before .before .before .before .run-records .ensures .1)))
+
+slice-aggregate-write : tie.Need-slice-aggregate-write
+slice-aggregate-write c = search needs
+
+write-requires : tie.Need-write-requires
+write-requires c κs = search needs
+
+returns : tie.Need-returns
+returns c = search needs
+
+pub main-spec : {M : Type 1} → statement M
+main-spec =
+    tie.close
+    (tie.spec
+    slice-aggregate-mityvurno-make-tables
+    slice-aggregate-mityvurno-make-tables-2
+    mityvurno-make-tables-requires
+    slice-aggregate-run-records
+    slice-aggregate-run-records-2
+    slice-aggregate-run-records-3
+    slice-aggregate-run-records-4
+    run-records-requires
+    slice-aggregate-list-domains
+    slice-aggregate-list-domains-2
+    list-domains-requires
+    slice-aggregate-list-queue
+    slice-aggregate-list-queue-2
+    slice-aggregate-list-queue-3
+    list-queue-requires
+    slice-aggregate-write
+    write-requires
+    returns)
