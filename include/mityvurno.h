@@ -4,14 +4,21 @@
  * The host lends two runs of words for the time of a call: the tables, which keep everything between calls, and a work area of the same
  * length. Each call tests both and trusts neither: any contents and any lengths are answered. Tables that are not sound, or a length that
  * is wrong, give MITYVURNO_MEMORY. A refused call changes no word of the tables. The work area is all zero after every call, refused or
- * not, whatever it held before. Nothing is kept elsewhere, so that the calls may run on several tables at once.
+ * not, whatever it held before. Nothing is kept elsewhere: calls on different tables may run at once, and so may readings of the same
+ * tables, each with a work area of its own.
  *
  * What a C caller must see to, since C cannot say it of a pointer and a length:
  *   - each pointer is that of so many words as its length says, aligned as its type is;
- *   - tables, work area and run do not overlap, and nobody else writes them during the call.
+ *   - tables, work area and run do not overlap, and nobody else writes them during the call;
+ *   - nothing but these functions writes the tables between calls, either. Damage is refused with MITYVURNO_MEMORY, but whoever writes
+ *     the words of other sound tables there has made other tables: the test cannot tell a consistent forgery.
  * Where a length is 0, nothing is read or written through its pointer; NULL was tested there.
  *
- * Of its host the archive asks for memcpy and memset, nothing else; it uses SSE registers. Stack, measured at the largest sizes: up to
+ * Cost. Every call but making tests all tables first, whatever it does then: 40 to 80 microseconds at the script program's sizes, 1 to 6
+ * milliseconds on the benchmark's states at the largest, 11 on the slowest sound tables found (bench/README.md).
+ *
+ * Of its host the archive asks for memcpy and memset, nothing else; it uses SSE registers and the red zone, the 128 bytes below the stack
+ * pointer: code that interrupts a call must not write there, so it needs a stack of its own. Stack, measured at the largest sizes: up to
  * 22 KiB for a call, and for a revoke some 120 bytes more for each level of the tree: 132 KiB for 1,023 regions, each below the other. */
 #ifndef MITYVURNO_H
 #define MITYVURNO_H
@@ -114,62 +121,69 @@ typedef struct {
 /* ---- calls
  *
  * `t` has `t_words` words, the tables; `w` has `w_words` words, the work area. A domain is named by its handle, slot and generation, as
- * opening it answered; `local` is a slot of that domain's capability list. */
+ * opening it answered; `local` is a slot of that domain's capability list.
+ *
+ * Behind each call stand the refusals that it can give besides MITYVURNO_MEMORY, in the order in which they are tested; no other is
+ * possible (theorem `call-refusals`). 13, 14 and 16 come after the others, whichever is met first. */
 
 #define MITYVURNO_LENT uint64_t *MITYVURNO_APART t, size_t t_words, uint64_t *MITYVURNO_APART w, size_t w_words
 /* A reading does not change the tables. */
 #define MITYVURNO_READ_ONLY const uint64_t *MITYVURNO_APART t, size_t t_words, uint64_t *MITYVURNO_APART w, size_t w_words
 
-/* Empty tables. The lengths must be those of MITYVURNO_WORDS; what the tables held before does not matter. */
+/* Empty tables. The lengths must be those of MITYVURNO_WORDS; what the tables held before does not matter. Refusals: 2, before 1. */
 mityvurno_reply mityvurno_make_tables(MITYVURNO_LENT, uint64_t domains, uint64_t slots, uint64_t regions, uint64_t records,
                                       uint64_t updates);
 
-/* A domain without a manager; `cores` is its core map. */
+/* A domain without a manager; `cores` is its core map. Refusals: 15. */
 mityvurno_domain_reply mityvurno_open_domain(MITYVURNO_LENT, uint64_t cores);
 
-/* A domain with a manager, which gets a Management capability to it. */
+/* A domain with a manager, which gets a Management capability to it. Refusals: 3, 15, 12. */
 mityvurno_domain_reply mityvurno_open_under(MITYVURNO_LENT, uint64_t manager, uint64_t generation, uint64_t cores);
 
-/* Platform only. A Channel capability to domain `to` in the list of `domain`, or in its own; value: its local slot. */
+/* Platform only. A Channel capability to domain `to` in the list of `domain`, or in its own; value: its local slot. Refusals: 3, 12. */
 mityvurno_reply mityvurno_open_channel(MITYVURNO_LENT, uint64_t domain, uint64_t generation, uint64_t to, uint64_t to_generation);
 
+/* The domain's core map. Refusals: 3. */
 mityvurno_reply mityvurno_set_core_map(MITYVURNO_LENT, uint64_t domain, uint64_t generation, uint64_t cores);
 
-/* A new region, `start` up to but not including `end`; value: its local slot. */
+/* A new region, `start` up to but not including `end`; value: its local slot. Refusals: 3, 11, 12, 7; 13, 14, 16. */
 mityvurno_reply mityvurno_create_root_region(MITYVURNO_LENT, uint64_t domain, uint64_t generation, uint64_t start, uint64_t end,
                                              uint8_t rights);
 
-/* A part of the region in `local`, shared with it or cut out of it; value: its local slot. */
+/* A part of the region in `local`, shared with it or cut out of it; value: its local slot.
+ * Refusals: 3, 4, 5, 6, 11, 12, 7, 8; 13, 14, 16. */
 mityvurno_reply mityvurno_alias_region(MITYVURNO_LENT, uint64_t domain, uint64_t generation, uint64_t local, uint64_t start, uint64_t end,
                                        uint8_t rights);
 mityvurno_reply mityvurno_carve_region(MITYVURNO_LENT, uint64_t domain, uint64_t generation, uint64_t local, uint64_t start, uint64_t end,
                                        uint8_t rights);
 
-/* Moves what `local` holds to the domain that the Channel or Management capability in `target` names; value: the slot there. */
+/* Moves what `local` holds to the domain that the Channel or Management capability in `target` names; value: the slot there.
+ * Refusals: 3; of the target 4, 5, 3, 12; of the sent slot 4, 10, 6; 13, 14, 16. */
 mityvurno_reply mityvurno_send(MITYVURNO_LENT, uint64_t domain, uint64_t generation, uint64_t local, uint64_t target);
 
-/* Revokes what `local` holds or names, a region with all below it. */
+/* Revokes what `local` holds or names, a region with all below it. Refusals: 3, 4, 10, 6, 9; 13, 14, 16. */
 mityvurno_reply mityvurno_revoke(MITYVURNO_LENT, uint64_t domain, uint64_t generation, uint64_t local);
 
-/* A RegionRevoke for the region in `local`; value: its local slot. */
+/* A RegionRevoke for the region in `local`; value: its local slot. Refusals: 3, 4, 5, 6, 9, 12. */
 mityvurno_reply mityvurno_create_revoke_capa(MITYVURNO_LENT, uint64_t domain, uint64_t generation, uint64_t local);
 
-/* The oldest update leaves the queue. */
+/* The oldest update leaves the queue; kind MITYVURNO_NONE where it is empty. Refusals: none. */
 mityvurno_update_reply mityvurno_pop(MITYVURNO_LENT);
 
 /* ---- readings */
 
-/* Value: the largest reach in the range, of any two numbers (document 01, `get_refcount`). */
+/* Value: the largest reach in the range, of any two numbers (document 01, `get_refcount`). Refusals: 3. */
 mityvurno_reply mityvurno_get_refcount(MITYVURNO_READ_ONLY, uint64_t domain, uint64_t generation, uint64_t start, uint64_t end);
 
-/* Value: the domain's core map. */
+/* Value: the domain's core map. Refusals: 3. */
 mityvurno_reply mityvurno_core_map(MITYVURNO_READ_ONLY, uint64_t domain, uint64_t generation);
 
 /* The slots of the domains that reach an address, in any order, each once. Value: how many there are; those past the run are not
- * written, and unused places stay as they are, as does the whole run on refusal. */
+ * written, and unused places stay as they are, as does the whole run on refusal. A run as long as the tables have domains has room for
+ * all. Refusals: none. */
 mityvurno_reply mityvurno_holders(MITYVURNO_READ_ONLY, uint64_t address, uint64_t *MITYVURNO_APART run, size_t places);
 
-/* The domain's permissions, rising; value and run likewise. */
+/* The domain's permissions, rising; value and run likewise. A run as long as the tables have records has room for all. Refusals: 3. */
 mityvurno_reply mityvurno_permissions(MITYVURNO_READ_ONLY, uint64_t domain, uint64_t generation,
                                       mityvurno_permission *MITYVURNO_APART run, size_t places);
 
