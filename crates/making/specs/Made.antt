@@ -1,7 +1,7 @@
 -- Cleared words with the sizes in their header are blank, and blank words with three new pools are the empty tables.
 use mathlib.Core.Path.{_≡_, sym, ap, _∙_}
 use mathlib.Core.List.{List, [], _∷_, _++_, map}
-use Prim.Native.Nat.{ℕ, _+_, _*_, _<_}
+use Prim.Native.Nat.{ℕ, _+_, _-_, _*_, _<_}
 use native.Mathlib.Omega.{arith}
 use lib.ListN.{length, getD, take, drop, replicate, length-replicate, getD-replicate}
 use lib.Seq.{sets, sets-eq, length-sets, getD-append-add}
@@ -11,7 +11,7 @@ use Rattle.words.specs.Zeros.{zeros, take-zeros, drop-zeros, rows-zeros, cuts-z
 use Rattle.sizes.specs.declared.Sizes.{Sizes}
 use Rattle.tables.specs.Tables.{Tables, withDomainPool, withRegionPool, withRecordPool}
 use Rattle.sizes.specs.Limits.{Limits}
-use Rattle.sizes.specs.Sizes.{sizesOf, widths, stride, total, headerWidth, headWidth, slotWidth, regionWidth, recordWidth, updateWidth}
+use Rattle.sizes.specs.Sizes.{sections, sizesOf, widths, stride, total, headerWidth, headWidth, slotWidth, regionWidth, recordWidth, updateWidth}
 use Rattle.tables.specs.View.{view, ofParts, Left, layout, domainOf, slotOf, regionOf, recordOf, updateOf}
 use Rattle.tables.specs.Header.{read-is, write-is, sizes-seen}
 use Rattle.tables.specs.Layout.{words-are}
@@ -25,6 +25,10 @@ sizeWords z = z .domains ∷ z .slots ∷ z .regions ∷ z .records ∷ z .updat
 abbrev later : Sizes → List ℕ
 later z = drop 1 (widths z)
 
+-- how many they are
+abbrev behindHeader : ℕ
+behindHeader = sections - 1
+
 domain-zeros : (z : Sizes) → domainOf (z .slots) (zeros (stride z)) ≡ emptyDomain z
 unfolding domainOf emptyDomain
 domain-zeros z = rw (take-zeros headWidth (z .slots * slotWidth), drop-zeros headWidth (z .slots * slotWidth), rows-zeros slotWidth (z .slots) slotOf)
@@ -32,18 +36,18 @@ domain-zeros z = rw (take-zeros headWidth (z .slots * slotWidth), drop-zeros hea
 -- ---- cleared words with the sizes in front
 
 module _ (z : Sizes) (l : Limits z) (m : List ℕ) (t : List ℕ) (cleared : m ≡ zeros (total z)) (e : t ≡ stored m 0 (sizeWords z)) where
-  set-in : t ≡ sets (zeros (7 + offset (later z) 7)) 0 (sizeWords z)
+  set-in : t ≡ sets (zeros (headerWidth + offset (later z) behindHeader)) 0 (sizeWords z)
   unfolding total offset
   set-in = e ∙ rw cleared (stored-in (zeros (total z)) 0 (sizeWords z) (omega (arith, length-replicate {A = ℕ} (total z) 0)))
 
   long : length t ≡ total z
   unfolding total offset
-  long = ap length set-in ∙ length-sets (zeros (7 + offset (later z) 7)) 0 (sizeWords z) ∙ length-replicate (7 + offset (later z) 7) 0
+  long = ap length set-in ∙ length-sets (zeros (headerWidth + offset (later z) behindHeader)) 0 (sizeWords z) ∙ length-replicate (headerWidth + offset (later z) behindHeader) 0
 
   -- the sizes, and zeros after them
-  front : t ≡ sizeWords z ++ zeros (2 + offset (later z) 7)
+  front : t ≡ sizeWords z ++ zeros (2 + offset (later z) behindHeader)
   front =
-      let r = offset (later z) 7 in
+      let r = offset (later z) behindHeader in
       let d : 7 + r ≡ 5 + (2 + r) = omega arith in
       set-in
       ∙ sets-eq (sizeWords z) (zeros (7 + r)) 0 (omega (arith, length-replicate {A = ℕ} (7 + r) 0))
@@ -56,7 +60,7 @@ module _ (z : Sizes) (l : Limits z) (m : List ℕ) (t : List ℕ) (cleared : m �
   parts-are : cuts (widths z) t ≡ take headerWidth t ∷ map zeros (later z)
   unfolding cuts
   parts-are =
-      let r = offset (later z) 7 in
+      let r = offset (later z) behindHeader in
       let d : drop 7 t ≡ zeros r = ap (drop 7) set-in ∙ drop-sets-lt (sizeWords z) (zeros (7 + r)) 7 0 (omega arith) ∙ drop-zeros 7 r in
       ap (λ (x : List (List ℕ)). take headerWidth t ∷ x) (ap (cuts (later z)) d ∙ cuts-zeros (later z))
 
@@ -66,7 +70,7 @@ module _ (z : Sizes) (l : Limits z) (m : List ℕ) (t : List ℕ) (cleared : m �
 
   zero-at : (k : ℕ) → k < 2 → getD t (5 + k) 0 ≡ 0
   zero-at k h =
-      let r = offset (later z) 7 in
+      let r = offset (later z) behindHeader in
       rw front (getD-append-add (sizeWords z) (zeros (2 + r)) k 0 ∙ getD-replicate (2 + r) k 0 0 (omega arith))
 
   pub blank-is : Blank z t

@@ -18,6 +18,7 @@ use Rattle.model.specs.State.{State, permission, withQueue}
 use Rattle.model.specs.Outcome.{ok, _>>=_}
 use Rattle.model.specs.Pool.{handleOf}
 use Rattle.model.specs.Updates.{push, isPermissionOf, pushPermission, pop}
+use Rattle.sizes.specs.Limits.{mostUpdates}
 use Rattle.laws.specs.Keep.Ring.{eqb-turned}
 use Rattle.laws.specs.Tree.Steps.{domain-at}
 use Rattle.tables.specs.declared.Update.{Update}
@@ -75,7 +76,7 @@ any-is h (u ∷ l) = rw (names-is h u, any-is h l) (or-pick (isPermissionOf h u)
 
 -- ---- the ring of a state's tables
 
-module _ (s : State) (high : s .sizes .updates ≤ 128) (hf : s .queue .readPlace < s .sizes .updates + 1) (fits : length (s .queue .items) < s .sizes .updates + 1) where
+module _ (s : State) (high : s .sizes .updates ≤ mostUpdates) (hf : s .queue .readPlace < s .sizes .updates + 1) (fits : length (s .queue .items) < s .sizes .updates + 1) where
   places-many : length (tablesOf s .ring) ≡ s .sizes .updates + 1
   unfolding tablesOf ringFor
   places-many = map-up-length (placeFor (s .sizes .updates) (s .queue)) (s .sizes .updates + 1)

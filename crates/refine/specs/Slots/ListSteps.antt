@@ -20,6 +20,7 @@ use Rattle.refusals.specs.Refusals.{noLocal}
 use Rattle.model.specs.Layout.{slotOr0}
 use Rattle.model.specs.Locals.{freeLocal, insertCapa, removeCapa, emptyCapa}
 use Rattle.model.specs.Sound.{OnceEach, slotUses}
+use Rattle.sizes.specs.Limits.{mostSlots}
 use Rattle.laws.specs.Capas.Slots.{next-free}
 use Rattle.laws.specs.Words.SameDomains.{Listed}
 use Rattle.laws.specs.Tree.Slots.{in-length}
@@ -58,8 +59,8 @@ capa-used (channel h) = refl
 
 padded-set : (ss : List Slot) (i : ℕ) (x : Slot) → i < length ss → set (padded ss) i x ≡ padded (set ss i x)
 padded-set ss i x h =
-    set-append-left ss (replicate (128 - length ss) noSlot) i x h
-    ∙ ap (λ (k : ℕ). set ss i x ++ replicate (128 - k) noSlot) (sym (length-set ss i x))
+    set-append-left ss (replicate (mostSlots - length ss) noSlot) i x h
+    ∙ ap (λ (k : ℕ). set ss i x ++ replicate (mostSlots - k) noSlot) (sym (length-set ss i x))
 
 module _ (n : ℕ) (l : LocalList) where
   pub slots-long : length (slotsFor n l) ≡ n
@@ -68,7 +69,7 @@ module _ (n : ℕ) (l : LocalList) where
   -- one slot read, and set
   pub slot-for : (i : ℕ) (d : Slot) → i < n → getD (padded (slotsFor n l)) i d ≡ slotFor (l .free) i (atSlot (l .held) i)
   slot-for i d h =
-      List·getD-append (slotsFor n l) (replicate (128 - length (slotsFor n l)) noSlot) d i (omega (arith, slots-long))
+      List·getD-append (slotsFor n l) (replicate (mostSlots - length (slotsFor n l)) noSlot) d i (omega (arith, slots-long))
       ∙ getD-up (λ j. slotFor (l .free) j (atSlot (l .held) j)) n i d h
 
   slot-in : (i : ℕ) → i < n → slotIn (listFor n l) i ≡ slotFor (l .free) i (atSlot (l .held) i)

@@ -21,6 +21,7 @@ use Rattle.model.specs.Layout.{link, slotOr0}
 use Rattle.model.specs.Locals.{freshLocals}
 use Rattle.model.specs.Calls as calls
 use Rattle.model.specs.Sound.{PoolSound, slotUses}
+use Rattle.sizes.specs.Limits.{mostSlots}
 use Rattle.laws.specs.Parts.{up-length}
 use Rattle.tables.specs.declared.Slot.{Slot}
 use Rattle.tables.specs.declared.DomainHead.{DomainHead}
@@ -85,11 +86,11 @@ module _ (n : ℕ) where
   opened m cores = record { manager = m; cores = cores; locals = freshLocals n; tracker = [] }
 
   -- its record, from a record with as many slots
-  fresh-row : (m : Option ℕ) (cores : ℕ) (y : Domain) → n ≤ 128 → length (y .slots) ≡ n
+  fresh-row : (m : Option ℕ) (cores : ℕ) (y : Domain) → n ≤ mostSlots → length (y .slots) ≡ n
       → putList (record { head = newHead (link m) cores; slots = y .slots }) (freshList n) ≡ domainFor n (some (opened m cores))
   unfolding putList freshList
   fresh-row m cores y high e =
-      let ss : take (length (y .slots)) (freshFrom n 128 0) ≡ slotsFor n (freshLocals n) = ap (λ (k : ℕ). take k (freshFrom n 128 0)) e ∙ fresh-from n 128 0 high (omega arith) in
+      let ss : take (length (y .slots)) (freshFrom n mostSlots 0) ≡ slotsFor n (freshLocals n) = ap (λ (k : ℕ). take k (freshFrom n mostSlots 0)) e ∙ fresh-from n mostSlots 0 high (omega arith) in
       let c : 0 ≡ n - length (countUp 0 n) = omega (arith, up-length 0 n) in
       let t = sym (fresh-head n) in
       λ i. record { head = record { manager = link m; cores = cores; tracker = 0; head = t i; count = c i }; slots = ss i }
@@ -104,7 +105,7 @@ both-put t i h l b =
     let r = putHead (getD (t .domains) i noDomain) h in
     rw (getD-set-same (t .domains) i r noDomain b, set-set (t .domains) i r (putList r l))
 
-module _ (s : State) (long : length (s .domains) ≡ s .sizes .domains) (pool : PoolSound (s .sizes .domains) (slotUses (s .domains)) (s .domainPool)) (high : s .sizes .slots ≤ 128) (m : Option ℕ) (cores : ℕ) where
+module _ (s : State) (long : length (s .domains) ≡ s .sizes .domains) (pool : PoolSound (s .sizes .domains) (slotUses (s .domains)) (s .domainPool)) (high : s .sizes .slots ≤ mostSlots) (m : Option ℕ) (cores : ℕ) where
   -- no slot is free
   module _ (e : s .domainPool .free ≡ []) where
     none-given : given (tablesOf s .domainPool) ≡ Full

@@ -18,6 +18,7 @@ use Rattle.model.specs.Outcome.{Outcome, ok, _>>=_, _>>_, require}
 use Rattle.refusals.specs.Refusals.{noLocal}
 use Rattle.model.specs.Locals.{freeLocal, freeLocals, isInvalid, invalidSlots, freeInvalidCapas, hasCapacity}
 use Rattle.model.specs.Sound.{PoolSound, slotUses}
+use Rattle.sizes.specs.Limits.{mostSlots}
 use Rattle.laws.specs.Capas.Slots.{once-give}
 use Rattle.laws.specs.Words.SameDomains.{Listed}
 use Rattle.laws.specs.Tree.Slots.{in-length}
@@ -113,7 +114,7 @@ module _ (s : State) (bad : Slot → Bool) (kept : (k : ℕ) → bad (freeSlot k
   unfolding SweepOk sweep freeInvalidCapas
   sweep-for l h =
       let ss = slotsFor n l in
-      sweep-all (length (padded ss)) 0 l h (omega (arith, length-append ss (replicate (128 - length ss) noSlot), slots-long n l))
+      sweep-all (length (padded ss)) 0 l h (omega (arith, length-append ss (replicate (mostSlots - length ss) noSlot), slots-long n l))
 
 -- ---- the tables
 
