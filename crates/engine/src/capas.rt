@@ -2,7 +2,6 @@
 ghost use Rattle.model.specs.Perform.{Call, Step};
 ghost use Rattle.frame.specs.Replies.{handle, replyOf, Returns};
 use frame::Reply;
-use lent_steps::capas;
 
 // The value is the slot in the list of the domain that the target names.
 #[no_mangle]
@@ -16,7 +15,7 @@ pub extern "C" fn mityvurno_send(
 ) -> Reply
     ensures { λ r. ⌜ Returns replyOf (now (t .entry)) (now (w .entry)) (Call.Do (Step.Send (handle domain generation) local target)) r (now (t .exit)) (now (w .exit)) ⌝ }
 {
-    capas::send(t, w, domain, generation, local, target)
+    lent_capas::send(t, w, domain, generation, local, target)
 }
 
 #[no_mangle]
@@ -29,7 +28,7 @@ pub extern "C" fn mityvurno_revoke(
 ) -> Reply
     ensures { λ r. ⌜ Returns replyOf (now (t .entry)) (now (w .entry)) (Call.Do (Step.Revoke (handle domain generation) local)) r (now (t .exit)) (now (w .exit)) ⌝ }
 {
-    capas::revoke(t, w, domain, generation, local)
+    lent_capas::revoke(t, w, domain, generation, local)
 }
 
 // The value is the local slot of the RegionRevoke.
@@ -43,5 +42,5 @@ pub extern "C" fn mityvurno_create_revoke_capa(
 ) -> Reply
     ensures { λ r. ⌜ Returns replyOf (now (t .entry)) (now (w .entry)) (Call.Do (Step.CreateRevokeCapa (handle domain generation) local)) r (now (t .exit)) (now (w .exit)) ⌝ }
 {
-    capas::create_revoke_capa(t, w, domain, generation, local)
+    lent_capas::create_revoke_capa(t, w, domain, generation, local)
 }

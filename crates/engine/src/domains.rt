@@ -4,8 +4,7 @@ ghost use Rattle.model.specs.Perform.{Call, Step};
 ghost use Rattle.frame.specs.Replies.{handle, replyOf, domainReplyOf, Returns};
 use frame::DomainReply;
 use frame::Reply;
-use lent_calls::open;
-use lent_steps::domains;
+use lent_domains::open;
 
 // A domain without a manager.
 #[no_mangle]
@@ -41,7 +40,7 @@ pub extern "C" fn mityvurno_open_channel(
 ) -> Reply
     ensures { λ r. ⌜ Returns replyOf (now (t .entry)) (now (w .entry)) (Call.Do (Step.Channel (handle domain generation) (handle to «to_generation»))) r (now (t .exit)) (now (w .exit)) ⌝ }
 {
-    domains::open_channel(t, w, domain, generation, to, to_generation)
+    lent_domains::open_channel(t, w, domain, generation, to, to_generation)
 }
 
 #[no_mangle]
@@ -54,5 +53,5 @@ pub extern "C" fn mityvurno_set_core_map(
 ) -> Reply
     ensures { λ r. ⌜ Returns replyOf (now (t .entry)) (now (w .entry)) (Call.Do (Step.SetCoreMap (handle domain generation) cores)) r (now (t .exit)) (now (w .exit)) ⌝ }
 {
-    domains::set_core_map(t, w, domain, generation, cores)
+    lent_domains::set_core_map(t, w, domain, generation, cores)
 }

@@ -2,7 +2,6 @@
 ghost use Rattle.model.specs.Perform.{Call};
 ghost use Rattle.frame.specs.Replies.{sizes, replyOf, Returns};
 use frame::Reply;
-use lent_calls::make;
 
 #[no_mangle]
 pub extern "C" fn mityvurno_make_tables(
@@ -16,5 +15,5 @@ pub extern "C" fn mityvurno_make_tables(
 ) -> Reply
     ensures { λ r. ⌜ Returns replyOf (now (t .entry)) (now (w .entry)) (Call.Make (sizes domains slots regions records updates)) r (now (t .exit)) (now (w .exit)) ⌝ }
 {
-    make::make_tables(t, w, domains, slots, regions, records, updates)
+    lent_make::make_tables(t, w, domains, slots, regions, records, updates)
 }

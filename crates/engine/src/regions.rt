@@ -2,7 +2,6 @@
 ghost use Rattle.model.specs.Perform.{Call, Step};
 ghost use Rattle.frame.specs.Replies.{handle, access, replyOf, Returns};
 use frame::Reply;
-use lent_steps::regions;
 
 #[no_mangle]
 pub extern "C" fn mityvurno_create_root_region(
@@ -16,7 +15,7 @@ pub extern "C" fn mityvurno_create_root_region(
 ) -> Reply
     ensures { λ r. ⌜ Returns replyOf (now (t .entry)) (now (w .entry)) (Call.Do (Step.Root (handle domain generation) (access start end rights))) r (now (t .exit)) (now (w .exit)) ⌝ }
 {
-    regions::create_root_region(t, w, domain, generation, start, end, rights)
+    lent_regions::create_root_region(t, w, domain, generation, start, end, rights)
 }
 
 #[no_mangle]
@@ -32,7 +31,7 @@ pub extern "C" fn mityvurno_alias_region(
 ) -> Reply
     ensures { λ r. ⌜ Returns replyOf (now (t .entry)) (now (w .entry)) (Call.Do (Step.Alias (handle domain generation) local (access start end rights))) r (now (t .exit)) (now (w .exit)) ⌝ }
 {
-    regions::alias_region(t, w, domain, generation, local, start, end, rights)
+    lent_regions::alias_region(t, w, domain, generation, local, start, end, rights)
 }
 
 #[no_mangle]
@@ -48,5 +47,5 @@ pub extern "C" fn mityvurno_carve_region(
 ) -> Reply
     ensures { λ r. ⌜ Returns replyOf (now (t .entry)) (now (w .entry)) (Call.Do (Step.Carve (handle domain generation) local (access start end rights))) r (now (t .exit)) (now (w .exit)) ⌝ }
 {
-    regions::carve_region(t, w, domain, generation, local, start, end, rights)
+    lent_regions::carve_region(t, w, domain, generation, local, start, end, rights)
 }

@@ -7,7 +7,6 @@ ghost use Rattle.running.specs.Takes.{Takes};
 ghost use Rattle.running.specs.BetweenRecords.{RunsAll};
 ghost use Rattle.running.specs.RunScript.{RanScript};
 use crate::perform;
-use engine::make;
 use frame::Reply;
 use refusals::Refusal;
 use script_records::Parsed;
@@ -91,7 +90,7 @@ fn run_records(b: &[u8], t: &mut [u64], w: &mut [u64]) -> Reply
 pub fn run_script(b: &[u8], t: &mut [u64], w: &mut [u64]) -> Reply
     ensures { λ x. ⌜ RanScript (now (b .entry)) (now (t .entry)) (now (w .entry)) x (now (t .exit)) (now (w .exit)) ⌝ }
 {
-    let made = make::mityvurno_make_tables(t, w, 8, 16, 128, 128, 32);
+    let made = lent_make::make_tables(t, w, 8, 16, 128, 128, 32);
     if made.refusal == 0 {
         return run_records(b, t, w);
     }

@@ -11,8 +11,6 @@ ghost use Rattle.running.specs.RunScript.{ScriptTables};
 use byte_io::input;
 use byte_io::input::Buffered;
 use byte_io::output;
-use engine::make;
-use engine::queue;
 use frame::Reply;
 use refusals::Refusal;
 use running::Taken;
@@ -157,7 +155,7 @@ fn list_queue(text: &mut [u8], n: usize, t: &mut [u64], w: &mut [u64]) -> usize
     let mut m = n;
     let mut left: usize = UPDATES;
     while 0 < left {
-        let u = queue::mityvurno_pop(t, w);
+        let u = lent_queue::pop(t, w);
         if u.kind == 0 {
             return m;
         }
@@ -173,7 +171,7 @@ fn main() {
     let mut w = [0u64; WORDS];
     let mut b = [0u8; BYTES];
     let mut text = [0u8; BYTES];
-    make::mityvurno_make_tables(
+    lent_make::make_tables(
         &mut t,
         &mut w,
         DOMAINS as u64,

@@ -17,8 +17,8 @@ abbrev μ-loop : tie.MeasureT-loop
 loop-holds : tie.Need-loop-holds Inv-loop μ-loop
 loop-holds c = search needs
 
-mityvurno-pop-requires : tie.Need-mityvurno-pop-requires Inv-loop μ-loop
-mityvurno-pop-requires c κs = search needs
+pop-requires : tie.Need-pop-requires Inv-loop μ-loop
+pop-requires c κs = search needs
 
 same-length : tie.Need-same-length Inv-loop μ-loop
 same-length c = search needs
@@ -30,7 +30,7 @@ same-length-3 : tie.Need-same-length-3 Inv-loop μ-loop
 same-length-3 c = search needs
 
 returns : tie.Need-returns Inv-loop μ-loop
-returns c = (search needs, reached-then (c .before .before .before .before .before .before .before .before .before .before .loop .inv .4) (pop-leads (c .before .before .before .before .before .before .mityvurno-pop .ensures .after)))
+returns c = (search needs, reached-then (c .before .before .before .before .before .before .before .before .before .before .loop .inv .4) (pop-leads (c .before .before .before .before .before .before .pop .ensures .after)))
 
 room-requires : tie.Need-room-requires Inv-loop μ-loop
 room-requires c κs = search needs
@@ -45,7 +45,7 @@ loop-less : tie.Need-loop-less Inv-loop μ-loop
 loop-less c = search needs
 
 loop-again : tie.Need-loop-again Inv-loop μ-loop
-loop-again c = (search needs, search needs, search needs, search needs, reached-then (c .before .before .before .before .before .before .before .before .before .before .before .before .before .before .before .before .loop .inv .4) (pop-leads (c .before .before .before .before .before .before .before .before .before .before .before .before .mityvurno-pop .ensures .after)))
+loop-again c = (search needs, search needs, search needs, search needs, reached-then (c .before .before .before .before .before .before .before .before .before .before .before .before .before .before .before .before .loop .inv .4) (pop-leads (c .before .before .before .before .before .before .before .before .before .before .before .before .pop .ensures .after)))
 
 same-length-4 : tie.Need-same-length-4 Inv-loop μ-loop
 same-length-4 c = search needs
@@ -66,7 +66,7 @@ list-queue-spec =
     Inv-loop
     μ-loop
     loop-holds
-    mityvurno-pop-requires
+    pop-requires
     same-length
     same-length-2
     same-length-3

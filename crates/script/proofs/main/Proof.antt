@@ -5,14 +5,14 @@ use borrow.Author.Needs.{needs}
 use Rattle.script.proofs.main.Statement.{statement}
 use Rattle.script.proofs.main.Tie as tie
 
-slice-aggregate-mityvurno-make-tables : tie.Need-slice-aggregate-mityvurno-make-tables
-slice-aggregate-mityvurno-make-tables c = search needs
+slice-aggregate-make-tables : tie.Need-slice-aggregate-make-tables
+slice-aggregate-make-tables c = search needs
 
-slice-aggregate-mityvurno-make-tables-2 : tie.Need-slice-aggregate-mityvurno-make-tables-2
-slice-aggregate-mityvurno-make-tables-2 c = search needs
+slice-aggregate-make-tables-2 : tie.Need-slice-aggregate-make-tables-2
+slice-aggregate-make-tables-2 c = search needs
 
-mityvurno-make-tables-requires : tie.Need-mityvurno-make-tables-requires
-mityvurno-make-tables-requires c κs = search needs
+make-tables-requires : tie.Need-make-tables-requires
+make-tables-requires c κs = search needs
 
 slice-aggregate-run-records : tie.Need-slice-aggregate-run-records
 slice-aggregate-run-records c = search needs
@@ -36,7 +36,7 @@ slice-aggregate-list-domains-2 : tie.Need-slice-aggregate-list-domains-2
 slice-aggregate-list-domains-2 c = search needs
 
 list-domains-requires : tie.Need-list-domains-requires
-list-domains-requires c κs = (search needs, (search needs, reached-then (made-reached tt (search needs) (search needs) (c .before .before .before .before .before .before .before .before .before .before .before .before .before .mityvurno-make-tables .ensures)) (c .before .before .before .before .before .before .run-records .ensures .1)))
+list-domains-requires c κs = (search needs, (search needs, reached-then (made-reached tt (search needs) (search needs) (c .before .before .before .before .before .before .before .before .before .before .before .before .before .make-tables .ensures)) (c .before .before .before .before .before .before .run-records .ensures .1)))
 
 slice-aggregate-list-queue : tie.Need-slice-aggregate-list-queue
 slice-aggregate-list-queue c = search needs
@@ -48,7 +48,7 @@ slice-aggregate-list-queue-3 : tie.Need-slice-aggregate-list-queue-3
 slice-aggregate-list-queue-3 c = search needs
 
 list-queue-requires : tie.Need-list-queue-requires
-list-queue-requires c κs = (search needs, (search needs, reached-then (made-reached tt (search needs) (search needs) (c .before .before .before .before .before .before .before .before .before .before .before .before .before .before .before .before .before .before .mityvurno-make-tables .ensures)) (c .before .before .before .before .before .before .before .before .before .before .before .run-records .ensures .1)))
+list-queue-requires c κs = (search needs, (search needs, reached-then (made-reached tt (search needs) (search needs) (c .before .before .before .before .before .before .before .before .before .before .before .before .before .before .before .before .before .before .make-tables .ensures)) (c .before .before .before .before .before .before .before .before .before .before .before .run-records .ensures .1)))
 
 slice-aggregate-write : tie.Need-slice-aggregate-write
 slice-aggregate-write c = search needs
@@ -63,9 +63,9 @@ pub main-spec : {M : Type 1} → statement M
 main-spec =
     tie.close
     (tie.spec
-    slice-aggregate-mityvurno-make-tables
-    slice-aggregate-mityvurno-make-tables-2
-    mityvurno-make-tables-requires
+    slice-aggregate-make-tables
+    slice-aggregate-make-tables-2
+    make-tables-requires
     slice-aggregate-run-records
     slice-aggregate-run-records-2
     slice-aggregate-run-records-3

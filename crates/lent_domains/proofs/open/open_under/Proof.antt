@@ -1,0 +1,25 @@
+-- The call, then the generation of the new slot.
+use mathlib.Core.Option.{some}
+use Rattle.lent_domains.specs.Opening.{opened-sized, open-returns}
+use borrow.Author.Needs.{needs}
+use Rattle.lent_domains.proofs.open.open_under.Statement.{statement}
+use Rattle.lent_domains.proofs.open.open_under.Tie as tie
+
+run-requires : tie.Need-run-requires
+run-requires c κs = search needs
+
+opened-requires : tie.Need-opened-requires
+opened-requires c κs = opened-sized _ _ (some _) _ (((c .before .before .before .before .before .before .before .before .before .before .fits .manager .fits), (c .before .before .before .before .before .before .before .before .before .before .fits .generation .fits)), (c .before .before .before .before .before .before .before .before .before .before .fits .cores .fits)) _ _ _ (c .before .before .before .before .before .run .ensures)
+
+same-length : tie.Need-same-length
+same-length c = search needs
+
+same-length-2 : tie.Need-same-length-2
+same-length-2 c = search needs
+
+returns : tie.Need-returns
+returns c = open-returns _ _ (some _) _ (((c .before .before .before .before .before .before .before .before .before .before .before .fits .manager .fits), (c .before .before .before .before .before .before .before .before .before .before .before .fits .generation .fits)), (c .before .before .before .before .before .before .before .before .before .before .before .fits .cores .fits)) _ _ _ (c .before .before .before .before .before .before .run .ensures) _ (c .opened .ensures)
+
+pub open-under-spec : {M : Type 1} → statement M
+open-under-spec =
+    tie.close (tie.spec run-requires opened-requires same-length same-length-2 returns)
