@@ -17,13 +17,13 @@ use Rattle.book.specs.Alias.{alias-match}
 use Rattle.book.specs.Carve.{carve-match}
 use Rattle.book.specs.Send.{send-match}
 use Rattle.book.specs.Revoke.Match.{revoke-match}
-use Rattle.book.specs.Make.{make-anew-match}
+use Rattle.book.specs.Make.{make-in-match}
 use Rattle.book.specs.Pop.{pop-match}
 
 -- an accepted call
 pub perform-match : (b : Book) (s : State) (c : Call) → Sound s → Matches b s → All (λ y. Matches (accept b c (y .0)) (y .1)) (perform s c)
 unfolding perform performStep accept
-perform-match b s (Call.Make z) o g = bind (make-anew-match b s z) (λ t q. accepted q)
+perform-match b s (Call.Make z) o g = bind (make-in-match _ _ z) (λ t q. accepted q)
 perform-match b s (Call.Do (Step.Open none c)) o g = bind (open-match b s none c o g) (λ x q. accepted q)
 perform-match b s (Call.Do (Step.Open (some m) c)) o g = bind (open-match b s (some m) c o g) (λ x q. accepted q)
 perform-match b s (Call.Do (Step.Channel h to)) o g = bind (channel-match b s h to g) (λ x q. accepted q)

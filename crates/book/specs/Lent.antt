@@ -1,24 +1,25 @@
 -- Demand 3 of lent tables: what `After` leaves, call by call, is what the list of calls is about.
 use mathlib.Core.Path.{_≡_, refl, sym, subst, _∙_}
 use Prim.Native.Nat.{ℕ}
-use mathlib.Core.Bool.{Bool, true, false}
 use mathlib.Core.List.{List, [], _∷_}
-use lib.Dec.{T}
 use Rattle.model.specs.Lists.{Each}
-use Rattle.model.specs.Outcome.{Outcome, ok, _>>_, require}
+use Rattle.model.specs.Outcome.{Outcome, ok, refuse}
 use Rattle.refusals.specs.declared.Refusal.{Refusal}
 use Rattle.model.specs.State.{State, Sizes}
-use Rattle.model.specs.Making.{goodSizes, emptyTables, makeTables}
+use Rattle.model.specs.Making.{makeIn}
 use Rattle.model.specs.Layout.{words}
 use Rattle.model.specs.Perform.{Call, Value, Answer, step}
 use Rattle.model.specs.CallWords.{CallWords}
 use Rattle.model.specs.Sound.{Sound}
-use Rattle.model.specs.Memory.{Lent, After, badSizes, badLengths, made, notSound, performed, held}
+use Rattle.model.specs.Memory.{Lent, madeAnswer, madeTables, After, made, notSound, performed, held}
+use Rattle.laws.specs.Accepted.{All, accepted, both}
+use Rattle.laws.specs.Empty.{made-sound}
 use Rattle.laws.specs.Words.Unique.{words-unique}
 use Rattle.book.specs.Book.{Book, blank, accept, note}
 use Rattle.book.specs.Demand3.{noteAll, Claims}
 use Rattle.book.specs.Matches.{Matches}
-use Rattle.book.specs.Theorem.{matches-made, matches-step, matches-claims}
+use Rattle.book.specs.Make.{make-in-match}
+use Rattle.book.specs.Theorem.{matches-step, matches-claims}
 
 -- "each call gets the tables the last left, and nothing else writes them": the calls, their answers, and the tables before and after.
 -- Each call may get another work area.
@@ -46,18 +47,12 @@ pub record BookOf (b : Book) (t : List ℕ) : Type 0 where
   pub sound : Sound state
   pub matches : Matches b state
 
-passed : {A : Type 0} (c : Bool) (r : Refusal) (m : Outcome A) → T c → (require c r >> m) ≡ m
-unfolding require _>>_
-passed true r m p = refl
-passed false r m p = absurd p
+-- a making in memory of any lengths: where it is accepted, an empty book matches sound tables
+abbrev Begun : Sizes → State → Type 0
+Begun z s = Matches (blank z) s × Sound s
 
-making : (z : Sizes) → T (goodSizes z) → makeTables z ≡ ok (emptyTables z)
-unfolding makeTables
-making z p = passed (goodSizes z) _ _ p
-
--- empty tables
-pub book-of-empty : (z : Sizes) → T (goodSizes z) → BookOf (blank z) (words (emptyTables z))
-book-of-empty z p = let q = matches-made z (emptyTables z) (making z p) in record { state = emptyTables z; tables = refl; sound = q .1; matches = q .0 }
+begins : (n m : ℕ) (z : Sizes) → All (Begun z) (makeIn n m z)
+begins n m z = both (make-in-match n m z) (made-sound n m z)
 
 -- any sound state that these words are of
 pub book-of-state : (b : Book) (t w : List ℕ) (s : State) → BookOf b t → Lent t w s → Matches b s
@@ -71,20 +66,26 @@ not-yes : (r : Refusal) → Answer.no r ≡ Answer.yes Value.done → ⊥
 unfolding refusal
 not-yes r e = subst refusal e tt
 
+made-book : (t : List ℕ) (z : Sizes) (m : Outcome State) → All (Begun z) m → madeAnswer m ≡ Answer.yes Value.done → BookOf (blank z) (madeTables t m)
+made-book t z (ok s) (accepted h) e = record { state = s; tables = refl; sound = h .1; matches = h .0 }
+made-book t z (refuse r) h e = absurd (not-yes r e)
+
+-- a making within a list: the book is begun anew, or goes on where the making is refused
+noted-book : (b : Book) (t : List ℕ) (z : Sizes) (m : Outcome State) → All (Begun z) m → BookOf b t → BookOf (note b (Call.Make z) (madeAnswer m)) (madeTables t m)
+unfolding note accept
+noted-book b t z (ok s) (accepted h) k = record { state = s; tables = refl; sound = h .1; matches = h .0 }
+noted-book b t z (refuse r) h k = k
+
 -- THEOREM: an accepted making begins it
 pub book-of-made : (t w t₁ w₁ : List ℕ) (z : Sizes) (y : Answer) → y ≡ Answer.yes Value.done → After t w (Call.Make z) y t₁ w₁ → BookOf (blank z) t₁
-book-of-made t w t₁ w₁ z y e (badSizes v p) = absurd (not-yes _ e)
-book-of-made t w t₁ w₁ z y e (badLengths v p f) = absurd (not-yes _ e)
-book-of-made t w t₁ w₁ z y e (made v p f) = book-of-empty v p
+book-of-made t w t₁ w₁ z y e (made v) = made-book t v _ (begins _ _ v) e
 book-of-made t w t₁ w₁ z y e (notSound d q n) = absurd q
 book-of-made t w t₁ w₁ z y e (performed d s q l) = absurd q
 
 -- THEOREM: any call keeps it
 pub book-of-call : (b : Book) (t w t₁ w₁ : List ℕ) (c : Call) (y : Answer) → CallWords c → BookOf b t → After t w c y t₁ w₁ → BookOf (note b c y) t₁
 unfolding note accept
-book-of-call b t w t₁ w₁ c y u h (badSizes z p) = h
-book-of-call b t w t₁ w₁ c y u h (badLengths z p f) = h
-book-of-call b t w t₁ w₁ c y u h (made z p f) = book-of-empty z p
+book-of-call b t w t₁ w₁ c y u h (made z) = noted-book b t z _ (begins _ _ z) h
 book-of-call b t w t₁ w₁ c y u h (notSound d p n) = h
 book-of-call b t w t₁ w₁ c y u h (performed d s p l) =
     let q = matches-step b s d u (l .sound) (book-of-state b t w s h l) in

@@ -8,8 +8,7 @@ use lib.ListN.{replicate}
 use Rattle.base.specs.Tests.{true-is}
 use Rattle.model.specs.Lists.{isSome, atSlot}
 use Rattle.model.specs.State.{State, Sizes, Region}
-use Rattle.model.specs.Making.{makeTables}
-use Rattle.model.specs.Perform.{makeAnew}
+use Rattle.model.specs.Making.{makeTables, makeIn}
 use Rattle.laws.specs.Accepted.{All, accepted, bind, and-then}
 use Rattle.book.specs.Book.{Book, blank}
 use Rattle.book.specs.Matches.{both-fresh, notOpened, Matches}
@@ -32,6 +31,6 @@ make-match z =
       };
     }))
 
-pub make-anew-match : (b : Book) (s : State) (z : Sizes) → All (λ t. Matches (blank z) t) (makeAnew z s)
-unfolding makeAnew
-make-anew-match b s z = bind (make-match z) (λ t g. and-then _ (accepted g))
+pub make-in-match : (n m : ℕ) (z : Sizes) → All (λ t. Matches (blank z) t) (makeIn n m z)
+unfolding makeIn
+make-in-match n m z = bind (make-match z) (λ t g. and-then _ (accepted g))

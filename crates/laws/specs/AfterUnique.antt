@@ -3,14 +3,13 @@
 use mathlib.Core.Path.{_≡_, refl, sym, ap, subst, _∙_}
 use Prim.Native.Nat.{ℕ}
 use mathlib.Core.List.{List}
-use lib.Dec.{T, T-not, eqb}
+use lib.Dec.{eqb}
 use Rattle.model.specs.Lists.{countIf, oneIf}
 use Rattle.model.specs.State.{State}
-use Rattle.model.specs.Making.{goodSizes}
 use Rattle.model.specs.Readings.{isHolder}
 use Rattle.model.specs.Layout.{words}
 use Rattle.model.specs.Perform.{Reading, Call, Value, Answer, step}
-use Rattle.model.specs.Memory.{Lent, After, badSizes, badLengths, made, notSound, performed, held}
+use Rattle.model.specs.Memory.{Lent, After, made, notSound, performed, held}
 use Rattle.laws.specs.Words.Unique.{words-unique}
 
 -- The same domains, each as often, in any order.
@@ -51,30 +50,14 @@ lent-unique : (t w : List ℕ) (s s′ : State) → Lent t w s → Lent t w s′
 lent-unique t w s s′ l l′ = words-unique s s′ (l .sound) (l′ .sound) (sym (l .tables) ∙ l′ .tables)
 
 pub after-unique : {t w : List ℕ} {c : Call} {a b : Answer} {t₁ w₁ t₂ w₂ : List ℕ} → After t w c a t₁ w₁ → After t w c b t₂ w₂ → Same c a t₁ w₁ b t₂ w₂
-after-unique (badSizes z p) (badSizes z′ q) = (refl, refl, refl)
-after-unique (badSizes z p) (badLengths z′ q f) = absurd (T-not (goodSizes z′) p q)
-after-unique (badSizes z p) (made z′ q f) = absurd (T-not (goodSizes z′) p q)
-after-unique (badSizes z p) (notSound c q u) = absurd q
-after-unique (badSizes z p) (performed c s q l) = absurd q
-after-unique (badLengths z p f) (badSizes z′ q) = absurd (T-not (goodSizes z′) q p)
-after-unique (badLengths z p f) (badLengths z′ q g) = (refl, refl, refl)
-after-unique (badLengths z p f) (made z′ q g) = absurd (f g)
-after-unique (badLengths z p f) (notSound c q u) = absurd q
-after-unique (badLengths z p f) (performed c s q l) = absurd q
-after-unique (made z p f) (badSizes z′ q) = absurd (T-not (goodSizes z′) q p)
-after-unique (made z p f) (badLengths z′ q g) = absurd (g f)
-after-unique (made z p f) (made z′ q g) = (refl, refl, refl)
-after-unique (made z p f) (notSound c q u) = absurd q
-after-unique (made z p f) (performed c s q l) = absurd q
-after-unique (notSound c q u) (badSizes z p) = absurd q
-after-unique (notSound c q u) (badLengths z p g) = absurd q
-after-unique (notSound c q u) (made z p g) = absurd q
+after-unique (made z) (made z′) = (refl, refl, refl)
+after-unique (made z) (notSound c q u) = absurd q
+after-unique (made z) (performed c s q l) = absurd q
+after-unique (notSound c q u) (made z) = absurd q
 after-unique (notSound c q u) (notSound c′ q′ u′) = (same c refl, refl, refl)
 after-unique (notSound c q u) (performed c′ s q′ l) = absurd (u s l)
 after-unique (notSound c q u) (held x s k l h) = absurd (u s l)
-after-unique (performed c s q l) (badSizes z p) = absurd q
-after-unique (performed c s q l) (badLengths z p g) = absurd q
-after-unique (performed c s q l) (made z p g) = absurd q
+after-unique (performed c s q l) (made z) = absurd q
 after-unique (performed c s q l) (notSound c′ q′ u) = absurd (u s l)
 after-unique {t = t} {w = w} (performed c s q l) (performed c′ s′ q′ l′) =
     let e = lent-unique t w s s′ l l′ in

@@ -16,10 +16,10 @@ use Rattle.model.specs.State.{State, Sizes, Handle, Access, Kind, Capa, noCapa,
 use Rattle.model.specs.Pool.{isLive}
 use Rattle.model.specs.Locals.{insertLocal, insertCapa, hasCapacity, capaAt}
 use Rattle.model.specs.Regions.{newRegion}
-use Rattle.model.specs.Making.{makeTables}
+use Rattle.model.specs.Making.{makeTables, makeIn}
 use Rattle.model.specs.Calls.{liveDomain, liveRegion, asRegion, asTarget, regionHeld, roomForRegion, newDomain, openDomain, openChannel, setCoreMap, createRootRegion, addChild, aliasRegion, carveRegion, sendCapa, send, revokeUnlessRoot, revokeCapa, revoke, createRevokeCapa}
 use Rattle.model.specs.Readings.{permissions, getRefcount, coreMap}
-use Rattle.model.specs.Perform.{Step, Open, Channel, SetCoreMap, Root, Alias, Carve, Send, Revoke, CreateRevokeCapa, Reading, Permissions, Refcount, CoreMap, Holders, Call, Make, Do, Pop, Read, makeAnew, performStep, readTables, perform}
+use Rattle.model.specs.Perform.{Step, Open, Channel, SetCoreMap, Root, Alias, Carve, Send, Revoke, CreateRevokeCapa, Reading, Permissions, Refcount, CoreMap, Holders, Call, Make, Do, Pop, Read, performStep, readTables, perform}
 use Rattle.laws.specs.Answers.{Gives, gives, refuses, gives-then, gives-branch, gives-checked, refusal}
 use Rattle.laws.specs.Keep.Refusals.{MayStop, activate-stops, exchange-stops, send-stops, revoke-stops, allocate-stops, new-stops}
 
@@ -133,9 +133,9 @@ module _ {R : Refusal → Type 0} where
 
 -- ---- the calls; `tt` says that a refusal is in the call's list
 
-make-within : (z : Sizes) (s : State) → Within (Of (Make z)) (makeAnew z s)
-unfolding makeAnew makeTables
-make-within z s = gives-checked {P = λ a. Unit {0}} _ _ tt (λ t. gives tt) andThen (λ u. gives-checked _ _ tt (λ t. gives tt))
+make-within : (n m : ℕ) (z : Sizes) → Within (Of (Make z)) (makeIn n m z)
+unfolding makeIn makeTables
+make-within n m z = gives-checked {P = λ a. Unit {0}} _ _ tt (λ t. gives tt) andThen (λ u. gives-checked _ _ tt (λ t. gives tt))
 
 open-within : (m : Option Handle) (cores : ℕ) (s : State) → Within (Of (Do (Open m cores))) (openDomain m cores s)
 unfolding openDomain
@@ -259,7 +259,7 @@ reading-within s (Holders a) = gives tt
 
 perform-within : (s : State) (c : Call) → Within (Of c) (perform s c)
 unfolding perform
-perform-within s (Make z) = make-within z s andThen (λ x. gives tt)
+perform-within s (Make z) = make-within _ _ z andThen (λ x. gives tt)
 perform-within s (Do c) = step-within s c
 perform-within s Pop = gives tt andThen (λ x. gives tt)
 perform-within s (Read r) = reading-within s r andThen (λ x. gives tt)
@@ -271,3 +271,7 @@ call-refusals s c r e = and-r (ltb 0 (number r)) _ (refusal (perform-within s c)
 -- It is not 0.
 pub refusal-above : (s : State) (c : Call) (r : Refusal) → perform s c ≡ refuse r → 0 < number r
 refusal-above s c r e = ltb→lt 0 (number r) (and-l (ltb 0 (number r)) _ (refusal (perform-within s c) r e))
+
+-- Nor is that of a refused making, in memory of any lengths.
+pub making-above : (n m : ℕ) (z : Sizes) (r : Refusal) → makeIn n m z ≡ refuse r → 0 < number r
+making-above n m z r e = ltb→lt 0 (number r) (and-l (ltb 0 (number r)) _ (refusal (make-within n m z) r e))

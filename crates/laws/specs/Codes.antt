@@ -10,8 +10,9 @@ use Rattle.model.specs.Lists.{countUp}
 use Rattle.model.specs.Outcome.{Outcome, ok, refuse}
 use Rattle.model.specs.State.{State}
 use Rattle.model.specs.Perform.{Call, Value, Answer, after, perform, step}
-use Rattle.model.specs.Memory.{After, badSizes, badLengths, made, notSound, performed, held}
-use Rattle.laws.specs.CallRefusals.{refusal-above}
+use Rattle.model.specs.Making.{makeIn}
+use Rattle.model.specs.Memory.{madeAnswer, After, made, notSound, performed, held}
+use Rattle.laws.specs.CallRefusals.{refusal-above, making-above}
 
 -- The numbers go 1, 2, 3, .., so that no two refusals have the same.
 pub numbers : map number all ≡ countUp 1 (length all)
@@ -30,10 +31,12 @@ pub step-coded : (s : State) (c : Call) → Coded (step s c .0)
 unfolding step
 step-coded s c = coded s (perform s c) (refusal-above s c)
 
+made-coded : (m : Outcome State) → ((r : Refusal) → m ≡ refuse r → 0 < number r) → Coded (madeAnswer m)
+made-coded (ok s) h = tt
+made-coded (refuse r) h = h r refl
+
 pub after-coded : (t w t′ w′ : List ℕ) (c : Call) (y : Answer) → After t w c y t′ w′ → Coded y
-after-coded t w t′ w′ c y (badSizes z p) = omega arith
-after-coded t w t′ w′ c y (badLengths z p f) = omega arith
-after-coded t w t′ w′ c y (made z p f) = tt
+after-coded t w t′ w′ c y (made z) = made-coded (makeIn (length t) (length w) z) (making-above _ _ z)
 after-coded t w t′ w′ c y (notSound d q n) = omega arith
 after-coded t w t′ w′ c y (performed d s q l) = step-coded s d
 after-coded t w t′ w′ c y (held a s l k i) = tt

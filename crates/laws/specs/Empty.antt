@@ -11,9 +11,9 @@ use Rattle.base.specs.Options.{none-some}
 use Rattle.model.specs.Lists.{oneIf, countIf, Each, countUp, atSlot, In}
 use Rattle.model.specs.State.{Word, Sizes, Domain, Region}
 use Rattle.model.specs.Pool.{freshPool}
-use Rattle.model.specs.Making.{makeTables, goodSizes}
+use Rattle.model.specs.Making.{makeTables, makeIn, goodSizes}
 use Rattle.model.specs.Sound.{Sound, PoolSound, slotUses, recordUses}
-use Rattle.laws.specs.Accepted.{All, accepted, checked}
+use Rattle.laws.specs.Accepted.{All, accepted, checked, bind, and-then}
 
 pub free-slot : {A : Type 0} (n i : ℕ) → atSlot {A = A} (replicate n none) i ≡ none
 free-slot zero i = refl
@@ -78,3 +78,7 @@ empty-sound z = checked (goodSizes z) _ (λ t. accepted (record {
   tracked = record { recordPool = fresh-pool (z .records) _ (no-uses (z .domains)); trackers = λ d x h. absurd (nothing-in (z .domains) d x h) };
   queue = record { readPlace = omega arith; fits = omega arith; live = tt; singly = tt; queuedWords = tt };
 }))
+
+pub made-sound : (n m : ℕ) (z : Sizes) → All Sound (makeIn n m z)
+unfolding makeIn
+made-sound n m z = bind (empty-sound z) (λ t h. and-then _ (accepted h))

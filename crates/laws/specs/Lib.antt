@@ -16,6 +16,7 @@ pub mod Codes
 pub mod Capas
 pub mod SoundKept
 pub mod Empty
+pub mod Making
 pub mod CountsLaw
 pub mod Test
 pub mod RingFull

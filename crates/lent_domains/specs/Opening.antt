@@ -5,7 +5,7 @@ use mathlib.Core.Option.{Option}
 use mathlib.Core.List.{List}
 use native.Mathlib.Omega.{arith}
 use Rattle.refusals.specs.declared.Refusal.{Refusal}
-use Rattle.refusals.specs.Refusals.{number, memory, sizes}
+use Rattle.refusals.specs.Refusals.{number, memory}
 use borrow.Author.Tests.{ne-eqb}
 use Rattle.model.specs.Outcome as outcome
 use Rattle.model.specs.Outcome.{Outcome, ok, refuse}
@@ -15,7 +15,7 @@ use Rattle.model.specs.Pool.{handleOf}
 use Rattle.model.specs.Calls as model
 use Rattle.model.specs.Perform.{Step, Call, Value, Answer, code, performStep, perform, step, after as outcome-after}
 use Rattle.model.specs.CallWords.{CallWords, StepWords}
-use Rattle.model.specs.Memory.{After, NotMake, badSizes, badLengths, made, notSound, performed}
+use Rattle.model.specs.Memory.{After, NotMake, made, notSound, performed}
 use Rattle.laws.specs.Accepted.{All, accepted, bind, all-ok}
 use Rattle.laws.specs.CallRefusals.{refusal-above}
 use Rattle.laws.specs.SoundKept.{step-sound}
@@ -62,18 +62,14 @@ opens-as s m cores c e = subst (λ b. Opens (step s b)) (sym e) (opens s m cores
 
 -- the tables that an accepted call leaves are as long as their sizes ask
 sized-after : (t w t₂ w₂ : List ℕ) (c : Call) (a : Answer) → NotMake c → CallWords c → code a ≡ 0 → After t w c a t₂ w₂ → Sized t₂
-sized-after t w t₂ w₂ c a n k e (badSizes z p) = absurd n
-sized-after t w t₂ w₂ c a n k e (badLengths z p f) = absurd n
-sized-after t w t₂ w₂ c a n k e (made z p f) = absurd n
+sized-after t w t₂ w₂ c a n k e (made z) = absurd n
 sized-after t w t₂ w₂ c a n k e (notSound d m f) = absurd (omega arith)
 sized-after t w t₂ w₂ c a n k e (performed d s q l) = words-held (step s d .1) (step-sound s d (l .sound) k) _ refl .sized
 sized-after t w t₂ w₂ c a n k e (After.held x s l y z) = words-held s (y .sound) t (y .tables) .sized
 
 opened-after : (t w t₂ w₂ : List ℕ) (m : Option state.Handle) (cores : ℕ) (c : Call) (a : Answer) → c ≡ Call.Do (Step.Open m cores) → CallWords c → After t w c a t₂ w₂
     → openedFor (view t₂) (replyOf a) ≡ domainReplyOf a
-opened-after t w t₂ w₂ m cores c a e k (badSizes z p) = opens-none sizes (view t) (omega arith)
-opened-after t w t₂ w₂ m cores c a e k (badLengths z p f) = opens-none memory (view t) (omega arith)
-opened-after t w t₂ w₂ m cores c a e k (made z p f) = absurd (subst NotMake (sym e) tt)
+opened-after t w t₂ w₂ m cores c a e k (made z) = absurd (subst NotMake (sym e) tt)
 opened-after t w t₂ w₂ m cores c a e k (notSound d n f) = opens-none memory (view t) (omega arith)
 opened-after t w t₂ w₂ m cores c a e k (performed d s q l) =
     let see = words-held (step s d .1) (step-sound s d (l .sound) k) _ refl .seen in

@@ -1,32 +1,32 @@
 -- Making: the exported function returns and leaves what `After` says.
 use mathlib.Core.Path.{_≡_, refl, sym, ap, subst, _∙_}
 use Prim.Native.Nat.{ℕ}
-use mathlib.Core.Bool.{Bool, true, false, not}
+use mathlib.Core.Bool.{Bool, true, false, not, _&&_}
 use mathlib.Core.List.{List}
-use lib.Dec.{T, eqb}
+use lib.Dec.{eqb}
 use lib.ListN.{length}
-use borrow.Author.Tests.{not-true, not-false, eq-eqb, eqb-true}
+use borrow.Author.Tests.{not-true, not-false, eq-eqb}
 use Rattle.refusals.specs.Refusals as refusals
-use Rattle.base.specs.Tests.{true-is, false-is, both, both-true}
-use Rattle.model.specs.Outcome as outcome
-use Rattle.model.specs.Outcome.{ok, _>>_, require}
-use Rattle.model.specs.State.{Sizes}
-use Rattle.model.specs.Making.{goodSizes, emptyTables, makeTables}
-use Rattle.model.specs.Perform.{Call, Value, Answer}
+use Rattle.base.specs.Tests.{both}
+use Rattle.model.specs.Outcome.{Outcome, ok, refuse}
+use Rattle.model.specs.State.{State, Sizes}
+use Rattle.model.specs.Making.{goodSizes, emptyTables, makeIn}
+use Rattle.model.specs.Perform.{Call}
 use Rattle.model.specs.Layout.{words, lengthFor}
-use Rattle.model.specs.Memory.{Fit, After, zeroed}
+use Rattle.model.specs.Memory.{madeAnswer, madeTables, After, zeroed}
 use Rattle.model.specs.Sound.{Sound}
 use Rattle.laws.specs.Accepted.{all-ok}
-use Rattle.laws.specs.Empty.{empty-sound}
+use Rattle.laws.specs.Empty.{made-sound}
+use Rattle.laws.specs.Making.{make-sizes, make-lengths, make-made}
 use Rattle.laws.specs.Words.Length.{words-length}
 use Rattle.tables.specs.Tables.{Tables}
 use Rattle.sizes.specs.Limits.{limitsB}
-use Rattle.tables.specs.View.{Sized, layout}
+use Rattle.tables.specs.View.{layout}
 use Rattle.sizes.specs.Sizes.{total}
 use Rattle.tables.specs.Header.{sizes-seen}
 use Rattle.making.specs.Empty.{empty}
 use Rattle.answers.specs.declared.Answer.the-variants.{Refused}
-use Rattle.decoded.specs.Sizes.{good-sizes}
+use Rattle.decoded.specs.Sizes.{and-both, good-sizes}
 use Rattle.decoded.specs.Tables.{sizesFor, tablesOf}
 use Rattle.decoded.specs.Words.{view-words, words-sized}
 use Rattle.refine.specs.Making.{empty-words}
@@ -38,39 +38,42 @@ made-sizes : (z : Sizes) → tablesOf (emptyTables z) .sizes ≡ sizesFor z
 unfolding tablesOf
 made-sizes z = refl
 
-made-state : (z : Sizes) → (b : Bool) → T b → (require b refusals.sizes >> ok (emptyTables z)) ≡ ok (emptyTables z)
-unfolding require _>>_
-made-state z true p = refl
-made-state z false p = absurd p
+eqb-same : (n : ℕ) → eqb n n ≡ true
+eqb-same n = eq-eqb n n refl
 
-made-sound : (z : Sizes) → T (goodSizes z) → Sound (emptyTables z)
-unfolding makeTables
-made-sound z p = all-ok Sound (makeTables z) (emptyTables z) (empty-sound z) (made-state z (goodSizes z) p)
+empty-whole : (z : Sizes) → goodSizes z ≡ true → Sound (emptyTables z)
+empty-whole z g = all-ok Sound _ (emptyTables z) (made-sound (lengthFor z) (lengthFor z) z) (make-made (lengthFor z) (lengthFor z) z g (rw (eqb-same (lengthFor z))))
 
 -- b is the test of the sizes, w₂ the work area as it is cleared
 module _ (t w w₂ : List ℕ) (z : Sizes) (clear : w₂ ≡ zeroed w) (b : Bool) (e : b ≡ limitsB (sizesFor z)) where
-  ends : (r : replies.Reply) (y : Answer) → r ≡ replyOf y → (u : List ℕ) → After t w (Call.Make z) y u (zeroed w) → Returns replyOf t w (Call.Make z) r u w₂
-  ends r y g u x = record { answer = y; after = subst (λ v. After t w (Call.Make z) y u v) (sym clear) x; reply = g }
+  -- o is how the making ends
+  ends : (o : Outcome State) → makeIn (length t) (length w) z ≡ o → (r : replies.Reply) → r ≡ replyOf (madeAnswer o) → (u : List ℕ) → u ≡ madeTables t o → Returns replyOf t w (Call.Make z) r u w₂
+  ends o i r g u k = record {
+    answer = madeAnswer o;
+    after = subst (λ v. After t w (Call.Make z) (madeAnswer o) v w₂) (sym k) (subst (λ v. After t w (Call.Make z) (madeAnswer o) (madeTables t o) v) (sym clear) (subst (λ p. After t w (Call.Make z) (madeAnswer p) (madeTables t p) (zeroed w)) i (After.made z)));
+    reply = g;
+  }
 
   pub sizes-refused : not b ≡ true → (r : replies.Reply) → r ≡ replyFor (Refused refusals.sizes) → Returns replyOf t w (Call.Make z) r t w₂
-  sizes-refused h r g = ends r (Answer.no refusals.sizes) g t (After.badSizes z (true-is (ap not (good-sizes z ∙ sym e) ∙ h)))
+  sizes-refused h r g = ends (refuse refusals.sizes) (make-sizes _ _ z (good-sizes z ∙ sym e ∙ not-true b h)) r g t refl
 
   module _ (h : not b ≡ false) (n : ℕ) (m : n ≡ total (sizesFor z)) where
-    good : T (goodSizes z)
-    good = true-is (good-sizes z ∙ sym e ∙ not-false b h)
+    good : goodSizes z ≡ true
+    good = good-sizes z ∙ sym e ∙ not-false b h
 
     long : n ≡ lengthFor z
     long =
         let s = emptyTables z in
-        let k = made-sound z good in
+        let k = empty-whole z good in
         m ∙ ap total (sym (made-sizes z) ∙ sym (ap (λ (v : Tables). v .sizes) (view-words s k)) ∙ sizes-seen (words s)) ∙ sym (words-sized s k .exact) ∙ words-length s k
 
     module _ (d : Bool) (f : d ≡ both (eqb (length t) n) (eqb (length w₂) n)) where
+      -- the code's test of the lengths is the model's
+      tested : (eqb (length t) (lengthFor z) && eqb (length w) (lengthFor z)) ≡ d
+      tested = and-both (eqb (length t) (lengthFor z)) (eqb (length w) (lengthFor z)) ∙ sym (f ∙ ap (λ k. both (eqb (length t) k) (eqb (length w₂) k)) long ∙ ap (λ k. both (eqb (length t) (lengthFor z)) (eqb k (lengthFor z))) (ap length clear ∙ zeroed-long w))
+
       pub lengths-refused : d ≡ false → (r : replies.Reply) → r ≡ replyFor (Refused refusals.memory) → Returns replyOf t w (Call.Make z) r t w₂
-      lengths-refused q r g = ends r (Answer.no refusals.memory) g t (After.badLengths z good (λ x. false-is (sym f ∙ q) (true-is {b = both (eqb (length t) n) (eqb (length w₂) n)} (rw (eq-eqb (length t) n (x .tables ∙ sym long), eq-eqb (length w₂) n (ap length clear ∙ zeroed-long w ∙ x .work ∙ sym long))))))
+      lengths-refused q r g = ends (refuse refusals.memory) (make-lengths _ _ z good (tested ∙ q)) r g t refl
 
       pub tables-made : d ≡ true → (u : List ℕ) → u ≡ layout (empty (sizesFor z)) → Returns replyOf t w (Call.Make z) (record { refusal = 0; value = 0 }) u w₂
-      tables-made q u g =
-          let p = both-true (eqb (length t) n) (eqb (length w₂) n) (sym f ∙ q) in
-          let x : Fit t w z = record { tables = eqb-true (length t) n (p .0) ∙ long; work = sym (zeroed-long w) ∙ sym (ap length clear) ∙ eqb-true (length w₂) n (p .1) ∙ long } in
-          ends _ (Answer.yes Value.done) refl u (subst (λ v. After t w (Call.Make z) (Answer.yes Value.done) v (zeroed w)) (sym (g ∙ empty-words z)) (After.made z good x))
+      tables-made q u g = ends (ok (emptyTables z)) (make-made _ _ z good (tested ∙ q)) _ refl u (g ∙ empty-words z)

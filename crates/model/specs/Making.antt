@@ -3,12 +3,13 @@ use Prim.Native.Nat.{ℕ}
 use mathlib.Core.Bool.{Bool, _&&_}
 use mathlib.Core.Option.{none}
 use mathlib.Core.List.{[]}
-use lib.Dec.{leb}
+use lib.Dec.{leb, eqb}
 use lib.ListN.{replicate}
-use Rattle.model.specs.Outcome.{Outcome, ok, _>>_, require}
-use Rattle.refusals.specs.Refusals.{sizes}
+use Rattle.model.specs.Outcome.{Outcome, ok, _>>=_, _>>_, require}
+use Rattle.refusals.specs.Refusals.{memory, sizes}
 use Rattle.model.specs.State.{Sizes, State}
 use Rattle.model.specs.Pool.{freshPool}
+use Rattle.model.specs.Layout.{lengthFor}
 
 -- "each size at least 1", and at most its limit
 abbrev pub upTo : ℕ → ℕ → Bool
@@ -40,3 +41,11 @@ unfoldable pub makeTables : Sizes → Outcome State
 makeTables z = do
   require (goodSizes z) sizes  -- 2
   ok (emptyTables z)
+
+-- Making in lent memory, by the lengths of tables and work area: "2 Sizes, one outside its limits (empty tables only, before 1, which there tests lengths
+-- alone)".
+unfoldable pub makeIn : ℕ → ℕ → Sizes → Outcome State
+makeIn tables work z = do
+  s ← makeTables z  -- 2
+  require (eqb tables (lengthFor z) && eqb work (lengthFor z)) memory  -- 1
+  ok s

@@ -1,16 +1,15 @@
 -- What a call does to lent tables and a lent work area, whatever they hold (document 01, "Memory and who can be refused"). Contracts cite this.
 use mathlib.Core.Path.{_≡_}
 use Prim.Native.Nat.{ℕ}
-use mathlib.Core.Bool.{not}
 use mathlib.Core.List.{List}
-use lib.Dec.{T}
 use lib.ListN.{length, replicate}
 use Rattle.refusals.specs.declared.Refusal.{Refusal}
-use Rattle.refusals.specs.Refusals.{memory, sizes}
+use Rattle.refusals.specs.Refusals.{memory}
 use Rattle.model.specs.State.{Sizes, Handle, Access, State}
-use Rattle.model.specs.Making.{goodSizes, emptyTables}
+use Rattle.model.specs.Outcome.{Outcome, ok, refuse}
+use Rattle.model.specs.Making.{makeIn}
 use Rattle.model.specs.Readings.{IsHolders, fillRun}
-use Rattle.model.specs.Layout.{words, lengthFor}
+use Rattle.model.specs.Layout.{words}
 use Rattle.model.specs.Perform.{Reading, Call, Value, Answer, step}
 use Rattle.model.specs.Sound.{Sound}
 
@@ -20,14 +19,18 @@ pub record Lent (t w : List ℕ) (s : State) : Type 0 where
   pub tables : t ≡ words s
   pub work : length w ≡ length t
 
--- Both lengths are right for these sizes.
-pub record Fit (t w : List ℕ) (z : Sizes) : Type 0 where
-  pub tables : length t ≡ lengthFor z
-  pub work : length w ≡ lengthFor z
-
 -- The work area after a call: all its places 0.
 abbrev pub zeroed : List ℕ → List ℕ
 zeroed w = replicate (length w) 0
+
+-- What is answered to a making, and the tables that it leaves of t: on refusal t itself.
+abbrev pub madeAnswer : Outcome State → Answer
+madeAnswer (ok s) = Answer.yes Value.done
+madeAnswer (refuse r) = Answer.no r
+
+abbrev pub madeTables : List ℕ → Outcome State → List ℕ
+madeTables t (ok s) = words s
+madeTables t (refuse r) = t
 
 -- Every call but making is on tables that are there.
 abbrev pub NotMake : Call → Type 0
@@ -36,7 +39,7 @@ NotMake (Call.Do c) = Unit {0}
 NotMake Call.Pop = Unit {0}
 NotMake (Call.Read r) = Unit {0}
 
--- The calls that `step` settles: not making, which has rules of its own below, and not the holders, whose order is left open.
+-- The calls that `step` settles: not making, which has a rule of its own below, and not the holders, whose order is left open.
 abbrev pub Settled : Call → Type 0
 Settled (Call.Make z) = ⊥
 Settled (Call.Do c) = Unit {0}
@@ -49,11 +52,8 @@ Settled (Call.Read (Reading.Holders a)) = ⊥
 -- `After t w c a t′ w′`: the call c on tables t and work area w is answered a, and leaves t′ and w′. But for the holders' order there is one answer, one t′
 -- and one w′ (`after-unique`, crate laws).
 pub data After (t w : List ℕ) : Call → Answer → List ℕ → List ℕ → Type 0 where
-  -- making, on any memory: "2 Sizes, one outside its limits (empty tables only, before 1 ..)"
-  badSizes : (z : Sizes) → T (not (goodSizes z)) → After t w (Call.Make z) (Answer.no sizes) t (zeroed w)
-  -- ".. 1, which there tests lengths alone"
-  badLengths : (z : Sizes) → T (goodSizes z) → ¬ Fit t w z → After t w (Call.Make z) (Answer.no memory) t (zeroed w)
-  made : (z : Sizes) → T (goodSizes z) → Fit t w z → After t w (Call.Make z) (Answer.yes Value.done) (words (emptyTables z)) (zeroed w)
+  -- making, on memory with any contents: 2, then 1 by the lengths alone
+  made : (z : Sizes) → After t w (Call.Make z) (madeAnswer (makeIn (length t) (length w) z)) (madeTables t (makeIn (length t) (length w) z)) (zeroed w)
   -- any other call: "1 Memory, either length wrong or tables not sound"
   notSound : (c : Call) → NotMake c → ((s : State) → ¬ Lent t w s) → After t w c (Answer.no memory) t (zeroed w)
   -- on sound tables what the model says: on refusal the state, and so the tables, are as found

@@ -2,15 +2,13 @@
 use Prim.Native.Nat.{ℕ}
 use mathlib.Core.Option.{Option}
 use mathlib.Core.List.{List, [], _∷_}
-use lib.Dec.{eqb}
 use lib.ListN.{length}
-use Rattle.model.specs.Outcome.{Outcome, ok, refuse, _>>=_, _>>_, require}
+use Rattle.model.specs.Outcome.{Outcome, ok, refuse, _>>=_}
 use Rattle.refusals.specs.declared.Refusal.{Refusal}
-use Rattle.refusals.specs.Refusals.{memory}
 use Rattle.refusals.specs.Refusals
 use Rattle.model.specs.State.{State, Sizes, Handle, Access, Update}
 use Rattle.model.specs.Updates.{pop}
-use Rattle.model.specs.Making.{makeTables}
+use Rattle.model.specs.Making.{makeIn}
 use Rattle.model.specs.Calls.{openDomain, openChannel, setCoreMap, createRootRegion, aliasRegion, carveRegion, send, revoke, createRevokeCapa}
 use Rattle.model.specs.Readings.{permissions, getRefcount, holders, coreMap}
 use Rattle.model.specs.Layout.{updateWords, lengthFor}
@@ -77,13 +75,6 @@ values (domainList l) = length l ∷ []
 
 -- ---- one call
 
--- Making as a call of a list, in the memory that holds s: the tables' length stays, so 1 where sizes ask for another. Memory has the rules for any memory.
-unfoldable pub makeAnew : Sizes → State → Outcome State
-makeAnew z s = do
-  t ← makeTables z  -- 2
-  require (eqb (lengthFor z) (lengthFor (s .sizes))) memory  -- 1
-  ok t
-
 -- A call's outcome as a reply, with the state that it leaves.
 abbrev answer : {A : Type 0} → (A → Value) → Outcome (A × State) → Outcome (Value × State)
 answer f m = m >>= λ (a, s). ok (f a, s)
@@ -111,9 +102,9 @@ readTables s (Refcount h from to) = getRefcount h from to s >>= λ n. ok (number
 readTables s (CoreMap h) = coreMap h s >>= λ n. ok (number n)
 readTables s (Holders a) = ok (domainList (holders a s))
 
--- What a call does: the reply and the new state, or the refusal. After a reading the state is as it was.
+-- What a call does: the reply and the new state, or the refusal. A making is in the memory that holds s; after a reading the state is as it was.
 unfoldable pub perform : State → Call → Outcome (Value × State)
-perform s (Make z) = silent (makeAnew z s)
+perform s (Make z) = let n = lengthFor (s .sizes) in silent (makeIn n n z)
 perform s (Do c) = performStep s c
 perform s Pop = answer popped (ok (pop s))
 perform s (Read r) = readTables s r >>= λ a. ok (a, s)

@@ -1,23 +1,29 @@
 -- A script's tables are made, or both are as found; then the whole script's promise.
-use mathlib.Core.Path.{_≡_, refl, sym, ap, _∙_}
+use mathlib.Core.Path.{_≡_, refl, sym, ap, subst, _∙_}
 use Prim.Native.Nat.{ℕ}
+use mathlib.Core.Bool.{Bool, true, false, _&&_}
 use mathlib.Core.List.{List}
 use native.Mathlib.Omega.{arith}
-use lib.Dec.{T, T-not}
+use lib.Dec.{T, eqb}
+use lib.ListN.{length}
+use borrow.Author.Tests.{eq-eqb, eqb-true}
+use Rattle.base.specs.Tests.{is-true, true-false, both-true}
 use Rattle.refusals.specs.Refusals.{memory}
-use Rattle.model.specs.Outcome as outcome
-use Rattle.model.specs.State.{Sizes}
-use Rattle.model.specs.Making.{goodSizes, emptyTables, scriptSizes}
-use Rattle.model.specs.Layout.{words}
+use Rattle.model.specs.Outcome.{Outcome}
+use Rattle.model.specs.State.{State, Sizes}
+use Rattle.model.specs.Making.{goodSizes, emptyTables, scriptSizes, makeIn}
+use Rattle.model.specs.Layout.{words, lengthFor}
 use Rattle.model.specs.Perform.{Call, Answer}
 use Rattle.model.specs.Perform as model
-use Rattle.model.specs.Memory.{Fit, After, badSizes, badLengths, made, notSound, performed, zeroed}
+use Rattle.model.specs.Memory.{madeAnswer, madeTables, After, made, notSound, performed, zeroed}
+use Rattle.laws.specs.Making.{make-lengths, make-made}
 use Rattle.book.specs.Lent.{demand3-lent}
+use Rattle.decoded.specs.Sizes.{and-both}
 use Rattle.script_records.specs.Script.{scriptCalls}
 use Rattle.frame.specs.declared.replies.Reply.{Reply}
 use Rattle.frame.specs.Replies.{replyOf, Returns}
 use Rattle.frame.specs.Finish.{zeroed-clear}
-use Rattle.running.specs.RunScript.{RanScript}
+use Rattle.running.specs.RunScript.{Fit, RanScript}
 use Rattle.running.specs.BetweenRecords.{RunsAll}
 
 -- ---- making
@@ -27,10 +33,17 @@ pub data Makes (t w : List ℕ) (z : Sizes) : Answer → List ℕ → List ℕ �
   fits : Fit t w z → Makes t w z (Answer.yes model.Value.done) (words (emptyTables z)) (zeroed w)
   unfit : ¬ Fit t w z → Makes t w z (Answer.no memory) t (zeroed w)
 
+-- by the test of the lengths
+module _ (t w : List ℕ) (z : Sizes) (g : goodSizes z ≡ true) where
+  abbrev Ends : Outcome State → Type 0
+  Ends o = Makes t w z (madeAnswer o) (madeTables t o) (zeroed w)
+
+  tested : (b : Bool) → (eqb (length t) (lengthFor z) && eqb (length w) (lengthFor z)) ≡ b → Ends (makeIn (length t) (length w) z)
+  tested true e = let p = both-true (eqb (length t) (lengthFor z)) (eqb (length w) (lengthFor z)) (sym (and-both (eqb (length t) (lengthFor z)) (eqb (length w) (lengthFor z))) ∙ e) in subst Ends (sym (make-made _ _ z g e)) (Makes.fits (record { tables = eqb-true _ _ (p .0); work = eqb-true _ _ (p .1) }))
+  tested false e = subst Ends (sym (make-lengths _ _ z g e)) (Makes.unfit (λ f. true-false (rw (eq-eqb (length t) (lengthFor z) (f .tables), eq-eqb (length w) (lengthFor z) (f .work))) e))
+
 pub makes : (t w : List ℕ) (z : Sizes) (y : Answer) (t₁ w₁ : List ℕ) → T (goodSizes z) → After t w (Call.Make z) y t₁ w₁ → Makes t w z y t₁ w₁
-makes t w z y t₁ w₁ g (badSizes v p) = absurd (T-not (goodSizes z) p g)
-makes t w z y t₁ w₁ g (badLengths v p f) = Makes.unfit f
-makes t w z y t₁ w₁ g (made v p f) = Makes.fits f
+makes t w z y t₁ w₁ g (made v) = tested t w v (is-true g) (eqb (length t) (lengthFor v) && eqb (length w) (lengthFor v)) refl
 makes t w z y t₁ w₁ g (notSound d q n) = absurd q
 makes t w z y t₁ w₁ g (performed d s q l) = absurd q
 

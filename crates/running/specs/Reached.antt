@@ -10,7 +10,7 @@ use Rattle.model.specs.Making.{goodSizes}
 use Rattle.model.specs.Layout.{lengthFor}
 use Rattle.model.specs.Perform.{Step, Call, Answer}
 use Rattle.model.specs.CallWords.{CallWords}
-use Rattle.model.specs.Memory.{Fit, After}
+use Rattle.model.specs.Memory.{After}
 use Rattle.tables.specs.View.{Sized}
 use Rattle.decoded.specs.Words.{words-sized}
 use Rattle.book.specs.Book.{blank}
@@ -26,6 +26,7 @@ use Rattle.script_records.specs.Numbers.{Bytes}
 use Rattle.script_records.specs.Words.{call-words}
 use Rattle.running.specs.declared.scripts.Taken.{Taken}
 use Rattle.running.specs.Takes.{Takes}
+use Rattle.running.specs.RunScript.{Fit}
 use Rattle.running.specs.Made.{Makes, makes}
 
 -- ---- a record

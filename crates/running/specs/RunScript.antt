@@ -7,9 +7,10 @@ use lib.ListN.{length}
 use Rattle.refusals.specs.Refusals.{number, memory, badRecord}
 use Rattle.model.specs.Lists.{if_then_else_}
 use Rattle.model.specs.Making.{emptyTables, scriptSizes}
-use Rattle.model.specs.Layout.{words}
+use Rattle.model.specs.State.{Sizes}
+use Rattle.model.specs.Layout.{words, lengthFor}
 use Rattle.model.specs.Perform.{Call, Answer}
-use Rattle.model.specs.Memory.{Fit, zeroed}
+use Rattle.model.specs.Memory.{zeroed}
 use Rattle.book.specs.Book.{blank}
 use Rattle.book.specs.Demand3.{noteAll}
 use Rattle.book.specs.Lent.{Chain, ClaimsOf}
@@ -37,6 +38,11 @@ pub record Ended (cs : List Call) (t : List ℕ) : Type 0 where
   -- summed over all domains is the accepted roots there with the accepted aliases not since revoked; no right is counted where no accepted root had
   -- it; and the stored live regions are the book's, one for one.
   pub claims : ClaimsOf (noteAll (blank scriptSizes) cs answers) t
+
+-- Both lengths are right for these sizes.
+pub record Fit (t w : List ℕ) (z : Sizes) : Type 0 where
+  pub tables : length t ≡ lengthFor z
+  pub work : length w ≡ lengthFor z
 
 -- The script b run in tables t and a work area w: the reply x, and what is left in both.
 pub record RanScript (b t w : List ℕ) (x : Reply) (t′ w′ : List ℕ) : Type 0 where

@@ -10,7 +10,7 @@ use Rattle.refusals.specs.Refusals.{number, badRecord}
 use Rattle.model.specs.Lists.{Each, if_then_else_}
 use Rattle.model.specs.Perform.{Call, Answer}
 use Rattle.model.specs.CallWords.{CallWords}
-use Rattle.model.specs.Memory.{After, badSizes, badLengths, made, notSound, performed, held, zeroed}
+use Rattle.model.specs.Memory.{After, made, notSound, performed, held, zeroed}
 use Rattle.book.specs.Lent.{Chain}
 use Rattle.script_records.specs.declared.Record.{Record}
 use Rattle.script_records.specs.declared.Parsed.the-variants as found
@@ -36,9 +36,7 @@ part-rest b at = take-all (length b - at) (drop at b) (omega (arith, length-drop
 
 -- every call leaves the work area all zero
 after-clear : (t w : List ℕ) (c : Call) (y : Answer) (t₂ w₂ : List ℕ) → After t w c y t₂ w₂ → w₂ ≡ zeroed w
-after-clear t w c y t₂ w₂ (badSizes z p) = refl
-after-clear t w c y t₂ w₂ (badLengths z p f) = refl
-after-clear t w c y t₂ w₂ (made z p f) = refl
+after-clear t w c y t₂ w₂ (made z) = refl
 after-clear t w c y t₂ w₂ (notSound d q n) = refl
 after-clear t w c y t₂ w₂ (performed d s q l) = refl
 after-clear t w c y t₂ w₂ (held a s l k i) = refl

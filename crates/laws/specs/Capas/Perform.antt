@@ -2,12 +2,12 @@
 -- neither a region nor a tracker keeps Sound whole.
 use mathlib.Core.Option.{none, some}
 use Rattle.model.specs.Outcome.{Outcome}
-use Rattle.model.specs.State.{State, Sizes}
-use Rattle.model.specs.Perform.{Step, Call, makeAnew, performStep, perform}
+use Rattle.model.specs.State.{State}
+use Rattle.model.specs.Perform.{Step, Call, performStep, perform}
 use Rattle.model.specs.CallWords.{StepWords, CallWords}
 use Rattle.model.specs.Sound.{Sound}
-use Rattle.laws.specs.Accepted.{All, accepted, bind, bind-any, weaken, and-then, both}
-use Rattle.laws.specs.Empty.{empty-sound}
+use Rattle.laws.specs.Accepted.{All, accepted, bind, bind-any, weaken, both}
+use Rattle.laws.specs.Empty.{made-sound}
 use Rattle.laws.specs.Capas.Pop.{pop-sound}
 use Rattle.laws.specs.Capas.Held.{CapasSound, OthersSound, capas-sound, sound-of}
 use Rattle.laws.specs.Capas.SetCoreMap.{set-core-map-sound}
@@ -19,10 +19,6 @@ use Rattle.laws.specs.Capas.Alias.{alias-capas}
 use Rattle.laws.specs.Capas.Carve.{carve-capas}
 use Rattle.laws.specs.Capas.Send.{send-capas}
 use Rattle.laws.specs.Capas.Revoke.{revoke-capas}
-
-anew-sound : (z : Sizes) (s : State) → All Sound (makeAnew z s)
-unfolding makeAnew
-anew-sound z s = bind (empty-sound z) (λ t h. and-then _ (accepted h))
 
 -- a state that is sound whole has these clauses
 whole : {A : Type 0} {m : Outcome (A × State)} → All (λ x. Sound (x .1)) m → All (λ x. CapasSound (x .1)) m
@@ -44,7 +40,7 @@ step-capas s (Step.CreateRevokeCapa m l) h w = bind (whole (create-revoke-capa-s
 
 pub perform-capas : (s : State) (c : Call) → Sound s → CallWords c → All (λ x. CapasSound (x .1)) (perform s c)
 unfolding perform
-perform-capas s (Call.Make z) h w = bind (anew-sound z s) (λ t k. accepted (capas-sound t k))
+perform-capas s (Call.Make z) h w = bind (made-sound _ _ z) (λ t k. accepted (capas-sound t k))
 perform-capas s (Call.Do c) h w = step-capas s c h w
 perform-capas s Call.Pop h w = bind {P = λ x. Sound (x .1)} (accepted (pop-sound s h)) (λ x k. accepted (capas-sound (x .1) k))
 perform-capas s (Call.Read r) h w = bind-any _ (λ x. accepted (capas-sound s h))

@@ -2,7 +2,8 @@
 -- the ring, the sizes, and that core maps are words. The three are about capability lists: one slot for each region, managers, and the lists themselves.
 use mathlib.Core.Option.{Option, none, some}
 use Rattle.model.specs.State.{State, Update}
-use Rattle.model.specs.Perform.{Step, Call, makeAnew, performStep, perform}
+use Rattle.model.specs.Making.{makeIn}
+use Rattle.model.specs.Perform.{Step, Call, performStep, perform}
 use Rattle.model.specs.CallWords.{StepWords, CallWords}
 use Rattle.model.specs.Sound.{Sound}
 use Rattle.laws.specs.Accepted.{All, accepted, bind, bind-any, and-then}
@@ -39,7 +40,7 @@ module _ (s : State) (sound : Sound s) where
   step-keeps (Step.CreateRevokeCapa h l) w = bind (create-revoke-capa-keeps s whole h l) (λ (n, t) k. accepted k)
 
   pub perform-keeps : (c : Call) → CallWords c → All After (perform s c)
-  unfolding perform makeAnew
+  unfolding perform makeIn
   perform-keeps (Call.Make z) w = bind (bind (empty-sound z) (λ t k. and-then {Q = Whole} _ (accepted (sound-agree t k, sound-base t k)))) (λ t k. accepted k)
   perform-keeps (Call.Do c) w = step-keeps c w
   perform-keeps Call.Pop w = bind {P = λ (y : Option Update × State). Whole (y .1)} (accepted (pop-keeps s sound)) (λ (a, t) k. accepted k)
