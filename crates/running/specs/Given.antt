@@ -11,7 +11,8 @@ use Rattle.base.specs.Cases.{lt, ge, cmp, holds, fails, test}
 use Rattle.script_records.specs.declared.Record.{Record}
 use Rattle.script_records.specs.declared.Parsed.{Parsed}
 use Rattle.script_records.specs.declared.Parsed.the-variants.{Short, Bad, Call as Whole}
-use Rattle.script_records.specs.Script.{number, kindOf}
+use Rattle.script_records.specs.Script.{kindOf}
+use Rattle.bytes.specs.Numbers.{number}
 use Rattle.script_records.specs.Parsed.{sizeOf, recordIn, rightsIn, judged, whole, ofKind, parsed}
 use Rattle.script_records.specs.Words.{call-size}
 

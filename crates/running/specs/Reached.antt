@@ -22,7 +22,7 @@ use Rattle.script_records.specs.declared.Parsed.{Parsed}
 use Rattle.script_records.specs.declared.Parsed.the-variants as found
 use Rattle.script_records.specs.Script.{Kind, opening, root, alias, carve, send, revoke, makeRevoke, kindOf, managerOf}
 use Rattle.script_records.specs.Parsed.{handleIn, accessIn, callFor, callIn, parsed}
-use Rattle.script_records.specs.Numbers.{Bytes}
+use Rattle.bytes.specs.Numbers.{Bytes}
 use Rattle.script_records.specs.Words.{call-words}
 use Rattle.running.specs.declared.scripts.Taken.{Taken}
 use Rattle.running.specs.Takes.{Takes}

@@ -16,7 +16,7 @@ use Rattle.script_records.specs.declared.Record.{Record}
 use Rattle.script_records.specs.declared.Parsed.the-variants as found
 use Rattle.script_records.specs.Script.{ahead, scriptCalls}
 use Rattle.script_records.specs.Parsed.{sizeOf, callIn, parsed}
-use Rattle.script_records.specs.Numbers.{Bytes}
+use Rattle.bytes.specs.Numbers.{Bytes}
 use Rattle.script_records.specs.Words.{call-size, call-words, bytes-drop}
 use Rattle.script_records.specs.Scripts.{script-ended}
 use Rattle.script_records.specs.Streams.{stream-call, stream-bad, stream-cut}

@@ -8,7 +8,7 @@ use lib.ListN.{length, take, drop}
 use Rattle.script_records.specs.declared.Record.{Record}
 use Rattle.script_records.specs.declared.Parsed.{Parsed}
 use Rattle.script_records.specs.declared.Parsed.the-variants.{Short, Bad}
-use Rattle.script_records.specs.Script.{number}
+use Rattle.bytes.specs.Numbers.{number}
 use Rattle.script_records.specs.Parsed.{sizeOf, recordIn, judged, whole, ofKind, parsed}
 use Rattle.script_records.proofs.Fields.{has-kind}
 

@@ -6,7 +6,8 @@ use mathlib.Core.Option.{none}
 use mathlib.Core.List.{List, [], _∷_, _++_}
 use Rattle.model.specs.Perform.{Step, Call}
 use Rattle.model.specs.Checked.Script.{dom, access, example}
-use Rattle.script_records.specs.Script.{number, kindOf, frontOf, callsFrom, scriptCalls}
+use Rattle.script_records.specs.Script.{kindOf, frontOf, callsFrom, scriptCalls}
+use Rattle.bytes.specs.Numbers.{number}
 
 -- a field with one byte that is not 0; one whose bytes are all 255; and the first field of a call of domain d, with generation 0
 abbrev small : ℕ → List ℕ

@@ -15,7 +15,8 @@ use Rattle.model.specs.Perform.{Call}
 use Rattle.script_records.specs.declared.Record.{Record}
 use Rattle.script_records.specs.declared.Parsed.{Parsed}
 use Rattle.script_records.specs.declared.Parsed.the-variants.{Short, Bad, Call as Whole}
-use Rattle.script_records.specs.Script.{Kind, opening, root, alias, carve, send, revoke, makeRevoke, number, fieldAt, kindOf, fieldCount, callOf, callWith, bodyCall, Front, ended, bad, call, frontFor, frontOf}
+use Rattle.script_records.specs.Script.{Kind, opening, root, alias, carve, send, revoke, makeRevoke, fieldAt, kindOf, fieldCount, callOf, callWith, bodyCall, Front, ended, bad, call, frontFor, frontOf}
+use Rattle.bytes.specs.Numbers.{number}
 use Rattle.script_records.specs.Parsed.{sizeFor, sizeOf, recordIn, rightsFor, rightsIn, callFor, callIn, judged, whole, ofKind, parsed}
 
 -- ---- what follows a length

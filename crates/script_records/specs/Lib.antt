@@ -1,6 +1,5 @@
 pub mod Script
 pub mod Parsed
-pub mod Numbers
 pub mod Fronts
 pub mod Scripts
 pub mod Streams

@@ -10,7 +10,8 @@ use Rattle.model.specs.Perform.{Step, Call}
 use Rattle.script_records.specs.declared.Record.{Record}
 use Rattle.script_records.specs.declared.Parsed.{Parsed}
 use Rattle.script_records.specs.declared.Parsed.the-variants.{Short, Bad, Call as Whole}
-use Rattle.script_records.specs.Script.{Kind, opening, root, alias, carve, send, revoke, makeRevoke, number, fieldAt, kindOf, fieldCount, handle, managerOf}
+use Rattle.script_records.specs.Script.{Kind, opening, root, alias, carve, send, revoke, makeRevoke, fieldAt, kindOf, fieldCount, handle, managerOf}
+use Rattle.bytes.specs.Numbers.{number}
 
 -- ---- a record
 

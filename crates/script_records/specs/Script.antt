@@ -5,18 +5,14 @@ use mathlib.Core.Option.{Option, none, some}
 use mathlib.Core.List.{List, [], _∷_}
 use lib.Dec.{eqb, ltb}
 use lib.ListN.{length, take, drop}
+use Rattle.bytes.specs.Numbers.{number}
 use Rattle.model.specs.Lists.{if_then_else_}
 use Rattle.model.specs.State.{Handle, Access}
 use Rattle.model.specs.Perform.{Step, Call}
 
 -- ---- numbers and fields
 
--- "all little-endian": the lowest byte stands first.
-abbrev pub number : List ℕ → ℕ
-number [] = 0
-number (b ∷ l) = b + 256 * number l
-
--- "8-byte fields": field i of the bytes behind the kind.
+-- "all little-endian", "8-byte fields": field i of the bytes behind the kind.
 abbrev pub fieldAt : List ℕ → ℕ → ℕ
 fieldAt l i = number (take 8 (drop (8 * i) l))
 

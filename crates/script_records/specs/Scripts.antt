@@ -10,7 +10,8 @@ use lib.Dec.{ltb}
 use lib.ListN.{length, take, drop, length-drop}
 use Rattle.base.specs.Cases.{holds, fails, test}
 use Rattle.model.specs.Perform.{Call}
-use Rattle.script_records.specs.Script.{number, bodyCall, Front, ended, bad, call, frontFor, frontOf, ahead, callsAt, callsFrom, scriptCalls}
+use Rattle.script_records.specs.Script.{bodyCall, Front, ended, bad, call, frontFor, frontOf, ahead, callsAt, callsFrom, scriptCalls}
+use Rattle.bytes.specs.Numbers.{number}
 
 -- ---- fewer bytes
 

@@ -13,9 +13,10 @@ use Rattle.model.specs.CallWords.{CallWords}
 use Rattle.script_records.specs.declared.Record.{Record}
 use Rattle.script_records.specs.declared.Parsed.{Parsed}
 use Rattle.script_records.specs.declared.Parsed.the-variants.{Short, Bad, Call as Whole}
-use Rattle.script_records.specs.Script.{Kind, opening, root, alias, carve, send, revoke, makeRevoke, number, kindOf}
+use Rattle.script_records.specs.Script.{Kind, opening, root, alias, carve, send, revoke, makeRevoke, kindOf}
+use Rattle.bytes.specs.Numbers.{number}
 use Rattle.script_records.specs.Parsed.{sizeFor, sizeOf, recordIn, rightsFor, rightsIn, callFor, callIn, judged, whole, ofKind, parsed}
-use Rattle.script_records.specs.Numbers.{Bytes, eight-fits}
+use Rattle.bytes.specs.Numbers.{Bytes, eight-fits}
 
 -- ---- a part of bytes
 

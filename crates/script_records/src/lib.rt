@@ -1,8 +1,5 @@
 // Records of a script, read from the bytes at hand (document 01, "The script program").
 ghost use mathlib.Core.Path.{_≡_};
-ghost use Prim.Native.Nat.{_+_, _*_, _<_, _^_};
-ghost use lib.ListN.{getD, take, drop};
-ghost use Rattle.script_records.specs.Script.{number};
 ghost use Rattle.script_records.specs.Parsed.{sizeOf, recordIn, rightsIn, judged, parsed};
 
 // A record: its kind and its fields, 0 where its kind has fewer.
@@ -23,43 +20,6 @@ pub enum Parsed {
     // No record, whatever follows.
     Bad,
     Call(Record),
-}
-
-// ---- Numbers
-
-fn wide(x: u8) -> u64
-    ensures { λ r. ⌜ r ≡ x ⌝ }
-{
-    x as u64
-}
-
-// The byte at i, or 0 past the end.
-fn byte(b: &[u8], i: usize) -> u64
-    ensures { λ r. ⌜ (r ≡ getD (now (b .entry)) i 0) × (r < 256) ⌝ }
-{
-    if i < b.len() { wide(b[i]) } else { 0 }
-}
-
-// The numbers of 2, 4 and 8 bytes from i on.
-fn two(b: &[u8], i: usize) -> u64
-    requires { ⌜ i < 64 ⌝ }
-    ensures { λ r. ⌜ (r ≡ number (take 2 (drop i (now (b .entry))))) × (r < 2 ^ 16) ⌝ }
-{
-    byte(b, i) + 256 * byte(b, i + 1)
-}
-
-fn four(b: &[u8], i: usize) -> u64
-    requires { ⌜ i < 62 ⌝ }
-    ensures { λ r. ⌜ (r ≡ number (take 4 (drop i (now (b .entry))))) × (r < 2 ^ 32) ⌝ }
-{
-    two(b, i) + 65536 * two(b, i + 2)
-}
-
-fn eight(b: &[u8], i: usize) -> u64
-    requires { ⌜ i < 58 ⌝ }
-    ensures { λ r. ⌜ r ≡ number (take 8 (drop i (now (b .entry)))) ⌝ }
-{
-    four(b, i) + 4294967296 * four(b, i + 4)
 }
 
 // ---- Records
@@ -86,12 +46,12 @@ fn record_in(kind: u64, b: &[u8]) -> Record
 {
     Record {
         kind,
-        a: eight(b, 0),
-        b: eight(b, 8),
-        c: eight(b, 16),
-        d: eight(b, 24),
-        e: eight(b, 32),
-        f: eight(b, 40),
+        a: bytes::eight(b, 0),
+        b: bytes::eight(b, 8),
+        c: bytes::eight(b, 16),
+        d: bytes::eight(b, 24),
+        e: bytes::eight(b, 32),
+        f: bytes::eight(b, 40),
     }
 }
 
@@ -125,9 +85,9 @@ pub fn parse(b: &[u8]) -> Parsed
     if b.len() < 4 {
         return Parsed::Short;
     }
-    let kind = two(b, 2);
+    let kind = bytes::two(b, 2);
     let size = size_of(kind);
-    if two(b, 0) as usize + 2 != size {
+    if bytes::two(b, 0) as usize + 2 != size {
         return Parsed::Bad;
     }
     if b.len() < size {

@@ -3,8 +3,8 @@ use borrow.Author.Needs.{needs}
 use lib.ListN.{List·getD-eq-default}
 use mathlib.Core.Path.{sym}
 use native.Mathlib.Omega.{arith}
-use Rattle.script_records.proofs.byte.Statement.{statement}
-use Rattle.script_records.proofs.byte.Tie as tie
+use Rattle.bytes.proofs.byte.Statement.{statement}
+use Rattle.bytes.proofs.byte.Tie as tie
 
 shared-slice-read-wide : tie.Need-shared-slice-read-wide
 shared-slice-read-wide c = search needs

@@ -1,9 +1,9 @@
 -- Two halves of two bytes.
-use Rattle.script_records.specs.Numbers.{number-four}
+use Rattle.bytes.specs.Numbers.{number-four}
 use borrow.Author.Needs.{needs}
 use native.Mathlib.Omega.{arith}
-use Rattle.script_records.proofs.four.Statement.{statement}
-use Rattle.script_records.proofs.four.Tie as tie
+use Rattle.bytes.proofs.four.Statement.{statement}
+use Rattle.bytes.proofs.four.Tie as tie
 
 two-requires : tie.Need-two-requires
 two-requires c κs = search needs

@@ -1,9 +1,9 @@
 -- The number of two bytes is taken apart.
-use Rattle.script_records.specs.Numbers.{number-two}
+use Rattle.bytes.specs.Numbers.{number-two}
 use borrow.Author.Needs.{needs}
 use native.Mathlib.Omega.{arith}
-use Rattle.script_records.proofs.two.Statement.{statement}
-use Rattle.script_records.proofs.two.Tie as tie
+use Rattle.bytes.proofs.two.Statement.{statement}
+use Rattle.bytes.proofs.two.Tie as tie
 
 byte-requires : tie.Need-byte-requires
 byte-requires c κs = search needs

@@ -1,9 +1,9 @@
 -- Two halves of four bytes.
-use Rattle.script_records.specs.Numbers.{number-eight}
+use Rattle.bytes.specs.Numbers.{number-eight}
 use borrow.Author.Needs.{needs}
 use native.Mathlib.Omega.{arith}
-use Rattle.script_records.proofs.eight.Statement.{statement}
-use Rattle.script_records.proofs.eight.Tie as tie
+use Rattle.bytes.proofs.eight.Statement.{statement}
+use Rattle.bytes.proofs.eight.Tie as tie
 
 four-requires : tie.Need-four-requires
 four-requires c κs = search needs

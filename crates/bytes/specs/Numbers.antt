@@ -5,7 +5,11 @@ use mathlib.Core.List.{List, [], _∷_}
 use native.Mathlib.Numerals.{add-one, add-two, add-four}
 use native.Mathlib.Omega.{arith}
 use lib.ListN.{getD, take, drop}
-use Rattle.script_records.specs.Script.{number}
+
+-- The lowest byte stands first.
+abbrev pub number : List ℕ → ℕ
+number [] = 0
+number (b ∷ l) = b + 256 * number l
 
 -- Every element is a byte.
 abbrev pub Bytes : List ℕ → Type 0
