@@ -1,6 +1,6 @@
 -- A send's options (document 02, request 1): what the check says of them, and the state with them applied. The region's rights are as they were, or extended.
 use Prim.Native.Nat.{ℕ}
-use mathlib.Core.Path.{_≡_, refl, sym, subst}
+use mathlib.Core.Path.{sym, subst}
 use mathlib.Core.Option.{Option, none, some}
 use lib.Dec.{T}
 use Rattle.rights.specs.Rights.{union, allowed}

@@ -2,7 +2,6 @@
 -- flags of a send (document 02, request 1) extends what it was.
 use mathlib.Core.Path.{_≡_, refl, ap}
 use Prim.Native.Nat.{ℕ, _<_}
-use mathlib.Core.Bool.{Bool}
 use native.Mathlib.Omega.{arith}
 use lib.Dec.{T}
 use Rattle.rights.specs.Rights.{union, allowed}
