@@ -6,7 +6,8 @@ use mathlib.Core.List.{List, [], _∷_, _++_}
 use lib.Dec.{eqb}
 use lib.ListN.{length, getD, set, replicate}
 use Rattle.model.specs.Lists.{if_then_else_, countUp, isEmpty, atSlot}
-use Rattle.model.specs.State.{Sizes, Handle, Access, Kind, Root, Alias, Carve, parentOf}
+use Rattle.rights.specs.Rights.{union}
+use Rattle.model.specs.State.{Sizes, Handle, Access, SendOptions, Kind, Root, Alias, Carve, parentOf}
 use Rattle.model.specs.Perform.{Step, Call, Value, Answer}
 
 -- ---- what the book keeps
@@ -140,14 +141,21 @@ created k d n a b = added k d a (give d n (regionOf (length (b .regions))) b)
 unfoldable pub ownedBy : ℕ → ℕ → Book → Book
 ownedBy d k b = let r = noted (b .regions) k in withNoted (set (b .regions) k (record { kind = r .kind; owner = d; start = r .start; end = r .end; rights = r .rights; alive = r .alive })) b
 
--- "a region is that domain's from then on"; all else only moves.
-unfoldable pub ownedIfRegion : ℕ → Option Held → Book → Book
-ownedIfRegion d none b = b
-ownedIfRegion d (some emptied) b = b
-ownedIfRegion d (some (regionOf k)) b = ownedBy d k b
-ownedIfRegion d (some (revokeOf k)) b = b
-ownedIfRegion d (some (managementOf h)) b = b
-ownedIfRegion d (some (channelOf h)) b = b
+-- Document 02, request 1: "With a flag word given for a region, the flags join the region's rights, in demand 3's book too": those of the region at place k.
+unfoldable pub flagged : SendOptions → ℕ → Book → Book
+flagged o k b = elim (o .flags) [
+  | none ↦ b
+  | some f ↦ let r = noted (b .regions) k in withNoted (set (b .regions) k (record { kind = r .kind; owner = r .owner; start = r .start; end = r .end; rights = union (r .rights) f; alive = r .alive })) b
+]
+
+-- "a region is that domain's from then on", with the flags; all else only moves, and request 1: "For other capabilities both are ignored."
+unfoldable pub handedTo : ℕ → SendOptions → Option Held → Book → Book
+handedTo d o none b = b
+handedTo d o (some emptied) b = b
+handedTo d o (some (regionOf k)) b = flagged o k (ownedBy d k b)
+handedTo d o (some (revokeOf k)) b = b
+handedTo d o (some (managementOf h)) b = b
+handedTo d o (some (channelOf h)) b = b
 
 -- Slot l of domain d is freed.
 unfoldable pub freed : ℕ → ℕ → Book → Book
@@ -160,8 +168,8 @@ putAny d n (some c) b = put d n c b
 
 -- "Send frees the sent slot and gives one in the list of the domain that the target names, in the source's order; what it held goes there":
 -- the target's list is swept, if it is full; then the sent slot is read, and freed; then the slot is given.
-unfoldable pub sent : ℕ → ℕ → ℕ → ℕ → Book → Book
-sent d l to n b = let b₁ = makeRoom to b in let c = heldAt b₁ d l in putAny to n c (freed d l (ownedIfRegion to c b₁))
+unfoldable pub sent : ℕ → ℕ → ℕ → ℕ → SendOptions → Book → Book
+sent d l to n o b = let b₁ = makeRoom to b in let c = heldAt b₁ d l in putAny to n c (freed d l (handedTo to o c b₁))
 
 -- Region j is k or below it: at most n parents lead from j to k.
 abbrev pub isUnder : List Noted → ℕ → ℕ → ℕ → Bool
@@ -250,7 +258,7 @@ accept b (Call.Do (Step.Root h a)) y = created Root (h .slot) (localOf y) a b
 accept b (Call.Do (Step.Alias h l a)) y = created (Alias (placeIn (heldAt b (h .slot) l))) (h .slot) (localOf y) a b
 accept b (Call.Do (Step.Carve h l a)) y = created (Carve (placeIn (heldAt b (h .slot) l))) (h .slot) (localOf y) a b
 -- **Send** and **Revoke**
-accept b (Call.Do (Step.Send h l target)) y = sent (h .slot) l (domainIn (heldAt b (h .slot) target)) (localOf y) b
+accept b (Call.Do (Step.Send h l target o)) y = sent (h .slot) l (domainIn (heldAt b (h .slot) target)) (localOf y) o b
 accept b (Call.Do (Step.Revoke h l)) y = emptySlot (h .slot) l (revoked (heldAt b (h .slot) l) b)
 -- "pop, core maps and readings change nothing"
 accept b (Call.Do (Step.SetCoreMap h cores)) y = b

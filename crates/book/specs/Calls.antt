@@ -31,7 +31,7 @@ perform-match b s (Call.Do (Step.SetCoreMap h c)) o g = bind (cores-match b s h 
 perform-match b s (Call.Do (Step.Root h a)) o g = bind (root-match b s h a o g) (λ x q. accepted q)
 perform-match b s (Call.Do (Step.Alias h l a)) o g = bind (alias-match b s h l a o g) (λ x q. accepted q)
 perform-match b s (Call.Do (Step.Carve h l a)) o g = bind (carve-match b s h l a o g) (λ x q. accepted q)
-perform-match b s (Call.Do (Step.Send h l t)) o g = bind (send-match b s h l t o g) (λ x q. accepted q)
+perform-match b s (Call.Do (Step.Send h l t p)) o g = bind (send-match b s h l t p o g) (λ x q. accepted q)
 perform-match b s (Call.Do (Step.Revoke h l)) o g = bind (revoke-match b s h l o g) (λ x q. accepted q)
 perform-match b s (Call.Do (Step.CreateRevokeCapa h l)) o g = bind (make-revoke-match b s h l g) (λ x q. accepted q)
 perform-match b s Call.Pop o g = bind {P = λ x. Matches b (x .1)} (accepted (pop-match b s _ refl g)) (λ x q. accepted q)

@@ -1,4 +1,4 @@
--- Books written out: after document 01's worked example, after revokes, one of a region with others below it, after a sweep, and after making anew.
+-- Books written out: after document 01's worked example, after a send with a flag word, after revokes, one of a region with others below it, after a sweep, and after making anew.
 use mathlib.Core.Path.{_≡_, refl}
 use Prim.Native.Nat.{ℕ}
 use mathlib.Core.Bool.{Bool, true, false}
@@ -10,12 +10,12 @@ use Rattle.model.specs.Making.{emptyTables}
 use Rattle.model.specs.Perform.{Step, Call, run}
 use Rattle.model.specs.Checked.Compute.{computing}
 use Rattle.model.specs.Checked.Script.{dom, access, example}
-use Rattle.book.specs.Book.{Book, Noted, Held, emptied, regionOf, managementOf, channelOf, Slots, blank, swept, makeRoom, put, give, giveNext, opened, added, created, ownedBy, ownedIfRegion, freed, putAny, sent, killed, revoked, emptySlot, accept, note}
+use Rattle.book.specs.Book.{Book, Noted, Held, emptied, regionOf, managementOf, channelOf, Slots, blank, swept, makeRoom, put, give, giveNext, opened, added, created, ownedBy, flagged, handedTo, freed, putAny, sent, killed, revoked, emptySlot, accept, note}
 use Rattle.book.specs.Demand3.{noteAll, bookCount, accepted}
 
 -- To compute with the book, name `noting` on an `unfolding` line.
 unfoldable pub noting : Unit {0}
-unfolding computing swept makeRoom put give giveNext opened added created ownedBy ownedIfRegion freed putAny sent killed revoked emptySlot accept note noteAll
+unfolding computing swept makeRoom put give giveNext opened added created ownedBy flagged handedTo freed putAny sent killed revoked emptySlot accept note noteAll
 noting = tt
 
 -- the book after a list of calls from empty tables
@@ -51,6 +51,16 @@ after-revoke : bookAfter (sizes 2 4) (example ++ (Call.Do (Step.Revoke (dom 1) 0
     }
 unfolding noting
 after-revoke = refl
+
+-- A sends the alias, too, with CLEANUP: it is B's, and its rights are 3 and 32.
+after-flags : bookAfter (sizes 2 4) (example ++ (Call.Do (Step.Send (dom 0) 3 0 (record { flags = some 32 })) ∷ []))
+    ≡ record {
+      sizes = sizes 2 4;
+      regions = reg Root 0 0 16 3 true ∷ reg (Carve 0) 1 4 8 1 true ∷ reg (Alias 0) 1 0 4 35 true ∷ [];
+      lists = slots (some (managementOf (dom 1)) ∷ some (regionOf 0) ∷ none ∷ none ∷ []) (3 ∷ 2 ∷ []) ∷ slots (some (regionOf 1) ∷ some (regionOf 2) ∷ none ∷ none ∷ []) (2 ∷ 3 ∷ []) ∷ [];
+    }
+unfolding noting
+after-flags = refl
 
 -- A root, an alias of it, a carve of that, an alias of the carve; A holds them in slots 0 to 3.
 abbrev nested : List Call

@@ -13,17 +13,18 @@ use borrow.Author.Tests.{eq-eqb}
 use Rattle.base.specs.Cases.{holds, fails, test}
 use Rattle.base.specs.Tests.{is-true, true-is, false-is}
 use Rattle.model.specs.Lists.{isSome, atSlot}
-use Rattle.model.specs.Outcome.{Outcome, _>>=_, okOr}
+use Rattle.model.specs.Outcome.{Outcome, ok, _>>=_, _>>_, okOr}
 use Rattle.refusals.specs.Refusals.{noSlot}
-use Rattle.model.specs.State.{State, Pool, Handle, Capa, noCapa, region, regionRevoke, channel, Region, noneRegion, regionAt, putRegion, withOwner, parentOf}
+use Rattle.model.specs.State.{State, Pool, Handle, Capa, noCapa, region, regionRevoke, channel, Region, SendOptions, noneRegion, regionAt, putRegion, withOwner, parentOf}
 use Rattle.model.specs.Pool.{isLive}
 use Rattle.model.specs.Locals.{capaAt, insertCapa, removeCapa}
 use Rattle.model.specs.Tree.{Range}
-use Rattle.model.specs.Regions.{sendRanges, sendRegion}
-use Rattle.model.specs.Calls.{liveDomain, liveRegion, asTarget, sendCapa, send}
+use Rattle.rights.specs.Rights.{union}
+use Rattle.model.specs.Regions.{sendRanges, sendRegion, applyOptions}
+use Rattle.model.specs.Calls.{liveDomain, liveRegion, asTarget, checkOptions, sendCapa, send}
 use Rattle.model.specs.Sound.{Sound}
-use Rattle.laws.specs.Accepted.{All, accepted, refused, bind, weaken}
-use Rattle.book.specs.Book.{Book, Noted, Held, emptied, regionOf, revokeOf, channelOf, noted, heldAt, domainIn, makeRoom, put, putAny, freed, ownedIfRegion, ownedBy, sent}
+use Rattle.laws.specs.Accepted.{All, accepted, refused, bind, and-then, weaken}
+use Rattle.book.specs.Book.{Book, Noted, Held, emptied, regionOf, revokeOf, channelOf, noted, withNoted, heldAt, domainIn, makeRoom, put, putAny, freed, flagged, handedTo, ownedBy, sent}
 use Rattle.book.specs.Demand3.{SameRegion}
 use Rattle.book.specs.Tests.{and-left, some-is, some-below}
 use Rattle.book.specs.Matches.{both-map, SameHeld, sameFree, sameEmptied, sameRegion, sameRevoke, sameManagement, sameChannel, same-map, AtPlace, LiveDomain, Regions, MatchesAt, list-map, Matches, matches}
@@ -80,23 +81,39 @@ module _ (rs rs′ : List Noted) (p : Pool) (gs gs′ : List (Option Region)) (a
     rootsLive = λ j u e. same-alive j ∙ m .rootsLive j (omega arith) (ap parentOf (sym (same-kind j)) ∙ e);
   }
 
--- ---- the owner changes on both sides
+-- ---- the owner, or the rights, change on both sides
 
 abbrev at-place-set : (rs : List Noted) (k : ℕ) (r : Noted) (at : ℕ → Handle) (j : ℕ) (h : Handle) → AtPlace rs at j h → AtPlace (set rs k r) at j h
 at-place-set rs k r at j h t = (let u = t .0 in let v = length-set rs k r in omega arith, t .1)
 
-pub own-match : (b : Book) (s : State) (at : ℕ → Handle) (place : ℕ → ℕ) (to k : ℕ) → MatchesAt b s at place → k < length (b .regions) → isLive (s .regionPool) (s .regions) (at k) ≡ true → MatchesAt (ownedBy to k b) (putRegion (at k .slot) (withOwner to (regionAt s (at k .slot))) s) at place
-unfolding ownedBy
-own-match b s at place to k m u l =
-    let i = at k .slot in
-    let was = and-left (isSome (atSlot (s .regions) i)) _ l in
-    let lives = m .regions .aliveIsLive k u ∙ l in
-    let h = m .regions .stored k u lives in
-    record {
-      sizes = m .sizes;
-      regions = change-regions (b .regions) _ (s .regionPool) (s .regions) _ at place k i _ _ (m .regions) (length-set (b .regions) k _) (getD-set-same (b .regions) k _ _ u) (λ j n. getD-set-other (b .regions) k j _ _ n) refl refl u lives refl was (getD-set-same (s .regions) i _ none (some-below (s .regions) i was)) (λ j n. getD-set-other (s .regions) i j _ none n) (record { kind = h .kind; owner = refl; start = h .start; end = h .end; rights = h .rights });
-      lists = both-map (list-map (λ j h′ t. at-place-set (b .regions) k _ at j h′ t) (λ h′ q. q)) (m .lists);
-    }
+-- region g in the slot of the live region at place k, which the book has as r
+module _ (b : Book) (s : State) (at : ℕ → Handle) (place : ℕ → ℕ) (k : ℕ) (m : MatchesAt b s at place) (u : k < length (b .regions)) (l : isLive (s .regionPool) (s .regions) (at k) ≡ true) where
+  lives : noted (b .regions) k .alive ≡ true
+  lives = m .regions .aliveIsLive k u ∙ l
+
+  region-match : (r : Noted) (g : Region) → r .alive ≡ noted (b .regions) k .alive → r .kind ≡ noted (b .regions) k .kind → SameRegion (λ j. at j .slot) r g → MatchesAt (withNoted (set (b .regions) k r) b) (putRegion (at k .slot) g s) at place
+  region-match r g alive kind same =
+      let i = at k .slot in
+      let was = and-left (isSome (atSlot (s .regions) i)) _ l in
+      record {
+        sizes = m .sizes;
+        regions = change-regions (b .regions) _ (s .regionPool) (s .regions) _ at place k i r g (m .regions) (length-set (b .regions) k r) (getD-set-same (b .regions) k r _ u) (λ j n. getD-set-other (b .regions) k j r _ n) alive kind u lives refl was (getD-set-same (s .regions) i _ none (some-below (s .regions) i was)) (λ j n. getD-set-other (s .regions) i j _ none n) same;
+        lists = both-map (list-map (λ j h t. at-place-set (b .regions) k r at j h t) (λ h q. q)) (m .lists);
+      }
+
+  -- it becomes domain `to`'s
+  pub own-match : (to : ℕ) → MatchesAt (ownedBy to k b) (putRegion (at k .slot) (withOwner to (regionAt s (at k .slot))) s) at place
+  unfolding ownedBy
+  own-match to = let h = m .regions .stored k u lives in region-match _ _ refl refl (record { kind = h .kind; owner = refl; start = h .start; end = h .end; rights = h .rights })
+
+  -- the flags join its rights
+  pub options-match : (o : SendOptions) → MatchesAt (flagged o k b) (applyOptions (at k .slot) o s) at place
+  unfolding flagged applyOptions
+  options-match o = go (o .flags)
+    where
+      go : (x : Option ℕ) → MatchesAt (flagged (record { flags = x }) k b) (applyOptions (at k .slot) (record { flags = x }) s) at place
+      go none = m
+      go (some f) = let h = m .regions .stored k u lives in region-match _ _ refl refl (record { kind = h .kind; owner = h .owner; start = h .start; end = h .end; rights = ap (λ n. union n f) (h .rights) })
 
 -- ---- the ranges
 
@@ -124,17 +141,44 @@ owned-after s t q o i h = q .opens _ (o-as (atSlot (t .regions) i) (atSlot (s .r
     o-as : (x y : Option Region) → x ≡ y → isSome (atSlot (s .domains) (Option·getD y noneRegion .owner)) ≡ true → isSome (atSlot (s .domains) (Option·getD x noneRegion .owner)) ≡ true
     o-as x y e k = rw e k
 
-module _ (b : Book) (s : State) (at : ℕ → Handle) (place : ℕ → ℕ) (m : MatchesAt b s at place) (to : ℕ) (open-to : isSome (atSlot (s .domains) to) ≡ true) (own : Owned s) where
-  region-at : (k : ℕ) → k < length (b .regions) → All (λ t. MatchesAt (ownedBy to k b) t at place × ((h : Handle) → isLive (s .domainPool) (s .domains) h ≡ true → isLive (t .domainPool) (t .domains) h ≡ true)) (liveRegion s (at k) >>= λ i. sendRegion i to s)
-  unfolding sendRegion
-  region-at k u = on-region s (at k) _ (λ l. weaken (ranges-match (ownedBy to k b) at place _ to _ _ _ (own-match b s at place to k m u l) (own (at k .slot) (and-left (isSome (atSlot (s .regions) (at k .slot))) _ l)) open-to) (λ t q. (q .0, q .1 .live)))
+-- t is matched, and live domains of s are live in it
+abbrev SentTo : State → (ℕ → Handle) → (ℕ → ℕ) → Book → State → Type 0
+SentTo s at place b t = MatchesAt b t at place × ((h : Handle) → isLive (s .domainPool) (s .domains) h ≡ true → isLive (t .domainPool) (t .domains) h ≡ true)
 
-  region-any : (k : ℕ) (h : Handle) → h ≡ at k → k < length (b .regions) → All (λ t. MatchesAt (ownedBy to k b) t at place × ((h : Handle) → isLive (s .domainPool) (s .domains) h ≡ true → isLive (t .domainPool) (t .domains) h ≡ true)) (liveRegion s h >>= λ i. sendRegion i to s)
+-- the domains of the state with the options applied are those it had
+options-live : (i : ℕ) (o : SendOptions) (t : State) (h : Handle) → isLive (t .domainPool) (t .domains) h ≡ true → isLive (applyOptions i o t .domainPool) (applyOptions i o t .domains) h ≡ true
+unfolding applyOptions
+options-live i o t h e = go (o .flags)
+  where
+    go : (x : Option ℕ) → isLive (applyOptions i (record { flags = x }) t .domainPool) (applyOptions i (record { flags = x }) t .domains) h ≡ true
+    go none = e
+    go (some f) = e
+
+module _ (b : Book) (s : State) (at : ℕ → Handle) (place : ℕ → ℕ) (m : MatchesAt b s at place) (to : ℕ) (o : SendOptions) (open-to : isSome (atSlot (s .domains) to) ≡ true) (own : Owned s) where
+  -- the region at place k lives on, domain `to`'s
+  lives-on : (k : ℕ) → k < length (b .regions) → isLive (s .regionPool) (s .regions) (at k) ≡ true → (t : State) → MatchesAt (ownedBy to k b) t at place → (k < length (ownedBy to k b .regions)) × isLive (t .regionPool) (t .regions) (at k) ≡ true
+  unfolding ownedBy
+  lives-on k u l t n =
+      let v : k < length (ownedBy to k b .regions) = at-place-set (b .regions) k _ at k (at k) (u, refl) .0 in
+      (v, sym (n .regions .aliveIsLive k v) ∙ ap (λ (r : Noted). r .alive) (getD-set-same (b .regions) k _ _ u) ∙ m .regions .aliveIsLive k u ∙ l)
+
+  region-at : (k : ℕ) → k < length (b .regions) → All (SentTo s at place (flagged o k (ownedBy to k b))) (liveRegion s (at k) >>= λ i. checkOptions o >> (sendRegion i to s >>= λ s₁. ok (applyOptions i o s₁)))
+  unfolding sendRegion
+  region-at k u = on-region s (at k) _ (λ l. and-then _ (
+      bind (ranges-match (ownedBy to k b) at place _ to _ _ _ (own-match b s at place k m u l to) (own (at k .slot) (and-left (isSome (atSlot (s .regions) (at k .slot))) _ l)) open-to) (λ t q.
+      let (v, w) = lives-on k u l t (q .0) in
+      accepted (options-match (ownedBy to k b) t at place k (q .0) v w o, λ h e. options-live (at k .slot) o t h (q .1 .live h e)))))
+
+  region-any : (k : ℕ) (h : Handle) → h ≡ at k → k < length (b .regions) → All (SentTo s at place (flagged o k (ownedBy to k b))) (liveRegion s h >>= λ i. checkOptions o >> (sendRegion i to s >>= λ s₁. ok (applyOptions i o s₁)))
   region-any k h e u = rw e (region-at k u)
 
-owned-at-place : (b : Book) (at : ℕ → Handle) (to k : ℕ) (h : Handle) → AtPlace (b .regions) at k h → AtPlace (ownedBy to k b .regions) at k h
-unfolding ownedBy
-owned-at-place b at to k h t = at-place-set (b .regions) k _ at k h t
+handed-at-place : (b : Book) (at : ℕ → Handle) (to k : ℕ) (o : SendOptions) (h : Handle) → AtPlace (b .regions) at k h → AtPlace (flagged o k (ownedBy to k b) .regions) at k h
+unfolding ownedBy flagged
+handed-at-place b at to k o h t = go (o .flags)
+  where
+    go : (x : Option ℕ) → AtPlace (flagged (record { flags = x }) k (ownedBy to k b) .regions) at k h
+    go none = at-place-set (b .regions) k _ at k h t
+    go (some f) = at-place-set (ownedBy to k b .regions) k _ at k h (at-place-set (b .regions) k _ at k h t)
 
 put-sent : (b : Book) (s : State) (at : ℕ → Handle) (place : ℕ → ℕ) (d l to : ℕ) (c : Held) (c′ : Capa) → MatchesAt b s at place → SameHeld (AtPlace (b .regions) at) (LiveDomain (s .domainPool) (s .domains)) (some c) (some c′) → All (λ z. Matches (put to (z .0) c (freed d l b)) (z .1)) (insertCapa to c′ (removeCapa d l s))
 unfolding removeCapa freed
@@ -142,12 +186,12 @@ put-sent b s at place d l to c c′ m q =
     let m₁ = put-match b s at place m d _ _ (free-same l _ _ (slots-of b s at place m d)) in
     weaken (insert-match _ _ at place m₁ to c c′ (same-map (λ k h t. t) (put-only-domains b s at place m d _ .live) _ _ q)) (λ z r. matches _ _ _ _ (r .0))
 
-module _ (b : Book) (s : State) (at : ℕ → Handle) (place : ℕ → ℕ) (m : MatchesAt b s at place) (d l to : ℕ) (open-to : isSome (atSlot (s .domains) to) ≡ true) (own : Owned s) where
-  send-held : (x : Option Held) (y : Option Capa) → SameHeld (AtPlace (b .regions) at) (LiveDomain (s .domainPool) (s .domains)) x y → All (λ z. Matches (putAny to (z .0) x (freed d l (ownedIfRegion to x b))) (z .1)) (okOr y noSlot >>= λ c. sendCapa c to s >>= λ s₂. insertCapa to c (removeCapa d l s₂))
-  unfolding okOr _>>=_ sendCapa putAny ownedIfRegion
+module _ (b : Book) (s : State) (at : ℕ → Handle) (place : ℕ → ℕ) (m : MatchesAt b s at place) (d l to : ℕ) (o : SendOptions) (open-to : isSome (atSlot (s .domains) to) ≡ true) (own : Owned s) where
+  send-held : (x : Option Held) (y : Option Capa) → SameHeld (AtPlace (b .regions) at) (LiveDomain (s .domainPool) (s .domains)) x y → All (λ z. Matches (putAny to (z .0) x (freed d l (handedTo to o x b))) (z .1)) (okOr y noSlot >>= λ c. sendCapa c to o s >>= λ s₂. insertCapa to c (removeCapa d l s₂))
+  unfolding okOr _>>=_ sendCapa putAny handedTo
   send-held x y sameFree = refused
   send-held x y sameEmptied = put-sent b s at place d l to emptied noCapa m sameEmptied
-  send-held x y (sameRegion {k} {h} t) = bind (region-any b s at place m to open-to own k h (t .1) (t .0)) (λ s₂ r. put-sent (ownedBy to k b) s₂ at place d l to (regionOf k) (region h) (r .0) (sameRegion (owned-at-place b at to k h t)))
+  send-held x y (sameRegion {k} {h} t) = bind (region-any b s at place m to o open-to own k h (t .1) (t .0)) (λ s₂ r. put-sent (flagged o k (ownedBy to k b)) s₂ at place d l to (regionOf k) (region h) (r .0) (sameRegion (handed-at-place b at to k o h t)))
   send-held x y (sameRevoke {k} {h} t) = put-sent b s at place d l to (revokeOf k) (regionRevoke h) m (sameRevoke t)
   send-held x y (sameManagement q) = refused
   send-held x y (sameChannel {h} q) = put-sent b s at place d l to (channelOf h) (channel h) m (sameChannel q)
@@ -161,18 +205,18 @@ on-target s P x y f (sameRevoke t) g = refused
 on-target s P x y f (sameManagement {h = k} q) g = on-domain s k f (λ l. g k l refl)
 on-target s P x y f (sameChannel {h = k} q) g = on-domain s k f (λ l. g k l refl)
 
-sent-as : (b : Book) (s : State) (d l n to to′ : ℕ) → to ≡ to′ → Matches (sent d l to n b) s → Matches (sent d l to′ n b) s
-sent-as b s d l n to to′ e g = rw e at g
+sent-as : (b : Book) (s : State) (d l n to to′ : ℕ) (o : SendOptions) → to ≡ to′ → Matches (sent d l to n o b) s → Matches (sent d l to′ n o b) s
+sent-as b s d l n to to′ o e g = rw e at g
 
-sent-is : (b : Book) (s : State) (d l n to : ℕ) → Matches (putAny to n (heldAt (makeRoom to b) d l) (freed d l (ownedIfRegion to (heldAt (makeRoom to b) d l) (makeRoom to b)))) s → Matches (sent d l to n b) s
+sent-is : (b : Book) (s : State) (d l n to : ℕ) (o : SendOptions) → Matches (putAny to n (heldAt (makeRoom to b) d l) (freed d l (handedTo to o (heldAt (makeRoom to b) d l) (makeRoom to b)))) s → Matches (sent d l to n o b) s
 unfolding sent
-sent-is b s d l n to g = g
+sent-is b s d l n to o g = g
 
-pub send-match : (b : Book) (s : State) (h : Handle) (l target : ℕ) → Sound s → Matches b s → All (λ x. Matches (sent (h .slot) l (domainIn (heldAt b (h .slot) target)) (x .0) b) (x .1)) (send h l target s)
+pub send-match : (b : Book) (s : State) (h : Handle) (l target : ℕ) (o : SendOptions) → Sound s → Matches b s → All (λ x. Matches (sent (h .slot) l (domainIn (heldAt b (h .slot) target)) (x .0) o b) (x .1)) (send h l target o s)
 unfolding send capaAt
-send-match b s h l target sound g =
+send-match b s h l target o sound g =
     on-domain s h _ (λ v.
     on-target s (AtPlace (b .regions) (g .at)) _ _ _ (held-same b s _ _ (g .fits) (h .slot) target) (λ k w e.
     bind (capacity-match b s _ _ (g .fits) (k .slot)) (λ s₁ q.
-    weaken (send-held (makeRoom (k .slot) b) s₁ _ _ (q .0) (h .slot) l (k .slot) (q .1 .opens (k .slot) (live-opens s k w)) (owned-after s s₁ (q .1) (owned s sound)) _ _ (held-same (makeRoom (k .slot) b) s₁ _ _ (q .0) (h .slot) l)) (λ x r.
-    sent-as b (x .1) (h .slot) l (x .0) (k .slot) _ e (sent-is b (x .1) (h .slot) l (x .0) (k .slot) r)))))
+    weaken (send-held (makeRoom (k .slot) b) s₁ _ _ (q .0) (h .slot) l (k .slot) o (q .1 .opens (k .slot) (live-opens s k w)) (owned-after s s₁ (q .1) (owned s sound)) _ _ (held-same (makeRoom (k .slot) b) s₁ _ _ (q .0) (h .slot) l)) (λ x r.
+    sent-as b (x .1) (h .slot) l (x .0) (k .slot) _ o e (sent-is b (x .1) (h .slot) l (x .0) (k .slot) o r)))))

@@ -9,15 +9,16 @@ use mathlib.Core.List.{List, [], _∷_}
 use lib.Dec.{T, eqb, ltb, ltb→lt}
 use lib.Ieee.Fits.{and-l, and-r}
 use Rattle.model.specs.Lists.{exists}
-use Rattle.model.specs.Outcome.{Outcome, refuse, _>>=_, okOr}
+use Rattle.model.specs.Outcome.{Outcome, refuse, _>>=_, _>>_, okOr}
+use Rattle.rights.specs.Rights.{allowed}
 use Rattle.refusals.specs.declared.Refusal.{Refusal}
-use Rattle.refusals.specs.Refusals.{number, memory, sizes, noDomain, noSlot, wrongKind, stale, badRange, beyond, isRoot, notCarried, noRegion, noLocal, noTracker, ringFull, noDomainRoom, spent}
-use Rattle.model.specs.State.{State, Sizes, Handle, Access, Kind, Capa, noCapa, region, regionRevoke, management, channel, domainAt}
+use Rattle.refusals.specs.Refusals.{number, memory, sizes, noDomain, noSlot, wrongKind, stale, badRange, beyond, isRoot, notCarried, noRegion, noLocal, noTracker, ringFull, noDomainRoom, spent, badFlag}
+use Rattle.model.specs.State.{State, Sizes, Handle, Access, Kind, SendOptions, Capa, noCapa, region, regionRevoke, management, channel, domainAt}
 use Rattle.model.specs.Pool.{isLive}
 use Rattle.model.specs.Locals.{insertLocal, insertCapa, hasCapacity, capaAt}
 use Rattle.model.specs.Regions.{newRegion}
 use Rattle.model.specs.Making.{makeTables, makeIn}
-use Rattle.model.specs.Calls.{liveDomain, liveRegion, asRegion, asTarget, regionHeld, roomForRegion, newDomain, openDomain, openChannel, setCoreMap, createRootRegion, addChild, aliasRegion, carveRegion, sendCapa, send, revokeUnlessRoot, revokeCapa, revoke, createRevokeCapa}
+use Rattle.model.specs.Calls.{liveDomain, liveRegion, asRegion, asTarget, regionHeld, roomForRegion, newDomain, openDomain, openChannel, setCoreMap, createRootRegion, addChild, aliasRegion, carveRegion, sendCapa, send, revokeUnlessRoot, revokeCapa, revoke, createRevokeCapa, checkOptions}
 use Rattle.model.specs.Readings.{permissions, getRefcount, coreMap}
 use Rattle.model.specs.Perform.{Step, Open, Channel, SetCoreMap, Root, Alias, Carve, Send, Revoke, CreateRevokeCapa, Reading, Permissions, Refcount, CoreMap, Holders, Call, Make, Do, Pop, Read, performStep, readTables, perform}
 use Rattle.laws.specs.Answers.{Gives, gives, refuses, gives-then, gives-branch, gives-checked, refusal}
@@ -32,7 +33,7 @@ stepRefusals (SetCoreMap h cores) = noDomain ∷ []
 stepRefusals (Root h a) = noDomain ∷ noRegion ∷ noLocal ∷ badRange ∷ noTracker ∷ ringFull ∷ spent ∷ []
 stepRefusals (Alias h l a) = noDomain ∷ noSlot ∷ wrongKind ∷ stale ∷ noRegion ∷ noLocal ∷ badRange ∷ beyond ∷ noTracker ∷ ringFull ∷ spent ∷ []
 stepRefusals (Carve h l a) = noDomain ∷ noSlot ∷ wrongKind ∷ stale ∷ noRegion ∷ noLocal ∷ badRange ∷ beyond ∷ noTracker ∷ ringFull ∷ spent ∷ []
-stepRefusals (Send h l target) = noDomain ∷ noSlot ∷ wrongKind ∷ noLocal ∷ notCarried ∷ stale ∷ noTracker ∷ ringFull ∷ spent ∷ []
+stepRefusals (Send h l target o) = noDomain ∷ noSlot ∷ wrongKind ∷ noLocal ∷ notCarried ∷ stale ∷ badFlag ∷ noTracker ∷ ringFull ∷ spent ∷ []
 stepRefusals (Revoke h l) = noDomain ∷ noSlot ∷ notCarried ∷ stale ∷ isRoot ∷ noTracker ∷ ringFull ∷ spent ∷ []
 stepRefusals (CreateRevokeCapa h l) = noDomain ∷ noSlot ∷ wrongKind ∷ stale ∷ isRoot ∷ noLocal ∷ []
 
@@ -189,13 +190,22 @@ module _ {R : Refusal → Type 0} where
   as-target i (management h) = gives tt
   as-target i (channel h) = gives tt
 
-  moved-within : R notCarried × R stale → R noTracker × R spent × R ringFull → (c : Capa) (to : ℕ) (s : State) → Within R (sendCapa c to s)
+  -- the check of the options, and then another step
+  options-within : {A : Type 0} {m : Outcome A} → R badFlag → (o : SendOptions) → Within R m → Within R (checkOptions o >> m)
+  unfolding checkOptions _>>_
+  options-within {A} {m} i o h = go (o .flags)
+    where
+      go : (x : Option ℕ) → Within R (checkOptions (record { flags = x }) >> m)
+      go none = h
+      go (some f) = gives-checked (allowed 0 f) badFlag i (λ t. h)
+
+  moved-within : R notCarried × R stale × R badFlag → R noTracker × R spent × R ringFull → (c : Capa) (to : ℕ) (o : SendOptions) (s : State) → Within R (sendCapa c to o s)
   unfolding sendCapa
-  moved-within i j noCapa to s = gives tt
-  moved-within i j (region h) to s = region-within (i .1) s h andThen (λ n. late j (send-stops n to s))
-  moved-within i j (regionRevoke h) to s = gives tt
-  moved-within i j (management h) to s = refuses (i .0)
-  moved-within i j (channel h) to s = gives tt
+  moved-within i j noCapa to o s = gives tt
+  moved-within i j (region h) to o s = region-within (i .1) s h andThen (λ n. options-within (i .2) o (late j (send-stops n to s) andThen (λ t. gives tt)))
+  moved-within i j (regionRevoke h) to o s = gives tt
+  moved-within i j (management h) to o s = refuses (i .0)
+  moved-within i j (channel h) to o s = gives tt
 
   unless-root : R isRoot → R noTracker × R spent × R ringFull → (n : ℕ) (s : State) → Within R (revokeUnlessRoot n s)
   unfolding revokeUnlessRoot
@@ -209,16 +219,16 @@ module _ {R : Refusal → Type 0} where
   revoked-within i j (management h) s = refuses (i .0)
   revoked-within i j (channel h) s = gives tt
 
-send-within : (h : Handle) (l target : ℕ) (s : State) → Within (Of (Do (Send h l target))) (send h l target s)
+send-within : (h : Handle) (l target : ℕ) (o : SendOptions) (s : State) → Within (Of (Do (Send h l target o))) (send h l target o s)
 unfolding send
-send-within h l target s =
+send-within h l target o s =
     domain-within tt s h andThen (λ d.
     slot-within tt s d target andThen (λ t.
     as-target tt t andThen (λ k.
     domain-within tt s k andThen (λ to.
     capacity-within tt to s andThen (λ u.
     slot-within tt u d l andThen (λ c.
-    moved-within (tt, tt) (tt, tt, tt) c to u andThen (λ v.
+    moved-within (tt, tt, tt) (tt, tt, tt) c to o u andThen (λ v.
     insert-within tt to c _)))))))
 
 revoke-within : (h : Handle) (l : ℕ) (s : State) → Within (Of (Do (Revoke h l))) (revoke h l s)
@@ -246,7 +256,7 @@ step-within s (SetCoreMap h cores) = set-core-map-within h cores s andThen (λ x
 step-within s (Root h a) = root-within h a s andThen (λ x. gives tt)
 step-within s (Alias h l a) = alias-within h l a s andThen (λ x. gives tt)
 step-within s (Carve h l a) = carve-within h l a s andThen (λ x. gives tt)
-step-within s (Send h l target) = send-within h l target s andThen (λ x. gives tt)
+step-within s (Send h l target o) = send-within h l target o s andThen (λ x. gives tt)
 step-within s (Revoke h l) = revoke-within h l s andThen (λ x. gives tt)
 step-within s (CreateRevokeCapa h l) = create-revoke-capa-within h l s andThen (λ x. gives tt)
 

@@ -21,6 +21,7 @@ pub mod Child
 pub mod Alias
 pub mod Carve
 pub mod SendRegion
+pub mod Options
 pub mod Send
 pub mod RevokeLeaf
 pub mod RevokeRegion

@@ -1,7 +1,7 @@
 -- A law: no step changes the sizes or the length of a table. The calls follow in KeptCalls.
 use mathlib.Core.Path.{_≡_, refl, _∙_}
 use Prim.Native.Nat.{ℕ, zero, suc}
-use mathlib.Core.Option.{none, some}
+use mathlib.Core.Option.{Option, none, some}
 use mathlib.Core.List.{List, [], _∷_}
 use lib.ListN.{length, length-set}
 use Rattle.model.specs.Lists.{exists}
@@ -10,13 +10,13 @@ use Rattle.model.specs.Outcome.{Outcome}
 use Rattle.refusals.specs.declared.Refusal.{Refusal}
 use Rattle.laws.specs.Accepted.{All, accepted, refused, bind, bind-any, and-then, branch, weaken}
 use Rattle.laws.specs.Tracker.Slots.{gain-slots, lose-slots}
-use Rattle.model.specs.State.{State, Pool, Capa, Domain, Region, Kind, Root, Alias, Carve, Access, Record, Update, withRecordPool, withTracker, putDomain, putRegion, domainAt, regionAt}
+use Rattle.model.specs.State.{State, Pool, Capa, Domain, Region, Kind, Root, Alias, Carve, Access, Record, Update, SendOptions, withRecordPool, withTracker, putDomain, putRegion, domainAt, regionAt}
 use Rattle.model.specs.Pool.{allocate, free, handleOf}
 use Rattle.model.specs.Locals.{hasCapacity, insertCapa, removeCapa, emptyCapa}
 use Rattle.model.specs.Updates.{isPermissionOf, push, pushPermission}
 use Rattle.model.specs.Tracker.{Walk, gain, lose}
 use Rattle.model.specs.Tree.{Range, removeChild}
-use Rattle.model.specs.Regions.{putWalk, activate, deactivate, newRegion, freeRegion, sendRanges, sendRegion, giveBack, leaveParent, revokeLeaf, revokeRegion}
+use Rattle.model.specs.Regions.{putWalk, activate, deactivate, newRegion, freeRegion, sendRanges, sendRegion, applyOptions, giveBack, leaveParent, revokeLeaf, revokeRegion}
 use Rattle.model.specs.Perform.{step}
 
 -- ---- pools
@@ -135,6 +135,14 @@ ranges-kept old new r (x ∷ xs) s = bind (deactivate-kept old _ s) (λ s₁ j. 
 pub send-region-kept : (i new : ℕ) (s : State) → All (Kept s) (sendRegion i new s)
 unfolding sendRegion
 send-region-kept i new s = and-so (put-region i _ s) (ranges-kept _ new _ _ _)
+
+pub options-kept : (i : ℕ) (o : SendOptions) (s : State) → Kept s (applyOptions i o s)
+unfolding applyOptions
+options-kept i o s = go (o .flags)
+  where
+    go : (x : Option ℕ) → Kept s (applyOptions i (record { flags = x }) s)
+    go none = same s
+    go (some f) = put-region i _ s
 
 give-back-kept : (g : Region) (k : Kind) (s : State) → g .kind ≡ k → All (Kept s) (giveBack g s)
 unfolding giveBack

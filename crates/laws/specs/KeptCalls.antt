@@ -8,14 +8,14 @@ use lib.ListN.{length-set}
 use Rattle.model.specs.Lists.{Each}
 use Rattle.model.specs.Outcome.{Outcome, ok, refuse}
 use Rattle.laws.specs.Accepted.{All, accepted, refused, bind, bind-any, and-then, branch}
-use Rattle.model.specs.State.{State, Handle, Capa, noCapa, region, regionRevoke, management, channel, Kind, Root, Alias, Carve, Access, Update}
+use Rattle.model.specs.State.{State, Handle, Capa, noCapa, region, regionRevoke, management, channel, Kind, Root, Alias, Carve, Access, SendOptions, Update}
 use Rattle.model.specs.Pool.{free, isLive}
 use Rattle.model.specs.Updates.{pop}
 use Rattle.model.specs.Tree.{insertChild}
 use Rattle.model.specs.Calls.{roomForRegion, newDomain, openDomain, openChannel, setCoreMap, createRootRegion, addChild, aliasRegion, exchangeRights, carveRegion, sendCapa, send, revokeUnlessRoot, revokeCapa, revoke, createRevokeCapa}
 use Rattle.model.specs.Perform.{Step, Call, Value, performStep, perform, after, step, run}
 use Rattle.model.specs.Memory.{NotMake}
-use Rattle.laws.specs.Kept.{Kept, allocate-same, same, trans, Kept₁, put-domain, put-region, capacity-kept, insert-kept, remove-kept, empty-kept, activate-kept, deactivate-kept, and-so, and-so₁, new-region-kept, send-region-kept, revoke-region-kept}
+use Rattle.laws.specs.Kept.{Kept, allocate-same, same, trans, Kept₁, put-domain, put-region, capacity-kept, insert-kept, remove-kept, empty-kept, activate-kept, deactivate-kept, and-so, and-so₁, new-region-kept, send-region-kept, options-kept, revoke-region-kept}
 
 room-kept : (d : ℕ) (a : Access) (s : State) → All (Kept s) (roomForRegion d a s)
 unfolding roomForRegion
@@ -77,24 +77,24 @@ carve-kept h l a s =
     and-then _ (bind (and-so₁ i (child-kept d p (Carve p) a s₁)) (λ x j.
     bind (and-so j (exchange-kept d _ a (x .1))) (λ s₃ k. accepted k))))))
 
-send-capa-kept : (c : Capa) (to : ℕ) (s : State) → All (Kept s) (sendCapa c to s)
+send-capa-kept : (c : Capa) (to : ℕ) (o : SendOptions) (s : State) → All (Kept s) (sendCapa c to o s)
 unfolding sendCapa
-send-capa-kept noCapa to s = accepted (same s)
-send-capa-kept (region h) to s = bind-any _ (λ i. send-region-kept i to s)
-send-capa-kept (regionRevoke h) to s = accepted (same s)
-send-capa-kept (management h) to s = refused
-send-capa-kept (channel h) to s = accepted (same s)
+send-capa-kept noCapa to o s = accepted (same s)
+send-capa-kept (region h) to o s = bind-any _ (λ i. and-then _ (bind (send-region-kept i to s) (λ t k. accepted (trans s t _ (options-kept i o t) k))))
+send-capa-kept (regionRevoke h) to o s = accepted (same s)
+send-capa-kept (management h) to o s = refused
+send-capa-kept (channel h) to o s = accepted (same s)
 
-send-kept : (h : Handle) (l t : ℕ) (s : State) → All (Kept₁ s) (send h l t s)
+send-kept : (h : Handle) (l t : ℕ) (o : SendOptions) (s : State) → All (Kept₁ s) (send h l t o s)
 unfolding send
-send-kept h l t s =
+send-kept h l t o s =
     bind-any _ (λ d.
     bind-any _ (λ c.
     bind-any _ (λ k.
     bind-any _ (λ to.
     bind (capacity-kept to s) (λ s₁ i.
     bind-any _ (λ c′.
-    bind (and-so i (send-capa-kept c′ to s₁)) (λ s₂ j.
+    bind (and-so i (send-capa-kept c′ to o s₁)) (λ s₂ j.
     and-so₁ (trans s s₂ _ (remove-kept d l s₂) j) (insert-kept to c′ _))))))))
 
 unless-root-kept : (i : ℕ) (s : State) → All (Kept s) (revokeUnlessRoot i s)
@@ -130,7 +130,7 @@ perform-step-kept s (Step.SetCoreMap h c) = bind (set-core-map-kept h c s) (λ x
 perform-step-kept s (Step.Root h a) = bind (root-kept h a s) (λ x k. accepted k)
 perform-step-kept s (Step.Alias h l a) = bind (alias-kept h l a s) (λ x k. accepted k)
 perform-step-kept s (Step.Carve h l a) = bind (carve-kept h l a s) (λ x k. accepted k)
-perform-step-kept s (Step.Send h l t) = bind (send-kept h l t s) (λ x k. accepted k)
+perform-step-kept s (Step.Send h l t o) = bind (send-kept h l t o s) (λ x k. accepted k)
 perform-step-kept s (Step.Revoke h l) = bind (revoke-kept h l s) (λ x k. accepted k)
 perform-step-kept s (Step.CreateRevokeCapa h l) = bind (create-revoke-capa-kept h l s) (λ x k. accepted k)
 

@@ -8,6 +8,7 @@ pub mod Stack
 pub mod Fields
 pub mod Tracker
 pub mod Tree
+pub mod Options
 pub mod Kept
 pub mod KeptCalls
 pub mod Keep

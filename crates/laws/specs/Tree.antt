@@ -4,6 +4,7 @@ pub mod Sum
 pub mod Slots
 pub mod Shares
 pub mod Facts
+pub mod Extends
 pub mod Carved
 pub mod Rises
 pub mod Pieces

@@ -2,15 +2,18 @@
 -- theorems about lists of calls do, and the exported functions' arguments have it by their types.
 use Prim.Native.Nat.{_<_}
 use mathlib.Core.Option.{none, some}
-use Rattle.model.specs.State.{Word, Sizes, Handle, Access}
+use Rattle.model.specs.State.{Word, Sizes, Handle, Access, SendOptions}
 use Rattle.model.specs.Perform.{Step, Reading, Call}
 
--- a handle, a range with rights, sizes
+-- a handle, a range with rights, a send's options, sizes
 abbrev pub HandleWords : Handle → Type 0
 HandleWords h = Word (h .slot) × Word (h .generation)
 
 abbrev pub AccessWords : Access → Type 0
 AccessWords a = Word (a .start) × Word (a .end) × a .rights < 256
+
+abbrev pub OptionsWords : SendOptions → Type 0
+OptionsWords o = elim (o .flags) [ none ↦ Unit {0} | some f ↦ f < 256 ]
 
 abbrev pub SizesWords : Sizes → Type 0
 SizesWords z = Word (z .domains) × Word (z .slots) × Word (z .regions) × Word (z .records) × Word (z .updates)
@@ -24,7 +27,7 @@ StepWords (Step.SetCoreMap h cores) = HandleWords h × Word cores
 StepWords (Step.Root h a) = HandleWords h × AccessWords a
 StepWords (Step.Alias h l a) = HandleWords h × Word l × AccessWords a
 StepWords (Step.Carve h l a) = HandleWords h × Word l × AccessWords a
-StepWords (Step.Send h l target) = HandleWords h × Word l × Word target
+StepWords (Step.Send h l target o) = HandleWords h × Word l × Word target × OptionsWords o
 StepWords (Step.Revoke h l) = HandleWords h × Word l
 StepWords (Step.CreateRevokeCapa h l) = HandleWords h × Word l
 

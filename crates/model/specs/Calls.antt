@@ -7,12 +7,13 @@ use lib.Dec.{eqb, ltb}
 use lib.ListN.{set}
 use Rattle.model.specs.Lists.{if_then_else_, isEmpty}
 use Rattle.model.specs.Outcome.{Outcome, ok, refuse, _>>=_, _>>_, require}
-use Rattle.refusals.specs.Refusals.{noDomain, wrongKind, stale, badRange, beyond, isRoot, notCarried, noRegion, noDomainRoom}
-use Rattle.model.specs.State.{Handle, Capa, noCapa, region, regionRevoke, management, channel, Access, Kind, Root, Alias, Carve, State, withDomains, withCores, domainAt, regionAt, putDomain}
+use Rattle.refusals.specs.Refusals.{noDomain, wrongKind, stale, badRange, beyond, isRoot, notCarried, noRegion, noDomainRoom, badFlag}
+use Rattle.rights.specs.Rights.{allowed}
+use Rattle.model.specs.State.{Handle, Capa, noCapa, region, regionRevoke, management, channel, Access, SendOptions, Kind, Root, Alias, Carve, State, withDomains, withCores, domainAt, regionAt, putDomain}
 use Rattle.model.specs.Pool.{allocate, handleOf, isLive}
 use Rattle.model.specs.Locals.{freshLocals, hasCapacity, capaAt, insertCapa, removeCapa, emptyCapa}
 use Rattle.model.specs.Tree.{isRootKind, checkAlias, checkCarve, insertChild}
-use Rattle.model.specs.Regions.{activate, deactivate, newRegion, sendRegion, revokeRegion, liveCount}
+use Rattle.model.specs.Regions.{activate, deactivate, newRegion, sendRegion, applyOptions, revokeRegion, liveCount}
 
 -- ---- checks that several calls share
 
@@ -142,26 +143,33 @@ carveRegion h l a s = do
 
 -- ---- send and revoke
 
--- 10, 6, and for a region its effective ranges; "A channel, RegionRevoke or Capa::None only moves."
-unfoldable pub sendCapa : Capa → ℕ → State → Outcome State
-sendCapa noCapa to s = ok s
-sendCapa (region h) to s = do
+-- Request 1: "18 for a flag other than HASH, CLEANUP or VITAL": these are what a child may add to no rights at all. Without a flag word there is nothing
+-- to check.
+unfoldable pub checkOptions : SendOptions → Outcome (Unit {0})
+checkOptions o = elim (o .flags) [ none ↦ ok tt | some f ↦ require (allowed 0 f) badFlag ]
+
+-- 10, 6, and for a region its effective ranges; "A channel, RegionRevoke or Capa::None only moves." Request 1: "For other capabilities both are ignored."
+unfoldable pub sendCapa : Capa → ℕ → SendOptions → State → Outcome State
+sendCapa noCapa to o s = ok s
+sendCapa (region h) to o s = do
   i ← liveRegion s h  -- 6
-  sendRegion i to s  -- 13, 14, 16
-sendCapa (regionRevoke h) to s = ok s
-sendCapa (management h) to s = refuse notCarried  -- 10
-sendCapa (channel h) to s = ok s
+  checkOptions o  -- 18
+  s₁ ← sendRegion i to s  -- 13, 14, 16
+  ok (applyOptions i o s₁)
+sendCapa (regionRevoke h) to o s = ok s
+sendCapa (management h) to o s = refuse notCarried  -- 10
+sendCapa (channel h) to o s = ok s
 
 -- **Send**: "Moves the slot". The target's list is swept, if full, before the sent slot is looked at.
-unfoldable pub send : Handle → ℕ → ℕ → State → Outcome (ℕ × State)
-send h l target s = do
+unfoldable pub send : Handle → ℕ → ℕ → SendOptions → State → Outcome (ℕ × State)
+send h l target o s = do
   d ← liveDomain s h  -- 3
   t ← capaAt s d target  -- 4
   k ← asTarget t  -- 5
   to ← liveDomain s k  -- 3
   s₁ ← hasCapacity to s  -- 12
   c ← capaAt s₁ d l  -- 4
-  s₂ ← sendCapa c to s₁  -- 10, 6, then 13, 14, 16
+  s₂ ← sendCapa c to o s₁  -- 10, 6, 18, then 13, 14, 16
   insertCapa to c (removeCapa d l s₂)
 
 -- 9, and the region with all below it.

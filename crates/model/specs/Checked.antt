@@ -3,4 +3,5 @@ pub mod Compute
 pub mod Script
 pub mod Edges
 pub mod OurCases
+pub mod SendFlags
 pub mod Example

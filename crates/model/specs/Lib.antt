@@ -1,7 +1,7 @@
 -- The trusted text, in the order to read it, after Rights.antt of crate rights and Refusals.antt of crate refusals; what stands below `Checked` is proved of it.
 --
--- How to read it. In comments "…" quotes document 01, `…` names the Rust or a definition, **…** names a paragraph of document 01, and a number such as 12
--- is a refusal (crate `refusals` has their names).
+-- How to read it. In comments "…" quotes document 01, or document 02 where a request is named, `…` names the Rust or a definition, **…** names a paragraph
+-- of document 01, and a number such as 12 is a refusal (crate `refusals` has their names).
 --   f : A → B → C             f takes an A and a B and gives a C; below it stand its equations, by the forms of its arguments
 --   (x : A) → P x             for every x. Arguments in braces, as {A : Type 0}, are left out where f is used
 --   module _ (x : A) where    each definition below takes x first, and leaves it out where it uses another one of them

@@ -6,7 +6,7 @@ use lib.ListN.{length}
 use Rattle.model.specs.Outcome.{Outcome, ok, refuse, _>>=_}
 use Rattle.refusals.specs.declared.Refusal.{Refusal}
 use Rattle.refusals.specs.Refusals
-use Rattle.model.specs.State.{State, Sizes, Handle, Access, Update}
+use Rattle.model.specs.State.{State, Sizes, Handle, Access, SendOptions, Update}
 use Rattle.model.specs.Updates.{pop}
 use Rattle.model.specs.Making.{makeIn}
 use Rattle.model.specs.Calls.{openDomain, openChannel, setCoreMap, createRootRegion, aliasRegion, carveRegion, send, revoke, createRevokeCapa}
@@ -25,7 +25,7 @@ pub data Step : Type 0 where
   Root : Handle → Access → Step
   Alias : Handle → ℕ → Access → Step
   Carve : Handle → ℕ → Access → Step
-  Send : Handle → ℕ → ℕ → Step
+  Send : Handle → ℕ → ℕ → SendOptions → Step
   Revoke : Handle → ℕ → Step
   CreateRevokeCapa : Handle → ℕ → Step
 
@@ -91,7 +91,7 @@ performStep s (SetCoreMap h cores) = silent (setCoreMap h cores s)
 performStep s (Root h a) = answer local (createRootRegion h a s)
 performStep s (Alias h l a) = answer local (aliasRegion h l a s)
 performStep s (Carve h l a) = answer local (carveRegion h l a s)
-performStep s (Send h l target) = answer local (send h l target s)
+performStep s (Send h l target o) = answer local (send h l target o s)
 performStep s (Revoke h l) = silent (revoke h l s)
 performStep s (CreateRevokeCapa h l) = answer local (createRevokeCapa h l s)
 

@@ -6,8 +6,8 @@ use lib.ListN.{set}
 use Rattle.model.specs.Lists.{if_then_else_, isSome, countIf}
 use Rattle.model.specs.Outcome.{Outcome, ok, _>>=_}
 use Rattle.refusals.specs.Refusals.{noRegion}
-use Rattle.rights.specs.Rights.{has, CLEANUP}
-use Rattle.model.specs.State.{State, Region, Kind, Root, Alias, Carve, Access, cleanup, domainAt, regionAt, putDomain, putRegion, withTracker, withRecordPool, withRegions, withOwner}
+use Rattle.rights.specs.Rights.{has, union, CLEANUP}
+use Rattle.model.specs.State.{State, Region, Kind, Root, Alias, Carve, Access, SendOptions, cleanup, domainAt, regionAt, putDomain, putRegion, withTracker, withRecordPool, withRegions, withOwner, withRights}
 use Rattle.model.specs.Pool.{allocate, free}
 use Rattle.model.specs.Tracker.{Walk, gain, lose}
 use Rattle.model.specs.Updates.{push, pushPermission}
@@ -51,6 +51,10 @@ sendRanges old new r (x ∷ xs) s = do
 -- Region i becomes domain `new`'s, with its effective ranges.
 unfoldable pub sendRegion : ℕ → ℕ → State → Outcome State
 sendRegion i new s = let g = regionAt s i in sendRanges (g .owner) new (g .rights) (effectiveRanges s g) (putRegion i (withOwner new g) s)
+
+-- Request 1: "With a flag word given for a region, the flags join the region's rights". The tracker counts none of the flags that may join.
+unfoldable pub applyOptions : ℕ → SendOptions → State → State
+applyOptions i o s = elim (o .flags) [ none ↦ s | some f ↦ let g = regionAt s i in putRegion i (withRights (union (g .rights) f) g) s ]
 
 -- "a carve's parent's domain gains it with the parent's rights"
 unfoldable pub giveBack : Region → State → Outcome State

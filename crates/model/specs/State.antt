@@ -91,6 +91,13 @@ pub record Access : Type 0 where
   pub end : ℕ
   pub rights : ℕ
 
+-- Document 02, request 1: what a send may say besides: "an optional flag word".
+pub record SendOptions : Type 0 where
+  pub flags : Option ℕ
+
+abbrev pub noOptions : SendOptions
+noOptions = record { flags = none }
+
 -- **Update ring**: a domain with its core map, or a range to be cleaned up (`Update`).
 pub data Update : Type 0 where
   permission : Handle → ℕ → Update
@@ -136,6 +143,9 @@ withTracker t d = record { manager = d .manager; cores = d .cores; locals = d .l
 
 abbrev pub withOwner : ℕ → Region → Region
 withOwner o r = record { owner = o; kind = r .kind; start = r .start; end = r .end; rights = r .rights; children = r .children }
+
+abbrev pub withRights : ℕ → Region → Region
+withRights n r = record { owner = r .owner; kind = r .kind; start = r .start; end = r .end; rights = n; children = r .children }
 
 abbrev pub withChildren : List ℕ → Region → Region
 withChildren c r = record { owner = r .owner; kind = r .kind; start = r .start; end = r .end; rights = r .rights; children = c }

@@ -67,7 +67,12 @@ spent = record { 0 = 16 }
 abbrev pub badRecord : Refusal
 badRecord = record { 0 = 17 }
 
+-- ---- a send's options (document 02, request 1)
+
+abbrev pub badFlag : Refusal
+badFlag = record { 0 = 18 }
+
 -- ---- all of them, in the order of their numbers
 
 abbrev pub all : List Refusal
-all = memory ∷ sizes ∷ noDomain ∷ noSlot ∷ wrongKind ∷ stale ∷ badRange ∷ beyond ∷ isRoot ∷ notCarried ∷ noRegion ∷ noLocal ∷ noTracker ∷ ringFull ∷ noDomainRoom ∷ spent ∷ badRecord ∷ []
+all = memory ∷ sizes ∷ noDomain ∷ noSlot ∷ wrongKind ∷ stale ∷ badRange ∷ beyond ∷ isRoot ∷ notCarried ∷ noRegion ∷ noLocal ∷ noTracker ∷ ringFull ∷ noDomainRoom ∷ spent ∷ badRecord ∷ badFlag ∷ []

@@ -39,8 +39,10 @@ impl Refusal {
 
     pub const BAD_RECORD: Refusal = Refusal(17);
 
+    pub const BAD_FLAG: Refusal = Refusal(18);
+
     // All of them. The contract ties each constant to the specification's name.
-    pub fn all() -> [Refusal; 17]
+    pub fn all() -> [Refusal; 18]
         ensures { λ r. ⌜ r ≡ all ⌝ }
     {
         [
@@ -61,6 +63,7 @@ impl Refusal {
             Refusal::NO_DOMAIN_ROOM,
             Refusal::SPENT,
             Refusal::BAD_RECORD,
+            Refusal::BAD_FLAG,
         ]
     }
 }

@@ -2,3 +2,4 @@ pub mod Rights
 pub mod Counters
 pub mod Bits
 pub mod Laws
+pub mod Joined

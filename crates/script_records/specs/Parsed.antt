@@ -5,7 +5,7 @@ use mathlib.Core.List.{List}
 use lib.Dec.{eqb, ltb}
 use lib.ListN.{length, take, drop}
 use Rattle.model.specs.Lists.{if_then_else_}
-use Rattle.model.specs.State.{Handle, Access}
+use Rattle.model.specs.State.{Handle, Access, noOptions}
 use Rattle.model.specs.Perform.{Step, Call}
 use Rattle.script_records.specs.declared.Record.{Record}
 use Rattle.script_records.specs.declared.Parsed.{Parsed}
@@ -56,7 +56,7 @@ callFor (some opening) r = Call.Do (Step.Open (managerOf (r .a) (r .b)) (r .c))
 callFor (some root) r = Call.Do (Step.Root (handleIn r) (accessIn (r .c) (r .d) (r .e)))
 callFor (some alias) r = Call.Do (Step.Alias (handleIn r) (r .c) (accessIn (r .d) (r .e) (r .f)))
 callFor (some carve) r = Call.Do (Step.Carve (handleIn r) (r .c) (accessIn (r .d) (r .e) (r .f)))
-callFor (some send) r = Call.Do (Step.Send (handleIn r) (r .c) (r .d))
+callFor (some send) r = Call.Do (Step.Send (handleIn r) (r .c) (r .d) noOptions)
 callFor (some revoke) r = Call.Do (Step.Revoke (handleIn r) (r .c))
 callFor (some makeRevoke) r = Call.Do (Step.CreateRevokeCapa (handleIn r) (r .c))
 

@@ -7,7 +7,7 @@ use lib.Dec.{eqb, ltb}
 use lib.ListN.{length, take, drop}
 use Rattle.bytes.specs.Numbers.{number}
 use Rattle.model.specs.Lists.{if_then_else_}
-use Rattle.model.specs.State.{Handle, Access}
+use Rattle.model.specs.State.{Handle, Access, noOptions}
 use Rattle.model.specs.Perform.{Step, Call}
 
 -- ---- numbers and fields
@@ -62,13 +62,13 @@ withRights f start end rights = if ltb 255 rights then none else some (Call.Do (
 
 -- The call of a record, f i its field i: "1 open (manager slot, generation, cores ..), 2 root (domain slot, generation, start, end, rights), 3 alias and
 -- 4 carve (domain slot, generation, local, start, end, rights), 5 send (domain slot, generation, local, target local), 6 revoke and 7 RegionRevoke (domain
--- slot, generation, local)".
+-- slot, generation, local)". A record's send has no flag word (document 02, request 1).
 abbrev pub callOf : Kind → (ℕ → ℕ) → Option Call
 callOf opening f = some (Call.Do (Step.Open (managerOf (f 0) (f 1)) (f 2)))
 callOf root f = withRights (Step.Root (handle (f 0) (f 1))) (f 2) (f 3) (f 4)
 callOf alias f = withRights (Step.Alias (handle (f 0) (f 1)) (f 2)) (f 3) (f 4) (f 5)
 callOf carve f = withRights (Step.Carve (handle (f 0) (f 1)) (f 2)) (f 3) (f 4) (f 5)
-callOf send f = some (Call.Do (Step.Send (handle (f 0) (f 1)) (f 2) (f 3)))
+callOf send f = some (Call.Do (Step.Send (handle (f 0) (f 1)) (f 2) (f 3) noOptions))
 callOf revoke f = some (Call.Do (Step.Revoke (handle (f 0) (f 1)) (f 2)))
 callOf makeRevoke f = some (Call.Do (Step.CreateRevokeCapa (handle (f 0) (f 1)) (f 2)))
 

@@ -34,7 +34,7 @@ step-capas s (Step.SetCoreMap m c) h w = bind (set-core-map-sound s m c h (w .1)
 step-capas s (Step.Root m a) h w = bind (root-capas m a s (capas-sound s h)) (λ x k. accepted k)
 step-capas s (Step.Alias m l a) h w = bind (alias-capas m l a s (capas-sound s h)) (λ x k. accepted k)
 step-capas s (Step.Carve m l a) h w = bind (carve-capas m l a s (capas-sound s h)) (λ x k. accepted k)
-step-capas s (Step.Send m l t) h w = bind (send-capas m l t s (capas-sound s h)) (λ x k. accepted k)
+step-capas s (Step.Send m l t p) h w = bind (send-capas m l t p s (capas-sound s h)) (λ x k. accepted k)
 step-capas s (Step.Revoke m l) h w = bind (revoke-capas m l s (capas-sound s h) (h .outside .regions)) (λ x k. accepted k)
 step-capas s (Step.CreateRevokeCapa m l) h w = bind (whole (create-revoke-capa-sound s m l h)) (λ x k. accepted k)
 

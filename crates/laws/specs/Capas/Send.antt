@@ -1,23 +1,25 @@
 -- Send keeps the clauses about lists, owners, managers and the queue: the slot leaves one list and joins another, and a region's owner
--- changes to match, so that its one slot is in its owner's list again.
+-- changes to match, so that its one slot is in its owner's list again. The options change its rights alone.
 use mathlib.Core.Path.{_≡_, refl, sym, ap, subst, _∙_}
 use Prim.Native.Nat.{ℕ}
 use mathlib.Core.Bool.{false}
 use mathlib.Core.Option.{Option, none, some}
 use mathlib.Core.List.{List}
 use lib.Dec.{T, eqb}
-use lib.Seq.{getD-set-same}
+use lib.ListN.{set}
+use lib.Seq.{getD-set-same, set-set}
 use Rattle.model.specs.Lists.{oneIf, isSome, atSlot, In}
 use Rattle.model.specs.Outcome.{_>>=_}
-use Rattle.model.specs.State.{Handle, Capa, noCapa, region, regionRevoke, management, channel, LocalList, Domain, Region, State, withLocals, withOwner, putRegion, domainAt}
+use Rattle.model.specs.State.{Handle, Capa, noCapa, region, regionRevoke, management, channel, LocalList, Domain, Region, State, SendOptions, withLocals, withOwner, withRights, putRegion, domainAt}
 use Rattle.model.specs.Pool.{handleOf}
 use Rattle.model.specs.Locals.{freeLocal, insertCapa, removeCapa}
 use Rattle.model.specs.Tree.{effectiveRanges}
-use Rattle.model.specs.Regions.{sendRanges, sendRegion}
+use Rattle.model.specs.Regions.{sendRanges, sendRegion, applyOptions}
 use Rattle.model.specs.Calls.{sendCapa, send}
 use Rattle.model.specs.Sound.{LiveOrOlder, RevokeFit, HandleFit, isRegionOf, isManagementOf}
 use native.Mathlib.Nat.{le-refl}
-use Rattle.laws.specs.Accepted.{All, refused, bind, bind-any, weaken}
+use Rattle.laws.specs.Accepted.{All, accepted, refused, bind, bind-any, weaken}
+use Rattle.laws.specs.Options.{Joinable, options-checked, applied}
 use Rattle.laws.specs.Tree.Slots.{in-length, is-live}
 use Rattle.laws.specs.Tree.Steps.{region-at, domain-at}
 use Rattle.laws.specs.Capas.Slots.{this, that, was, each-slot}
@@ -28,7 +30,7 @@ use Rattle.laws.specs.Capas.Change.{relist, relist-live, capacity, Plus,
 use Rattle.laws.specs.Capas.Checks.{live-domain, capa-at, live-region, held-owner}
 use Rattle.laws.specs.Capas.Listed.{remove-is, remove-listed, inserted-listed, plus-none}
 use Rattle.laws.specs.Capas.Region.{write-region}
-use Rattle.laws.specs.Capas.Walks.{Walked, ranges-held}
+use Rattle.laws.specs.Capas.Walks.{same-lists-then, same-lists-same, same-lists-live, Walked, ranges-held}
 use Rattle.laws.specs.Capas.NewRegion.{sharesWithout, without-here, without-else, sharesWith, with-here, with-elsewhere, region-plus}
 use Rattle.laws.specs.Capas.Room.{room-capas, room-in}
 
@@ -62,13 +64,15 @@ module _ (own man : Shares) (s : State) (h : Held own man s) (d to l : ℕ) (x y
 
 -- ---- what is sent
 
--- Region k went to domain `to`, with its ranges.
+-- Region k went to domain `to`, with its ranges; in its slot is now what was there with the new owner, its rights joined with flags.
 record Sent (s : State) (k : Handle) (to : ℕ) (t : State) : Type 0 where
   slot : ℕ
   sent : Region
   is : In (s .regions) slot sent
   handle : handleOf (s .regionPool) slot ≡ k
-  walked : Walked (ownedBy s) (managedBy s) (putRegion slot (withOwner to sent) s) t
+  new : Region
+  owner : new .owner ≡ to
+  walked : Walked (ownedBy s) (managedBy s) (putRegion slot new s) t
 
 send-region : (s : State) → CapasSound s → (i to : ℕ) (g : Region) → In (s .regions) i g → T (isSome (atSlot (s .domains) to)) → All (Walked (ownedBy s) (managedBy s) (putRegion i (withOwner to g) s)) (sendRegion i to s)
 unfolding sendRegion
@@ -76,6 +80,33 @@ send-region s h i to g e l =
     let w = putRegion i (withOwner to g) s in
     subst (λ (v : Region). All (Walked (ownedBy s) (managedBy s) w) (sendRanges (v .owner) to (v .rights) (effectiveRanges s v) (putRegion i (withOwner to v) s))) (sym (region-at s i g e))
     (ranges-held (ownedBy s) (managedBy s) (g .owner) to (g .rights) (effectiveRanges s g) w (write-region (ownedBy s) (managedBy s) s h i g (withOwner to g) e refl l) (h .ownerLive i g e) l)
+
+-- the options are applied
+module _ (s : State) (k : Handle) (i to : ℕ) (g : Region) (e : In (s .regions) i g) (q : handleOf (s .regionPool) i ≡ k) (to-live : T (isSome (atSlot (s .domains) to))) (t : State) (w : Walked (ownedBy s) (managedBy s) (putRegion i (withOwner to g) s) t) where
+  there : In (t .regions) i (withOwner to g)
+  there = ap (λ rs. atSlot rs i) (w .regions) ∙ getD-set-same (s .regions) i (some (withOwner to g)) none (in-length (s .regions) i g e)
+
+  joined : (n : ℕ) → Sent s k to (putRegion i (withRights n (withOwner to g)) t)
+  joined n =
+      let r = withRights n (withOwner to g) in
+      let s₁ = putRegion i (withOwner to g) s in
+      record {
+        slot = i;
+        sent = g;
+        is = e;
+        handle = q;
+        new = r;
+        owner = refl;
+        walked = record {
+          held = write-region (ownedBy s) (managedBy s) t (w .held) i (withOwner to g) r there refl (same-lists-live s₁ t (w .sameLists) to to-live);
+          sameLists = same-lists-then (putRegion i r s) s₁ (putRegion i r t) (same-lists-same (putRegion i r s) s₁ refl refl) (same-lists-then s₁ t (putRegion i r t) (w .sameLists) (same-lists-same t (putRegion i r t) refl refl));
+          regions = ap (λ rs. set rs i (some r)) (w .regions) ∙ set-set (s .regions) i (some (withOwner to g)) (some r);
+          regionPool = w .regionPool;
+        };
+      }
+
+  options-sent : (o : SendOptions) → Joinable o → Sent s k to (applyOptions i o t)
+  options-sent o j = applied (Sent s k to) t i (withOwner to g) there (record { slot = i; sent = g; is = e; handle = q; new = withOwner to g; owner = refl; walked = w }) (λ n x. joined n) o j
 
 module _ (s : State) (h : CapasSound s) (d to l : ℕ) (x y : Domain) (e : In (s .domains) d x) (f : In (s .domains) to y) where
   abbrev own : Shares
@@ -103,28 +134,30 @@ module _ (s : State) (h : CapasSound s) (d to l : ℕ) (x y : Domain) (e : In (s
       let u₀ : In (domainAt s d .locals .held) l (region (handleOf (s .regionPool) i)) = subst (λ (v : Domain). In (v .locals .held) l (region (handleOf (s .regionPool) i))) (sym (domain-at s d x e)) (u ∙ ap (λ m. some (region m)) (sym (n .handle))) in
       let mine : g .owner ≡ d = held-owner s d l i x h e (record { region = g; is = n .is; slot = u₀ }) in
       let one : (m : ℕ) → own i m ≡ oneIf (eqb d m) = λ m. ap (λ (v : Region). oneIf (eqb (v .owner) m)) (region-at s i g (n .is)) ∙ ap (λ o. oneIf (eqb o m)) mine in
-      let now : In (t .regions) i (withOwner to g) = ap (λ rs. atSlot rs i) (w .regions) ∙ getD-set-same (s .regions) i (some (withOwner to g)) none (in-length (s .regions) i g (n .is)) in
+      let now : In (t .regions) i (n .new) = ap (λ rs. atSlot rs i) (w .regions) ∙ getD-set-same (s .regions) i (some (n .new)) none (in-length (s .regions) i g (n .is)) in
       weaken (move-held own (managedBy s) t (w .held) d to l x₂ y₂ e₂ f₂ (region k) slot₂ (sharesWithout i own) (sharesWith i to own)
       (subst (λ m. Plus t d (region m) (sharesWithout i own) (managedBy s) own (managedBy s)) same (region-plus t d i (sharesWithout i own) own (managedBy s) (without-here i own) (without-else i own) one))
       (subst (λ m. Plus (removeCapa d l t) to (region m) (sharesWithout i own) (managedBy s) (sharesWith i to own) (managedBy s)) same (region-plus (removeCapa d l t) to i (sharesWithout i own) (sharesWith i to own) (managedBy s) (without-here i own) (λ j m o. without-else i own j m o ∙ sym (with-elsewhere i to own j m o)) (with-here i to own)))
-      tt (subst (LiveOrOlder (t .regionPool) (t .regions)) same (live-fits (t .regionPool) (t .regions) (handleOf (t .regionPool) i) (handle-live (t .regionPool) (t .regions) i (withOwner to g) now))))
+      tt (subst (LiveOrOlder (t .regionPool) (t .regions)) same (live-fits (t .regionPool) (t .regions) (handleOf (t .regionPool) i) (handle-live (t .regionPool) (t .regions) i (n .new) now))))
       (λ z (b, (managers, rs)). held-capas (sharesWith i to own) s (z .1) (same-managers-then (z .1 .domains) (t .domains) (s .domains) managers (w .sameLists .back))
-      (λ j v a m. elim (was (s .regions) i (withOwner to g) (in-length (s .regions) i g (n .is)) j v (ap (λ r. atSlot r j) (sym (w .regions) ∙ sym rs) ∙ a)) [
-        | this o q ↦ rw o (with-here i to own m ∙ ap (λ (r : Region). oneIf (eqb (r .owner) m)) q)
+      (λ j v a m. elim (was (s .regions) i (n .new) (in-length (s .regions) i g (n .is)) j v (ap (λ r. atSlot r j) (sym (w .regions) ∙ sym rs) ∙ a)) [
+        | this o q ↦ rw o (with-here i to own m ∙ ap (λ (c : ℕ). oneIf (eqb c m)) (sym (n .owner)) ∙ ap (λ (r : Region). oneIf (eqb (r .owner) m)) q)
         | that o q ↦ with-elsewhere i to own j m o ∙ ap (λ (r : Region). oneIf (eqb (r .owner) m)) (region-at s j v q)
       ]) b)
 
-  send-go : (c : Capa) → In (x .locals .held) l c → All (λ (z : ℕ × State). CapasSound (z .1)) (sendCapa c to s >>= λ t. insertCapa to c (removeCapa d l t))
+  send-go : (o : SendOptions) (c : Capa) → In (x .locals .held) l c → All (λ (z : ℕ × State). CapasSound (z .1)) (sendCapa c to o s >>= λ t. insertCapa to c (removeCapa d l t))
   unfolding sendCapa _>>=_
-  send-go noCapa u = plain noCapa u (λ k. refl) (λ k. refl)
-  send-go (region k) u = bind {P = Sent s k to} (bind (live-region s k) (λ i r. weaken (send-region s h i to (r .region) (r .is) (is-live (atSlot (s .domains) to) y f)) (λ t w. record { slot = i; sent = r .region; is = r .is; handle = r .handle; walked = w }))) (λ t n. moved k t u n)
-  send-go (regionRevoke k) u = plain (regionRevoke k) u (λ m. refl) (λ m. refl)
-  send-go (management k) u = refused
-  send-go (channel k) u = plain (channel k) u (λ m. refl) (λ m. refl)
+  send-go o noCapa u = plain noCapa u (λ k. refl) (λ k. refl)
+  send-go o (region k) u =
+      let live = is-live (atSlot (s .domains) to) y f in
+      bind {P = Sent s k to} (bind (live-region s k) (λ i r. options-checked o (λ j. bind (send-region s h i to (r .region) (r .is) live) (λ t w. accepted (options-sent s k i to (r .region) (r .is) (r .handle) live t w o j))))) (λ t n. moved k t u n)
+  send-go o (regionRevoke k) u = plain (regionRevoke k) u (λ m. refl) (λ m. refl)
+  send-go o (management k) u = refused
+  send-go o (channel k) u = plain (channel k) u (λ m. refl) (λ m. refl)
 
-pub send-capas : (h : Handle) (l target : ℕ) (s : State) → CapasSound s → All (λ z. CapasSound (z .1)) (send h l target s)
+pub send-capas : (h : Handle) (l target : ℕ) (o : SendOptions) (s : State) → CapasSound s → All (λ z. CapasSound (z .1)) (send h l target o s)
 unfolding send
-send-capas h l target s k =
+send-capas h l target o s k =
     bind (live-domain s h) (λ d m.
     bind-any _ (λ t.
     bind-any _ (λ k₁.
@@ -132,4 +165,4 @@ send-capas h l target s k =
     bind (capacity s to (n .domain) (n .is)) (λ s₁ r.
     let (w, i, q) = forth s to (n .domain) (withLocals (r .list) (n .domain)) (n .is) refl d (m .domain) (m .is) in
     let e : In (s₁ .domains) d w = subst (λ (v : State). In (v .domains) d w) (sym (r .is)) i in
-    bind (capa-at s₁ d l) (λ c u. send-go s₁ (room-capas s s₁ to (n .domain) (n .is) r k) d to l w _ e (room-in s s₁ to (n .domain) (n .is) r) c (subst (λ (v : Domain). In (v .locals .held) l c) (domain-at s₁ d w e) u)))))))
+    bind (capa-at s₁ d l) (λ c u. send-go s₁ (room-capas s s₁ to (n .domain) (n .is) r k) d to l w _ e (room-in s s₁ to (n .domain) (n .is) r) o c (subst (λ (v : Domain). In (v .locals .held) l c) (domain-at s₁ d w e) u)))))))

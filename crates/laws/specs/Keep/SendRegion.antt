@@ -1,12 +1,13 @@
 -- A send of a region keeps the trackers in agreement, and the ring and the pools sound: the region is the new domain's, and each effective range leaves the old
 -- domain's tracker and joins the new one's. Between two ranges the trackers store what they store; that this is what the regions count in the end is `send-agrees`.
-use mathlib.Core.Path.{_≡_, refl, sym, subst}
+use mathlib.Core.Path.{_≡_, refl, sym, ap, _∙_, subst}
 use Prim.Native.Nat.{ℕ, _+_, _-_, _≤_, _<_}
-use mathlib.Core.Option.{Option, some}
+use mathlib.Core.Option.{Option, none, some}
 use mathlib.Core.List.{List}
 use native.Mathlib.Omega.{arith}
 use lib.Dec.{T}
 use lib.ListN.{set}
+use lib.Seq.{getD-set-same}
 use Rattle.model.specs.Lists.{isSome, atSlot, In}
 use Rattle.model.specs.State.{State, Domain, Region, Access, putRegion, withOwner}
 use Rattle.model.specs.Fields.{Field}
@@ -98,5 +99,6 @@ module _ (s : State) (k : Whole s) (i : ℕ) (g : Region) (e : In (s .regions) i
       let t = region-base s (g .owner) (k .1) live i g (withOwner o g) e in
       rw (region-at s i g e) (weaken (ranges-base (g .owner) o (g .rights) _ (putRegion i (withOwner o g) s) (t .0) live (is-live _ x at)) (λ u z. z .0))
 
-  pub send-whole : All (λ t. Whole t × SameDomains s t) (sendRegion i o s)
-  send-whole = weaken (both (send-region-agree s (k .0) i g e o x at) sent-base) (λ t (u, r). ((u .0, r), u .1))
+  -- and it is there, with its new owner
+  pub send-whole : All (λ t. Whole t × SameDomains s t × In (t .regions) i (withOwner o g)) (sendRegion i o s)
+  send-whole = weaken (both (send-region-agree s (k .0) i g e o x at) sent-base) (λ t (u, r). ((u .0, r), u .1, ap (λ rs. atSlot rs i) (u .2) ∙ getD-set-same (s .regions) i (some (withOwner o g)) none (in-length (s .regions) i g e)))

@@ -1,4 +1,5 @@
--- Sound regions stay sound: a root is added, an alias or a carve by its rule, a region without children is removed, a region changes its owner.
+-- Sound regions stay sound: a root is added, an alias or a carve by its rule, a region without children is removed, a region changes its owner or extends
+-- its rights.
 -- For each the table that the steps leave, that it is a change of one slot, and that it is sound.
 use mathlib.Core.Path.{_≡_, refl, sym, ap, _∙_}
 use mathlib.Core.Logic.{_≢_}
@@ -12,16 +13,17 @@ use lib.ListN.{length, set}
 use lib.Seq.{getD-set-same, getD-set-other}
 use Rattle.base.specs.Options.{none-some, some-same}
 use Rattle.model.specs.Lists.{countIf, atSlot, In, without}
-use Rattle.model.specs.State.{Region, Kind, Root, parentOf, noneRegion, withChildren, withOwner}
+use Rattle.model.specs.State.{Region, Kind, Root, parentOf, noneRegion, withChildren, withOwner, withRights}
 use Rattle.model.specs.Tree.{insertSorted}
 use Rattle.laws.specs.Tree.Slots.{in-length}
 use Rattle.laws.specs.Tree.Shares.{childOf, child}
 use Rattle.laws.specs.Tree.Facts.{Regions, self, other, own, hangs}
+use Rattle.laws.specs.Tree.Extends.{Extends, extends-same}
 use Rattle.laws.specs.Tree.Change.{Changed, childIn, childOut, alike-self, set-slot, set-children, between}
 use Rattle.laws.specs.Tree.Rule.{Fits}
 use Rattle.laws.specs.Tree.Shape.{Sized, childSlots, child-slots-at, child-slots-free, to-shape, to-lists, from-halves, child-of}
 use Rattle.laws.specs.Tree.KeepShape.{Like, had, has, shape-part, root-fits-under, child-fits-under, shape-added}
-use Rattle.laws.specs.Tree.KeepLists.{Takes, Gives, lists-added, lists-removed, lists-owned}
+use Rattle.laws.specs.Tree.KeepLists.{Takes, Gives, lists-added, lists-removed, lists-same}
 
 -- ---- child lists in a table with a slot written
 
@@ -133,33 +135,41 @@ module _ (rs : List (Option Region)) (s : Regions rs) where
     pub removed-kept : Regions gone
     removed-kept = from-halves gone (shape-part rs gone (to-shape rs s) (λ k z m. had rs gone i (some g) none slot-removed k (left k z m) z m) (λ k n z y m c j. has rs gone i (some g) none slot-removed n (parent-left k n z m c) y j)) (lists-removed rs gone (to-lists rs s) i g slot-removed gives)
 
-  -- ---- region g in slot i becomes domain o's
+  -- ---- region g in slot i changes, and its kind, range and child list stay
 
-  module _ (i : ℕ) (g : Region) (e : In rs i g) (o : ℕ) where
-    abbrev owned : List (Option Region)
-    owned = set rs i (some (withOwner o g))
+  module _ (i : ℕ) (g : Region) (e : In rs i g) (h : Region) (l : Like g h) (same : h .children ≡ g .children) where
+    abbrev changed : List (Option Region)
+    changed = set rs i (some h)
 
-    pub owner-changes : Changed rs owned i (some g) (some (withOwner o g))
-    owner-changes = set-slot rs i (some g) (some (withOwner o g)) (in-length rs i g e) e
+    pub slot-changed : Changed rs changed i (some g) (some h)
+    slot-changed = set-slot rs i (some g) (some h) (in-length rs i g e) e
 
-    here : In owned i (withOwner o g)
-    here = slot-same rs i (some (withOwner o g)) (in-length rs i g e)
+    here : In changed i h
+    here = slot-same rs i (some h) (in-length rs i g e)
 
-    -- slot i has what it had, but for the owner
-    owner-like : (w z : Region) → In rs i w → In owned i z → Like w z
-    owner-like w z u v = rw (some-same (atSlot rs i) w g u e, some-same (atSlot owned i) z (withOwner o g) v here) (record { kind = refl; start = refl; end = refl; rights = refl })
+    here-like : (w z : Region) → In rs i w → In changed i z → Like w z
+    here-like w z u v = rw (some-same (atSlot rs i) w g u e, some-same (atSlot changed i) z h v here) l
 
-    had-any : (k : ℕ) (z : Region) → In owned k z → (w : Region) × In rs k w × Like w z
+    had-any : (k : ℕ) (z : Region) → In changed k z → (w : Region) × In rs k w × Like w z
     had-any k z m = elim (ℕ-discrete k i) [
-      | yes n ↦ (g, rw n e, owner-like g z e (rw n at m))
-      | no n ↦ had rs owned i (some g) (some (withOwner o g)) owner-changes k n z m
+      | yes n ↦ (g, rw n e, here-like g z e (rw n at m))
+      | no n ↦ had rs changed i (some g) (some h) slot-changed k n z m
     ]
 
-    has-any : (k : ℕ) (w : Region) → In rs k w → (z : Region) × In owned k z × Like w z
+    has-any : (k : ℕ) (w : Region) → In rs k w → (z : Region) × In changed k z × Like w z
     has-any k w m = elim (ℕ-discrete k i) [
-      | yes n ↦ (withOwner o g, rw n here, owner-like w (withOwner o g) (rw n at m) here)
-      | no n ↦ has rs owned i (some g) (some (withOwner o g)) owner-changes k n w m
+      | yes n ↦ (h, rw n here, here-like w h (rw n at m) here)
+      | no n ↦ has rs changed i (some g) (some h) slot-changed k n w m
     ]
 
-    pub owner-kept : Regions owned
-    owner-kept = from-halves owned (shape-part rs owned (to-shape rs s) had-any (λ k n z y m c j. has-any n y j)) (lists-owned rs owned (to-lists rs s) i g o owner-changes (child-slots-same rs i (some (withOwner o g)) (in-length rs i g e) (sym (child-slots-at rs i g e))))
+    changed-kept : Regions changed
+    changed-kept = from-halves changed (shape-part rs changed (to-shape rs s) had-any (λ k n z y m c j. has-any n y j)) (lists-same rs changed (to-lists rs s) i g h (l .kind) (l .start) slot-changed (child-slots-same rs i (some h) (in-length rs i g e) (same ∙ sym (child-slots-at rs i g e))))
+
+  module _ (i : ℕ) (g : Region) (e : In rs i g) where
+    -- it becomes domain o's
+    pub owner-kept : (o : ℕ) → Regions (set rs i (some (withOwner o g)))
+    owner-kept o = changed-kept i g e (withOwner o g) (record { kind = refl; start = refl; end = refl; rights = extends-same (g .rights) (g .rights) refl }) refl
+
+    -- its rights are extended
+    pub rights-kept : (n : ℕ) → Extends (g .rights) n → Regions (set rs i (some (withRights n g)))
+    rights-kept n x = changed-kept i g e (withRights n g) (record { kind = refl; start = refl; end = refl; rights = x }) refl

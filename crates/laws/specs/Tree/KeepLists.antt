@@ -1,4 +1,4 @@
--- The child lists stay right where a region is added to its parent's list, removed from it, or changes its owner:
+-- The child lists stay right where a region is added to its parent's list, removed from it, or changes with its kind, range and child list as they were:
 -- each list gains or loses the slot as often as the slot gains or loses that parent.
 use mathlib.Core.Path.{_≡_, refl, sym, ap, _∙_, subst}
 use Prim.Native.Nat.{ℕ, _+_, _<_}
@@ -10,7 +10,7 @@ use native.Mathlib.Decide.{ℕ-discrete}
 use lib.Dec.{eqb}
 use borrow.Author.Tests.{eq-eqb, ne-eqb}
 use Rattle.model.specs.Lists.{if_then_else_, oneIf, countIf, atSlot, without}
-use Rattle.model.specs.State.{Region, noneRegion, regionIn, withOwner}
+use Rattle.model.specs.State.{Region, Kind, noneRegion, regionIn}
 use Rattle.model.specs.Tree.{insertSorted}
 use Rattle.laws.specs.Tree.Shares.{childOf, child}
 use Rattle.laws.specs.Tree.Facts.{self, other}
@@ -105,16 +105,16 @@ module _ (rs rs′ : List (Option Region)) (l : Lists rs) (i : ℕ) (g : Region)
   pub lists-removed : ((q : ℕ) → Gives rs rs′ i g q) → Lists rs′
   lists-removed v = record { listing = λ q k. listing-removed q k (v q); rising = λ q. rising-removed q (v q) }
 
--- ---- a region changes its owner
+-- ---- a region changes, and its kind and start stay
 
-pub lists-owned : (rs rs′ : List (Option Region)) → Lists rs → (i : ℕ) (g : Region) (o : ℕ) → Changed rs rs′ i (some g) (some (withOwner o g)) → ((q : ℕ) → childSlots rs′ q ≡ childSlots rs q) → Lists rs′
-lists-owned rs rs′ l i g o t e = record {
-  listing = λ q k. listing-now rs rs′ l i (some g) (some (withOwner o g)) t q k (omega (arith, ap (countIf (eqb k)) (e q)));
+pub lists-same : (rs rs′ : List (Option Region)) → Lists rs → (i : ℕ) (g h : Region) → h .kind ≡ g .kind → h .start ≡ g .start → Changed rs rs′ i (some g) (some h) → ((q : ℕ) → childSlots rs′ q ≡ childSlots rs q) → Lists rs′
+lists-same rs rs′ l i g h κ σ t e = record {
+  listing = λ q k. listing-now rs rs′ l i (some g) (some h) t q k (omega (arith, ap (countIf (eqb k)) (e q), ap (λ (z : Kind). if eqb k i then childOf z q else 0) κ));
   rising = λ q. subst (Rises (regionIn rs′) 0) (sym (e q)) (rises-same (regionIn rs) (regionIn rs′) 0 (childSlots rs q) (λ k h. start k) (l .rising q));
 }
   where
     start : (k : ℕ) → regionIn rs′ k .start ≡ regionIn rs k .start
     start k = elim (ℕ-discrete k i) [
-      | yes n ↦ rw n (same-start (atSlot rs′ i) (some (withOwner o g)) (t .now) ∙ sym (same-start (atSlot rs i) (some g) (t .was)))
+      | yes n ↦ rw n (same-start (atSlot rs′ i) (some h) (t .now) ∙ σ ∙ sym (same-start (atSlot rs i) (some g) (t .was)))
       | no n ↦ same-start (atSlot rs′ k) (atSlot rs k) (t .others k n)
     ]

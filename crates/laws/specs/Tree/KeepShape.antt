@@ -1,21 +1,20 @@
--- What the regions are to each other is kept where regions are removed or change their owners, as long as parents stay, and where a region that fits is added.
--- Owners and child lists play no part: a region is compared with what was in its slot by kind, range and rights (`Like`).
-use mathlib.Core.Path.{_≡_, refl, sym, ap, ap₂, _∙_, subst}
+-- What the regions are to each other is kept where regions are removed, change their owners or extend their rights, as long as parents stay, and where a
+-- region that fits is added. Owners and child lists play no part: a region is compared with what was in its slot by kind, range and rights (`Like`).
+use mathlib.Core.Path.{_≡_, refl, sym, ap, _∙_}
 use mathlib.Core.Logic.{_≢_}
 use Prim.Native.Nat.{ℕ, _<_}
 use mathlib.Core.Option.{Option, none, some}
 use mathlib.Core.List.{List, []}
 use native.Mathlib.Omega.{arith}
 use native.Mathlib.Decide.{ℕ-discrete}
-use lib.Dec.{T}
 use Rattle.base.specs.Cases.{lt, ge, cmp}
 use Rattle.base.specs.Options.{none-some, some-same}
-use Rattle.rights.specs.Rights.{allowed}
 use Rattle.model.specs.Lists.{atSlot, In}
 use Rattle.model.specs.State.{Region, Kind, Root, parentOf, withChildren}
 use Rattle.model.specs.Sound.{Rooted}
 use Rattle.laws.specs.Tree.Shares.{childOf, carveOf}
 use Rattle.laws.specs.Tree.Facts.{Apart, Under, same, hangs, is-carve, carve-child}
+use Rattle.laws.specs.Tree.Extends.{Extends, extends-same}
 use Rattle.laws.specs.Tree.Change.{bare, Changed}
 use Rattle.laws.specs.Tree.Rule.{Fits}
 use Rattle.laws.specs.Tree.Shape.{Sized, Shape, child-of}
@@ -24,29 +23,30 @@ pub record Like (w z : Region) : Type 0 where
   pub kind : z .kind ≡ w .kind
   pub start : z .start ≡ w .start
   pub end : z .end ≡ w .end
-  pub rights : z .rights ≡ w .rights
+  pub rights : Extends (w .rights) (z .rights)
 
-pub bare-like : (x y : Option Region) (z : Region) → bare x ≡ bare y → x ≡ some z → (w : Region) × (y ≡ some w) × Like w z
+-- the same but for the child list
+like-bare : (w z : Region) → withChildren [] z ≡ withChildren [] w → Like w z
+like-bare w z p = record { kind = ap (λ (r : Region). r .kind) p; start = ap (λ (r : Region). r .start) p; end = ap (λ (r : Region). r .end) p; rights = extends-same (w .rights) (z .rights) (ap (λ (r : Region). r .rights) p) }
+
+pub bare-like : (x y : Option Region) (z : Region) → bare x ≡ bare y → x ≡ some z → (w : Region) × (y ≡ some w) × Like w z × Like z w
 bare-like x none z e q = absurd (none-some (bare x) (withChildren [] z) e (ap bare q))
 bare-like x (some w) z e q =
     let p = some-same (bare x) (withChildren [] z) (withChildren [] w) (ap bare q) e in
-    (w, refl, record { kind = ap (λ (r : Region). r .kind) p; start = ap (λ (r : Region). r .start) p; end = ap (λ (r : Region). r .end) p; rights = ap (λ (r : Region). r .rights) p })
-
-like-turn : (w z : Region) → Like z w → Like w z
-like-turn w z l = record { kind = sym (l .kind); start = sym (l .start); end = sym (l .end); rights = sym (l .rights) }
+    (w, refl, like-bare w z p, like-bare z w (sym p))
 
 -- another slot has now what it had, and had what it has
 module _ (rs rs′ : List (Option Region)) (i : ℕ) (x y : Option Region) (t : Changed rs rs′ i x y) (k : ℕ) (o : k ≢ i) where
   pub had : (z : Region) → In rs′ k z → (w : Region) × In rs k w × Like w z
-  had z e = bare-like (atSlot rs′ k) (atSlot rs k) z (t .others k o) e
+  had z e = let b = bare-like (atSlot rs′ k) (atSlot rs k) z (t .others k o) e in (b .0, b .1, b .2)
 
   pub has : (w : Region) → In rs k w → (z : Region) × In rs′ k z × Like w z
-  has w e = let b = bare-like (atSlot rs k) (atSlot rs′ k) w (sym (t .others k o)) e in (b .0, b .1, like-turn w (b .0) (b .2))
+  has w e = let b = bare-like (atSlot rs k) (atSlot rs′ k) w (sym (t .others k o)) e in (b .0, b .1, b .3)
 
 -- ---- what is said of regions is said of their like
 
 sized-like : (w z : Region) → Like w z → Sized w → Sized z
-sized-like w z l s = omega arith
+sized-like w z l s = record { nonempty = omega arith; startWord = omega arith; endWord = omega arith; rightsByte = l .rights .byte (s .rightsByte) }
 
 child-like : (w z : Region) (p : ℕ) → Like w z → 0 < childOf (z .kind) p → 0 < childOf (w .kind) p
 child-like w z p l h = omega (arith, ap (λ (k : Kind). childOf k p) (l .kind))
@@ -63,10 +63,10 @@ under-like rs rs′ p w z l u h e m = record {
   is = e;
   low = omega (arith, l, m, u .low);
   high = omega (arith, l, m, u .high);
-  rights = subst T (sym (ap₂ allowed (m .rights) (l .rights))) (u .rights);
+  rights = m .rights .parent (z .rights) (l .rights .child (u .parent .rights) (u .rights));
 }
 
--- ---- regions are removed or change their owners
+-- ---- regions are removed, change their owners or extend their rights
 
 module _ (rs rs′ : List (Option Region)) (s : Shape rs) (back : (k : ℕ) (z : Region) → In rs′ k z → (w : Region) × In rs k w × Like w z)
     (up : (k p : ℕ) (z h : Region) → In rs′ k z → 0 < childOf (z .kind) p → In rs p h → (y : Region) × In rs′ p y × Like h y) where

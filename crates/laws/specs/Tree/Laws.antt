@@ -1,5 +1,6 @@
 -- The laws of each change, for the tables that the steps leave: the regions stay sound, and the counts are what the change says.
--- A root, an alias and a carve are added by the rules that the calls check; an alias and a carve without children are removed; a region changes its owner.
+-- A root, an alias and a carve are added by the rules that the calls check; an alias and a carve without children are removed; a region changes its owner,
+-- or extends its rights.
 use mathlib.Core.Path.{_≡_, ap}
 use Prim.Native.Nat.{ℕ, _≤_, _<_}
 use mathlib.Core.Option.{Option, none, some}
@@ -7,16 +8,18 @@ use mathlib.Core.List.{List, []}
 use lib.Dec.{T}
 use lib.ListN.{length, set}
 use Rattle.model.specs.Lists.{atSlot, In}
-use Rattle.model.specs.State.{State, Region, Root, Alias, Carve, parentOf, withOwner}
+use Rattle.model.specs.State.{State, Region, Root, Alias, Carve, parentOf, withOwner, withRights}
 use Rattle.model.specs.Tree.{isCarve, accessOf, checkAlias, checkCarve, effectiveRanges}
 use Rattle.laws.specs.Tree.Facts.{Regions}
-use Rattle.laws.specs.Tree.Change.{Changed, childIn, childOut}
+use Rattle.laws.specs.Tree.Slots.{in-length}
+use Rattle.laws.specs.Tree.Extends.{Extends}
+use Rattle.laws.specs.Tree.Change.{Changed, childIn, childOut, set-slot}
 use Rattle.laws.specs.Tree.Rule.{Fits, alias-fits, carve-fits}
 use Rattle.laws.specs.Tree.Shape.{Sized, under-sized, to-shape}
 use Rattle.laws.specs.Tree.CountsInclude.{CountsInclude}
 use Rattle.laws.specs.Tree.Pieces.{spread}
-use Rattle.laws.specs.Tree.Keep.{slot-added, root-kept, child-added, child-kept, slot-removed, removed-kept, owner-changes, owner-kept}
-use Rattle.laws.specs.Tree.Tallies.{Gains, Exchanges, Moves, add-plain, add-carve, added-include, remove-plain, remove-carve, removed-include, changes-owner, owner-include}
+use Rattle.laws.specs.Tree.Keep.{slot-added, root-kept, child-added, child-kept, slot-removed, removed-kept, owner-kept, rights-kept}
+use Rattle.laws.specs.Tree.Tallies.{Gains, Exchanges, Moves, SameCounts, add-plain, add-carve, added-include, remove-plain, remove-carve, removed-include, changes-owner, owner-include, extends-counts}
 
 module _ (s : State) (ok : Regions (s .regions)) where
   -- ---- region g is added in the free slot i
@@ -71,4 +74,9 @@ module _ (s : State) (ok : Regions (s .regions)) where
   -- ---- region g in slot i becomes domain o's; what its owner loses was there
 
   pub owner-law : (i : ℕ) (g : Region) → In (s .regions) i g → (o : ℕ) → Regions (set (s .regions) i (some (withOwner o g))) × Moves (s .regions) (set (s .regions) i (some (withOwner o g))) g o (effectiveRanges s g) × ((a : ℕ) → 0 < spread 1 (effectiveRanges s g) a → CountsInclude (s .regions) (g .owner) a (g .rights))
-  owner-law i g e o = (owner-kept (s .regions) ok i g e o, changes-owner (s .regions) ok i g e _ o (owner-changes (s .regions) ok i g e o), owner-include (s .regions) ok i g e)
+  owner-law i g e o = (owner-kept (s .regions) ok i g e o, changes-owner (s .regions) ok i g e _ o (set-slot (s .regions) i (some g) (some (withOwner o g)) (in-length (s .regions) i g e) e), owner-include (s .regions) ok i g e)
+
+  -- ---- region g in slot i extends its rights
+
+  pub rights-law : (i : ℕ) (g : Region) → In (s .regions) i g → (n : ℕ) → Extends (g .rights) n → Regions (set (s .regions) i (some (withRights n g))) × SameCounts (s .regions) (set (s .regions) i (some (withRights n g)))
+  rights-law i g e n x = (rights-kept (s .regions) ok i g e n x, extends-counts (s .regions) _ i g n x (set-slot (s .regions) i (some g) (some (withRights n g)) (in-length (s .regions) i g e) e))

@@ -1,5 +1,5 @@
 -- How the counts of sound regions change, at every domain and address, for the reach and the four rights: a region is added, a
--- region that nothing hangs under is removed (the same, read backwards), a region changes its owner. And what is lost was there.
+-- region that nothing hangs under is removed (the same, read backwards), a region changes its owner or extends its rights. And what is lost was there.
 use mathlib.Core.Path.{_≡_, sym, ap, _∙_}
 use mathlib.Core.Logic.{_≢_}
 use Prim.Native.Nat.{ℕ, _+_, _≤_, _<_}
@@ -11,13 +11,14 @@ use lib.Dec.{eqb}
 use Rattle.base.specs.Cases.{lt, ge, cmp}
 use Rattle.base.specs.Options.{none-some}
 use Rattle.model.specs.Lists.{if_then_else_, oneIf, countIf, atSlot, In}
-use Rattle.model.specs.State.{Region, Kind, Carve, withOwner}
+use Rattle.model.specs.State.{Region, Kind, Carve, withOwner, withRights}
 use Rattle.model.specs.Fields.{Field, counter}
 use Rattle.model.specs.Tree.{isCarve, Range, childrenOf, effectiveFrom}
 use Rattle.model.specs.Counts.{regionCount}
 use Rattle.laws.specs.Tree.Slots.{in-length}
-use Rattle.laws.specs.Tree.Shares.{grant, share, carve, carveOf, childOf, child, carved, clear-0, clear-s, within-pos}
+use Rattle.laws.specs.Tree.Shares.{grant, share, carve, carveOf, childOf, child, carved, clear, clear-0, clear-s, within-pos}
 use Rattle.laws.specs.Tree.Facts.{Regions, under, lies, self, own, carve-child, listing}
+use Rattle.laws.specs.Tree.Extends.{Extends}
 use Rattle.laws.specs.Tree.Carved.{carved-none, carved-dead, carved-le}
 use Rattle.laws.specs.Tree.Change.{bare, Changed, turned, carved-change}
 use Rattle.laws.specs.Tree.Added.{tally-change, tally-plain, tally-carve}
@@ -38,6 +39,10 @@ Exchanges rs rs′ g h = (f : Field) (d a : ℕ) → regionCount f rs′ d a + g
 -- the ranges leave the owner of g and join domain o, with the rights of g
 abbrev pub Moves : List (Option Region) → List (Option Region) → Region → ℕ → List Range → Type 0
 Moves rs rs′ g o l = (f : Field) (d a : ℕ) → regionCount f rs′ d a + spread (if eqb (g .owner) d then counter f (g .rights) else 0) l a ≡ regionCount f rs d a + spread (if eqb o d then counter f (g .rights) else 0) l a
+
+-- every count stays
+abbrev pub SameCounts : List (Option Region) → List (Option Region) → Type 0
+SameCounts rs rs′ = (f : Field) (d a : ℕ) → regionCount f rs′ d a ≡ regionCount f rs d a
 
 carve-of : (k : Kind) (p : ℕ) → k ≡ Carve p → (q : ℕ) → carveOf k q ≡ oneIf (eqb p q)
 carve-of k p e q = rw e
@@ -113,3 +118,13 @@ module _ (rs : List (Option Region)) (s : Regions rs) where
           let w = within-pos (g .start) (g .end) a 1 (omega (arith, effective-spread rs s i g e 1 a, clear-0 (carved rs i a) (within (g .start) (g .end) a 1 0) z)) in
           counts-include rs i g e a (w .0) (w .1) z
     ]
+
+-- ---- a region extends its rights: it counts as before
+
+module _ (rs rs′ : List (Option Region)) (i : ℕ) (g : Region) (n : ℕ) (x : Extends (g .rights) n) (t : Changed rs rs′ i (some g) (some (withRights n g))) where
+  pub extends-counts : SameCounts rs rs′
+  extends-counts f d a = omega (
+    arith,
+    tally-change rs rs′ i (some g) (some (withRights n g)) t f d a (λ k. omega (arith, carved-change rs rs′ i (some g) (some (withRights n g)) t k a)),
+    ap (λ (c : ℕ). clear (carved rs i a) (within (g .start) (g .end) a (if eqb (g .owner) d then c else 0) 0)) (x .counted f),
+  )

@@ -4,6 +4,7 @@ use Prim.Native.Nat.{ℕ}
 use mathlib.Core.Option.{none}
 use mathlib.Core.List.{List, [], _∷_, _++_, map}
 use Rattle.refusals.specs.Refusals.{badRange, beyond}
+use Rattle.model.specs.State.{noOptions}
 use Rattle.model.specs.Making.{emptyTables, scriptSizes}
 use Rattle.model.specs.Perform.{Step, Reading, Call, Value, Answer, step, run}
 use Rattle.model.specs.Checked.Compute.{computing}
@@ -47,7 +48,7 @@ carvedAndSent =
     ∷ Call.Do (Step.Root (dom 0) (access 0 16 3))
     ∷ Call.Do (Step.Carve (dom 0) 1 (access 0 4 3))
     ∷ Call.Do (Step.Carve (dom 0) 1 (access 8 12 3))
-    ∷ Call.Do (Step.Send (dom 0) 1 0)
+    ∷ Call.Do (Step.Send (dom 0) 1 0 noOptions)
     ∷ []
 
 -- "After the example, B's revoke of local 0"

@@ -4,7 +4,7 @@ use Prim.Native.Nat.{ℕ}
 use mathlib.Core.Option.{none, some}
 use mathlib.Core.List.{List, [], _∷_, _++_, map}
 use Rattle.refusals.specs.Refusals.{noDomain, noSlot, noLocal}
-use Rattle.model.specs.State.{Sizes, permission, cleanup}
+use Rattle.model.specs.State.{Sizes, noOptions, permission, cleanup}
 use Rattle.model.specs.Making.{emptyTables}
 use Rattle.model.specs.Perform.{Step, Reading, Call, Value, Answer, step, run}
 use Rattle.model.specs.Checked.Compute.{computing}
@@ -25,21 +25,21 @@ answered x = step (run (emptyTables (x .sizes)) (x .given) .1) (x .asked) .0
 -- ---- calls for short
 
 -- domains, slots, regions, records, updates
-abbrev z : ℕ → ℕ → ℕ → ℕ → ℕ → Sizes
+abbrev pub z : ℕ → ℕ → ℕ → ℕ → ℕ → Sizes
 z d s r t u = record { domains = d; slots = s; regions = r; records = t; updates = u }
 
 -- domain 0 opened with a core map; its root of a range
-abbrev opened : ℕ → Call
+abbrev pub opened : ℕ → Call
 opened cores = Call.Do (Step.Open none cores)
 
-abbrev rootOf : ℕ → ℕ → ℕ → Call
+abbrev pub rootOf : ℕ → ℕ → ℕ → Call
 rootOf s e r = Call.Do (Step.Root (dom 0) (access s e r))
 
 -- a channel of domain 0 to itself; its revoke of a slot
-abbrev channel : Call
+abbrev pub channel : Call
 channel = Call.Do (Step.Channel (dom 0) (dom 0))
 
-abbrev revoke : ℕ → Call
+abbrev pub revoke : ℕ → Call
 revoke l = Call.Do (Step.Revoke (dom 0) l)
 
 -- an alias in slot 1 with children 0 to 4 and 0 to 8, both with CLEANUP; it is revoked, and the root's update popped
@@ -61,18 +61,18 @@ fiveRecords =
     ∷ Call.Do (Step.Channel (dom 1) (dom 0))
     ∷ Call.Do (Step.Root (dom 1) (access 0 16 1))
     ∷ Call.Do (Step.Alias (dom 1) 1 (access 0 8 1))
-    ∷ Call.Do (Step.Send (dom 1) 2 0)
+    ∷ Call.Do (Step.Send (dom 1) 2 0 noOptions)
     ∷ Call.Do (Step.Alias (dom 1) 1 (access 4 16 1))
-    ∷ Call.Do (Step.Send (dom 1) 2 0)
+    ∷ Call.Do (Step.Send (dom 1) 2 0 noOptions)
     ∷ Call.Do (Step.Alias (dom 1) 1 (access 8 16 1))
-    ∷ Call.Do (Step.Send (dom 1) 2 0)
+    ∷ Call.Do (Step.Send (dom 1) 2 0 noOptions)
     ∷ rootOf 20 24 1
     ∷ rootOf 28 32 1
     ∷ []
 
 -- ---- the table
 
-abbrev gives : Sizes → List Call → Call → Answer → SizedCase
+abbrev pub gives : Sizes → List Call → Call → Answer → SizedCase
 gives z before c a = record { sizes = z; given = before; asked = c; answer = a }
 
 abbrev pub table : List SizedCase
@@ -86,9 +86,9 @@ table =
     -- "slots holding None or a dead handle are freed in rising order", and "the slot freed last is given first"
     ∷ gives (z 1 2 2 2 2) (opened 0 ∷ channel ∷ channel ∷ revoke 0 ∷ revoke 1 ∷ []) channel (passes 1)
     -- "the sent slot, as it is after that sweep, 4"
-    ∷ gives (z 1 2 4 4 4) (opened 0 ∷ channel ∷ channel ∷ revoke 1 ∷ []) (Call.Do (Step.Send (dom 0) 1 0)) (Answer.no noSlot)
+    ∷ gives (z 1 2 4 4 4) (opened 0 ∷ channel ∷ channel ∷ revoke 1 ∷ []) (Call.Do (Step.Send (dom 0) 1 0 noOptions)) (Answer.no noSlot)
     -- "12 at the target": a full list takes nothing, not even its own
-    ∷ gives (z 1 2 4 4 4) (opened 0 ∷ channel ∷ rootOf 0 16 3 ∷ []) (Call.Do (Step.Send (dom 0) 1 0)) (Answer.no noLocal)
+    ∷ gives (z 1 2 4 4 4) (opened 0 ∷ channel ∷ rootOf 0 16 3 ∷ []) (Call.Do (Step.Send (dom 0) 1 0 noOptions)) (Answer.no noLocal)
     -- 3 NoDomain, "or slot free": domain slot 1 was never opened, though its generation is 0
     ∷ gives (z 2 4 4 4 4) root (Call.Do (Step.Root (dom 1) (access 0 16 3))) (Answer.no noDomain)
     -- "If its rights word differs from the parent's, the domain loses the range with the parent's rights and gains it with the new ones"

@@ -5,7 +5,7 @@ use mathlib.Core.Option.{Option, none, some}
 use mathlib.Core.List.{List, [], _∷_, _++_, map}
 use lib.ListN.{getD}
 use Rattle.refusals.specs.Refusals
-use Rattle.model.specs.State.{Handle, Access, Domain, Update, permission, cleanup}
+use Rattle.model.specs.State.{Handle, Access, noOptions, Domain, Update, permission, cleanup}
 use Rattle.model.specs.Making.{emptyTables, scriptSizes}
 use Rattle.model.specs.Readings.{rightsOf}
 use Rattle.model.specs.Perform.{Step, Call, Answer, values, run}
@@ -63,7 +63,7 @@ example =
     ∷ Call.Do (Step.Root (dom 0) (access 0 16 3))
     ∷ Call.Do (Step.Carve (dom 0) 1 (access 4 8 1))
     ∷ Call.Do (Step.Alias (dom 0) 1 (access 0 4 3))
-    ∷ Call.Do (Step.Send (dom 0) 2 0)
+    ∷ Call.Do (Step.Send (dom 0) 2 0 noOptions)
     ∷ Call.Do (Step.Alias (dom 0) 1 (access 6 9 1))
     ∷ []
 
