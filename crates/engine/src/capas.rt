@@ -1,9 +1,10 @@
 // Capabilities sent and revoked.
+ghost use Rattle.model.specs.State.{noOptions};
 ghost use Rattle.model.specs.Perform.{Call, Step};
 ghost use Rattle.frame.specs.Replies.{handle, replyOf, Returns};
 use frame::Reply;
 
-// The value is the slot in the list of the domain that the target names.
+// Without a flag word. The value is the slot in the list of the domain that the target names.
 #[no_mangle]
 pub extern "C" fn mityvurno_send(
     t: &mut [u64],
@@ -13,7 +14,7 @@ pub extern "C" fn mityvurno_send(
     local: u64,
     target: u64,
 ) -> Reply
-    ensures { λ r. ⌜ Returns replyOf (now (t .entry)) (now (w .entry)) (Call.Do (Step.Send (handle domain generation) local target)) r (now (t .exit)) (now (w .exit)) ⌝ }
+    ensures { λ r. ⌜ Returns replyOf (now (t .entry)) (now (w .entry)) (Call.Do (Step.Send (handle domain generation) local target noOptions)) r (now (t .exit)) (now (w .exit)) ⌝ }
 {
     lent_capas::send(t, w, domain, generation, local, target)
 }

@@ -10,6 +10,8 @@ use Rattle.tables.specs.View.{Left}
 use Rattle.answers.specs.declared.Answer.{Answer}
 use Rattle.answers.specs.Answers.{Effect}
 use Rattle.region.specs.declared.AccessRights.{AccessRights}
+use Rattle.segment.specs.declared.SendOptions.{SendOptions}
+use Rattle.segment.specs.declared.SendOptions.the-variants as options
 use Rattle.calls.specs.declared.Call.{Call}
 use Rattle.calls.specs.declared.Call.the-variants.{Open, OpenUnder, Channel, SetCoreMap, Root, Alias, Carve, Send, Revoke, CreateRevokeCapa}
 use Rattle.calls.specs.Steps.{stepOf}
@@ -20,6 +22,10 @@ use Rattle.refine.specs.Calls.Perform.{stepFor}
 abbrev accessIn : AccessRights → state.Access
 accessIn a = record { start = a .start; end = a .end; rights = a .ops .0 }
 
+abbrev optionsIn : SendOptions → state.SendOptions
+optionsIn options.None = state.noOptions
+optionsIn (options.Flags f) = record { flags = some (f .0) }
+
 abbrev pub stepNamed : Call → model.Step
 stepNamed (Open cores) = model.Open none cores
 stepNamed (OpenUnder h cores) = model.Open (some (handleFrom h)) cores
@@ -28,7 +34,7 @@ stepNamed (SetCoreMap h cores) = model.SetCoreMap (handleFrom h) cores
 stepNamed (Root h a) = model.Root (handleFrom h) (accessIn a)
 stepNamed (Alias x) = model.Alias (handleFrom (x .domain)) (x .local) (accessIn (x .access))
 stepNamed (Carve x) = model.Carve (handleFrom (x .domain)) (x .local) (accessIn (x .access))
-stepNamed (Send h l target) = model.Send (handleFrom h) l target
+stepNamed (Send h l target o) = model.Send (handleFrom h) l target (optionsIn o)
 stepNamed (Revoke h l) = model.Revoke (handleFrom h) l
 stepNamed (CreateRevokeCapa h l) = model.CreateRevokeCapa (handleFrom h) l
 
@@ -40,7 +46,8 @@ same-step (SetCoreMap h cores) v = refl
 same-step (Root h a) v = refl
 same-step (Alias x) v = refl
 same-step (Carve x) v = refl
-same-step (Send h l target) v = refl
+same-step (Send h l target options.None) v = refl
+same-step (Send h l target (options.Flags f)) v = refl
 same-step (Revoke h l) v = refl
 same-step (CreateRevokeCapa h l) v = refl
 

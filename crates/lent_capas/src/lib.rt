@@ -1,10 +1,12 @@
 // Capabilities sent and revoked.
+ghost use Rattle.model.specs.State.{noOptions};
 ghost use Rattle.model.specs.Perform.{Call, Step};
 ghost use Rattle.frame.specs.Replies.{handle, replyOf, Returns};
 use frame::Reply;
+use segment::SendOptions;
 use tables::Handle;
 
-// The value is the slot in the list of the domain that the target names.
+// Without a flag word. The value is the slot in the list of the domain that the target names.
 pub fn send(
     t: &mut [u64],
     w: &mut [u64],
@@ -13,7 +15,7 @@ pub fn send(
     local: u64,
     target: u64,
 ) -> Reply
-    ensures { λ r. ⌜ Returns replyOf (now (t .entry)) (now (w .entry)) (Call.Do (Step.Send (handle domain generation) local target)) r (now (t .exit)) (now (w .exit)) ⌝ }
+    ensures { λ r. ⌜ Returns replyOf (now (t .entry)) (now (w .entry)) (Call.Do (Step.Send (handle domain generation) local target noOptions)) r (now (t .exit)) (now (w .exit)) ⌝ }
 {
     let domain = Handle {
         slot: domain,
@@ -22,7 +24,7 @@ pub fn send(
     frame::run(
         t,
         w,
-        calls::Call::Send(domain, local as usize, target as usize),
+        calls::Call::Send(domain, local as usize, target as usize, SendOptions::None),
     )
 }
 

@@ -78,3 +78,8 @@ pub bind-ok : {A : Type 0} (m : Outcome A) → m >>= ok ≡ m
 unfolding _>>=_
 bind-ok (ok y) = refl
 bind-ok (refuse r) = refl
+
+pub then-bind : {A B C : Type 0} (c : Outcome A) (m : Outcome B) (k : B → Outcome C) → (c >> m) >>= k ≡ c >> (m >>= k)
+unfolding _>>=_ _>>_
+then-bind (ok y) m k = refl
+then-bind (refuse r) m k = refl

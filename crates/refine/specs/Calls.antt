@@ -15,6 +15,7 @@ pub mod Alias
 pub mod Carve
 pub mod HeldSlot
 pub mod SendRegion
+pub mod SendOptions
 pub mod Send
 pub mod RevokeLeaf
 pub mod RevokeRegion

@@ -38,7 +38,7 @@ module _ {t w : List ℕ} {a : Answer} {t₂ w₂ : List ℕ} where
   kind-leads (some root) r u h = step-leads (Step.Root (handleIn r) (accessIn (r .c) (r .d) (r .e))) u h
   kind-leads (some alias) r u h = step-leads (Step.Alias (handleIn r) (r .c) (accessIn (r .d) (r .e) (r .f))) u h
   kind-leads (some carve) r u h = step-leads (Step.Carve (handleIn r) (r .c) (accessIn (r .d) (r .e) (r .f))) u h
-  kind-leads (some send) r u h = step-leads (Step.Send (handleIn r) (r .c) (r .d)) u h
+  kind-leads (some send) r u h = step-leads (Step.Send (handleIn r) (r .c) (r .d) noOptions) u h
   kind-leads (some revoke) r u h = step-leads (Step.Revoke (handleIn r) (r .c)) u h
   kind-leads (some makeRevoke) r u h = step-leads (Step.CreateRevokeCapa (handleIn r) (r .c)) u h
 

@@ -13,6 +13,7 @@ use frame::Reply;
 use region::AccessRights;
 use rights::Rights;
 use script_records::Record;
+use segment::SendOptions;
 use tables::Handle;
 
 // "slot 2^64 − 1 is no manager".
@@ -65,7 +66,7 @@ fn call_of(r: Record) -> calls::Call
             local,
             access: access(r.d, r.e, r.f),
         }),
-        5 => calls::Call::Send(domain, local, r.d as usize),
+        5 => calls::Call::Send(domain, local, r.d as usize, SendOptions::None),
         6 => calls::Call::Revoke(domain, local),
         _ => calls::Call::CreateRevokeCapa(domain, local),
     }

@@ -9,7 +9,7 @@ use lib.ListN.{length}
 use borrow.Author.Tests.{ne-eqb}
 use Rattle.base.specs.Cases.{pick}
 use Rattle.model.specs.Lists.{atSlot, isEmpty, In}
-use Rattle.model.specs.Outcome.{Outcome, ok, _>>=_, okOr}
+use Rattle.model.specs.Outcome.{Outcome, ok, _>>=_, require, okOr}
 use Rattle.refusals.specs.Refusals.{noDomain, noSlot, stale, badRange, noRegion}
 use Rattle.model.specs.State as state
 use Rattle.model.specs.State.{State, Capa, noCapa, region, regionRevoke, management, channel}
@@ -29,8 +29,8 @@ use Rattle.slots.specs.Capas.{capaAt}
 use Rattle.domain.specs.Activate.{reserve}
 use Rattle.checks.specs.Checks.{liveDomain, liveRegion, asRegion, asTarget, regionHeld, targetHeld, roomForRegion}
 use Rattle.decoded.specs.Tables.{handleFor, capaSlot, tablesOf}
-use Rattle.refine.specs.Agrees.{Agrees, agrees-call, agrees-state, ok-then, bind-assoc}
-use Rattle.refine.specs.Calls.Sequence.{agrees-check, agrees-unless, require-then}
+use Rattle.refine.specs.Agrees.{Agrees, agrees-call, agrees-state, ok-then, bind-assoc, then-bind}
+use Rattle.refine.specs.Calls.Sequence.{agrees-check, agrees-unless}
 use Rattle.refine.specs.Arenas.Pools.{handleIn, live-is, capacity-is}
 use Rattle.refine.specs.Tree.ChildChecks.{accessFor}
 use Rattle.refine.specs.Slots.ListSteps.{capa-read, capa-none}
@@ -54,13 +54,13 @@ module _ (s : State) (base : Base s) where
   pub live-domain-refines : (h : Handle) → Agrees (liveDomain h (tablesOf s)) (model.liveDomain s (handleIn h) >>= λ d. ok (d, s))
   unfolding liveDomain model.liveDomain _>>=_
   live-domain-refines h =
-      agrees-call _ _ _ (require-then (isLive (s .domainPool) (s .domains) (handleIn h)) noDomain (ok (h .slot)) (λ d. ok (d, s)))
+      agrees-call _ _ _ (then-bind (require (isLive (s .domainPool) (s .domains) (handleIn h)) noDomain) (ok (h .slot)) (λ d. ok (d, s)))
       (agrees-check noDomain (done (h .slot) (tablesOf s)) (tablesOf s) (ok (h .slot, s)) _ _ (domain-test h) (λ t. (refl, refl)))
 
   pub live-region-refines : (h : Handle) → Agrees (liveRegion h (tablesOf s)) (model.liveRegion s (handleIn h) >>= λ i. ok (i, s))
   unfolding liveRegion model.liveRegion _>>=_
   live-region-refines h =
-      agrees-call _ _ _ (require-then (isLive (s .regionPool) (s .regions) (handleIn h)) stale (ok (h .slot)) (λ i. ok (i, s)))
+      agrees-call _ _ _ (then-bind (require (isLive (s .regionPool) (s .regions) (handleIn h)) stale) (ok (h .slot)) (λ i. ok (i, s)))
       (agrees-check stale (done (h .slot) (tablesOf s)) (tablesOf s) (ok (h .slot, s)) _ _ (region-test h) (λ t. (refl, refl)))
 
   -- ---- what a slot holds
@@ -135,9 +135,9 @@ module _ (s : State) (base : Base s) where
     pub room-refines : (a : AccessRights) → Agrees (roomForRegion d a (tablesOf s)) (model.roomForRegion d (accessFor a) s >>= λ t. ok (0, t))
     unfolding roomForRegion model.roomForRegion
     room-refines a =
-        agrees-call _ _ _ (require-then _ noRegion _ _) (
+        agrees-call _ _ _ (then-bind (require _ noRegion) _ _) (
         agrees-unless noRegion _ (tablesOf s) _ _ (isEmpty (s .regionPool .free)) full-test (λ t.
         agrees-call _ _ _ (bind-assoc (hasCapacity d s) _ _) (
         agrees-state (reserve d (tablesOf s)) _ (hasCapacity d s) _ room-here (λ u e.
-        agrees-call _ _ _ (require-then (ltb (a .start) (a .end)) badRange (ok u) _) (
+        agrees-call _ _ _ (then-bind (require (ltb (a .start) (a .end)) badRange) (ok u) _) (
         agrees-check badRange (done 0 (tablesOf u)) (tablesOf u) _ _ _ refl (λ z. agrees-call _ _ _ (ok-then u _) (refl, refl)))))))

@@ -24,6 +24,7 @@ use Rattle.refine.specs.Calls.SetCoreMap.{set-core-map-refines}
 use Rattle.refine.specs.Calls.Root.{create-root-region-refines}
 use Rattle.refine.specs.Calls.Alias.{alias-region-refines}
 use Rattle.refine.specs.Calls.Carve.{carve-region-refines}
+use Rattle.refine.specs.Calls.SendOptions.{optionsIn}
 use Rattle.refine.specs.Calls.Send.{send-refines}
 use Rattle.refine.specs.Calls.Revoke.{revoke-refines}
 use Rattle.refine.specs.Calls.CreateRevokeCapa.{create-revoke-capa-refines}
@@ -41,7 +42,7 @@ stepFor (model.SetCoreMap h cores) t = setCoreMap (handleFor h) cores t
 stepFor (model.Root h a) t = createRootRegion (handleFor h) (accessIn a) t
 stepFor (model.Alias h l a) t = aliasRegion (handleFor h) l (accessIn a) t
 stepFor (model.Carve h l a) t = carveRegion (handleFor h) l (accessIn a) t
-stepFor (model.Send h l target) t = send (handleFor h) l target t
+stepFor (model.Send h l target o) t = send (handleFor h) l target (optionsIn o) t
 stepFor (model.Revoke h l) t = revokeLocal (handleFor h) l t
 stepFor (model.CreateRevokeCapa h l) t = createRevokeCapa (handleFor h) l t
 
@@ -73,6 +74,6 @@ module _ (s : State) (sound : Sound s) where
   call-refines (model.Root h a) w = agrees-call _ _ _ (local-is _) (create-root-region-refines s sound (handleFor h) (accessIn a) (w .1))
   call-refines (model.Alias h l a) w = agrees-call _ _ _ (local-is _) (alias-region-refines s sound (handleFor h) (accessIn a) l)
   call-refines (model.Carve h l a) w = agrees-call _ _ _ (local-is _) (carve-region-refines s sound (handleFor h) (accessIn a) l)
-  call-refines (model.Send h l target) w = agrees-call _ _ _ (local-is _) (send-refines s sound (handleFor h) l target)
+  call-refines (model.Send h l target o) w = agrees-call _ _ _ (local-is _) (send-refines s sound (handleFor h) l target o)
   call-refines (model.Revoke h l) w = agrees-call _ _ _ (silent-is _) (revoke-refines s sound (handleFor h) l)
   call-refines (model.CreateRevokeCapa h l) w = agrees-call _ _ _ (local-is _) (create-revoke-capa-refines s sound (handleFor h) l)

@@ -4,7 +4,7 @@ use Prim.Native.Nat.{ℕ}
 use mathlib.Core.Bool.{not}
 use lib.Dec.{eqb}
 use Rattle.model.specs.Lists.{In}
-use Rattle.model.specs.Outcome.{Outcome, ok, _>>=_}
+use Rattle.model.specs.Outcome.{Outcome, ok, _>>=_, require}
 use Rattle.refusals.specs.Refusals.{isRoot, notCarried}
 use Rattle.model.specs.State as state
 use Rattle.model.specs.State.{State, Capa, noCapa, region, regionRevoke, management, channel}
@@ -34,8 +34,8 @@ use Rattle.checks.specs.Checks.{liveDomain, liveRegion}
 use Rattle.capa_calls.specs.Calls.{revokeUnlessRoot, revokeCapa, revokeLocal}
 use Rattle.decoded.specs.Tables.{handleFor, capaSlot, tablesOf}
 use Rattle.refine.specs.Arenas.Pools.{handleIn}
-use Rattle.refine.specs.Agrees.{Agrees, agrees-call, ok-then, bind-assoc}
-use Rattle.refine.specs.Calls.Sequence.{agrees-on, agrees-unless, require-then}
+use Rattle.refine.specs.Agrees.{Agrees, agrees-call, ok-then, bind-assoc, then-bind}
+use Rattle.refine.specs.Calls.Sequence.{agrees-on, agrees-unless}
 use Rattle.refine.specs.Calls.Activate.{plain}
 use Rattle.refine.specs.Calls.Checks.{region-test}
 use Rattle.refine.specs.Calls.KeptLists.{sound-lists}
@@ -48,7 +48,7 @@ module _ (s : State) (whole : Whole s) where
   unless-root : (i : ℕ) (g : state.Region) → In (s .regions) i g → Agrees (revokeUnlessRoot i (tablesOf s)) (plain (model.revokeUnlessRoot i s))
   unfolding revokeUnlessRoot model.revokeUnlessRoot
   unless-root i g e =
-      agrees-call _ _ _ (require-then (not (isRootKind (state.regionAt s i .kind))) isRoot (steps.revokeRegion (liveCount s) i s) _)
+      agrees-call _ _ _ (then-bind (require (not (isRootKind (state.regionAt s i .kind))) isRoot) (steps.revokeRegion (liveCount s) i s) _)
       (agrees-unless isRoot (revoke i (tablesOf s)) (tablesOf s) _ _ (isRootKind (state.regionAt s i .kind)) (root-test s (whole .1) i g e) (λ t.
       let (p, n) = parent-is s whole (g .kind) (rw (region-at s i g e) at t) in
       revoke-region-refines s whole i p g e n))

@@ -1,6 +1,6 @@
 -- A call as a chain of steps. What is known of every state that one call may leave is carried to the step that follows, and a test of the code that the
 -- model makes too is one `require`.
-use mathlib.Core.Path.{_≡_, refl}
+use mathlib.Core.Path.{_≡_}
 use Prim.Native.Nat.{ℕ}
 use mathlib.Core.Bool.{Bool, true, false, not}
 use lib.Dec.{T}
@@ -40,9 +40,3 @@ module _ (r : Refusal) (x : Effect) (t : Tables) (m : Outcome (ℕ × State)) wh
   unfolding require _>>_
   agrees-unless b true e h = rw e
   agrees-unless b false e h = rw e (h tt)
-
--- a test, and what follows it
-pub require-then : {A B : Type 0} (b : Bool) (r : Refusal) (m : Outcome A) (k : A → Outcome B) → (require b r >> m) >>= k ≡ require b r >> (m >>= k)
-unfolding require _>>_ _>>=_
-require-then true r m k = refl
-require-then false r m k = refl
