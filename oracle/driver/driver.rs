@@ -14,3 +14,4 @@ pub mod script;
 pub mod scripts;
 
 mod drawn;
+mod outside_flags;
