@@ -118,7 +118,9 @@ pub fn parse_script(line: &str) -> Result<Option<Call>, String> {
 /// A script's record of a send has no place for a flag word or a hash.
 fn without_extras(call: Call) -> Result<Call, String> {
     match call {
-        Call::Send { extras, .. } if extras != Extras::NONE => Err("a send of a script has no flags and no hash; expected the end of the call behind the target local".to_string()),
+        Call::Send { extras, .. } if extras != Extras::NONE => {
+            Err(format!("a send of a script has no flags and no hash; expected the end of the call, found \"{}\"", extras.to_string().trim()))
+        }
         _ => Ok(call),
     }
 }
