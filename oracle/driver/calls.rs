@@ -27,6 +27,22 @@ pub struct Access {
     pub rights: u8,
 }
 
+/// 32 bytes (`RegionHash`).
+#[derive(Clone, Copy, PartialEq, Eq)]
+pub struct RegionHash(pub [u8; 32]);
+
+/// What a send may say besides (document 02, request 1): a flag word, and a hash.
+#[derive(Clone, Copy, PartialEq, Eq, Debug)]
+pub struct Extras {
+    pub flags: Option<u8>,
+    pub hash: Option<RegionHash>,
+}
+
+impl Extras {
+    /// Neither: document 01's send.
+    pub const NONE: Extras = Extras { flags: None, hash: None };
+}
+
 #[derive(Clone, Copy, PartialEq, Eq, Debug)]
 pub enum PoolName {
     Domain,
@@ -43,7 +59,7 @@ pub enum Call {
     Root { domain: Handle, access: Access },
     Alias { domain: Handle, local: u64, access: Access },
     Carve { domain: Handle, local: u64, access: Access },
-    Send { domain: Handle, local: u64, target: u64 },
+    Send { domain: Handle, local: u64, target: u64, extras: Extras },
     Revoke { domain: Handle, local: u64 },
     RegionRevoke { domain: Handle, local: u64 },
     Pop,
@@ -89,6 +105,35 @@ impl fmt::Display for Access {
     }
 }
 
+/// 64 hex digits.
+impl fmt::Display for RegionHash {
+    fn fmt(&self, f: &mut fmt::Formatter) -> fmt::Result {
+        self.0.iter().try_for_each(|byte| write!(f, "{byte:02x}"))
+    }
+}
+
+impl fmt::Debug for RegionHash {
+    fn fmt(&self, f: &mut fmt::Formatter) -> fmt::Result {
+        write!(f, "{self}")
+    }
+}
+
+/// The hash that may be there, as lists have it: `-` for none.
+pub fn hash_word(hash: Option<RegionHash>) -> String {
+    hash.map_or("-".to_string(), |hash| hash.to_string())
+}
+
+/// Behind a send's words: nothing where both are none.
+impl fmt::Display for Extras {
+    fn fmt(&self, f: &mut fmt::Formatter) -> fmt::Result {
+        if *self == Extras::NONE {
+            return Ok(());
+        }
+        let flags = self.flags.map_or("-".to_string(), |flags| flags.to_string());
+        write!(f, " {flags} {}", hash_word(self.hash))
+    }
+}
+
 impl fmt::Display for PoolName {
     fn fmt(&self, f: &mut fmt::Formatter) -> fmt::Result {
         f.write_str(match self {
@@ -115,7 +160,7 @@ impl fmt::Display for Call {
             Call::Root { domain, access } => write!(f, "root {domain} {access}"),
             Call::Alias { domain, local, access } => write!(f, "alias {domain} {local} {access}"),
             Call::Carve { domain, local, access } => write!(f, "carve {domain} {local} {access}"),
-            Call::Send { domain, local, target } => write!(f, "send {domain} {local} {target}"),
+            Call::Send { domain, local, target, extras } => write!(f, "send {domain} {local} {target}{extras}"),
             Call::Revoke { domain, local } => write!(f, "revoke {domain} {local}"),
             Call::RegionRevoke { domain, local } => write!(f, "region-revoke {domain} {local}"),
             Call::Pop => f.write_str("pop"),

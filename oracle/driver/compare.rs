@@ -85,7 +85,10 @@ fn random_list(seed: u64, length: usize, fault: Option<Fault>, totals: &mut Tota
     run(fault, totals, |k, tables| match presets.get(k) {
         _ if k >= length => None,
         Some(preset) => Some(*preset),
-        None => Some(random::call(&mut random, &style, tables)),
+        None => {
+            let call = random::call(&mut random, &style, tables);
+            Some(random::with_extras(&mut random, call))
+        }
     })
 }
 
@@ -138,7 +141,7 @@ pub fn wrong_ports(seed: u64, calls: u64, length: usize, print: bool) -> Vec<&'s
 }
 
 /// Does this list tell the two apart?
-fn differs(list: &[Call], fault: Option<Fault>) -> Option<Difference> {
+pub fn differs(list: &[Call], fault: Option<Fault>) -> Option<Difference> {
     run(fault, &mut Totals::new(), |k, _| list.get(k).copied()).1
 }
 

@@ -98,7 +98,7 @@ fn region(w: &[u64]) -> Option<Region> {
         _ => return None,
     };
     let (owner, rights) = (link(w[1])?, u8::try_from(w[5]).ok()?);
-    Some(Region { owner, kind, start: w[3], end: w[4], rights, first_child: link(w[6]), next_sibling: link(w[7]) })
+    Some(Region { owner, kind, start: w[3], end: w[4], rights, first_child: link(w[6]), next_sibling: link(w[7]), hash: None })
 }
 
 fn record(w: &[u64]) -> Option<Record> {

@@ -2,6 +2,7 @@
 //! with or without the proved archive.
 
 pub mod compare;
+pub mod fixed;
 pub mod judge;
 pub mod leftovers;
 pub mod met;
@@ -13,3 +14,4 @@ pub mod script;
 pub mod scripts;
 
 mod drawn;
+mod outside_flags;

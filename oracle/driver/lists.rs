@@ -2,7 +2,7 @@
 
 use std::str::SplitWhitespace;
 
-use crate::calls::{Access, Call, Handle, PoolName};
+use crate::calls::{Access, Call, Extras, Handle, PoolName, RegionHash};
 
 /// The calls that a script has, too.
 const SCRIPT: [&str; 7] = ["open", "root", "alias", "carve", "send", "revoke", "region-revoke"];
@@ -31,13 +31,23 @@ impl Words<'_> {
 
     /// `-` for none.
     fn manager(&mut self) -> Result<Option<Handle>, String> {
-        self.take("manager", &format!("- or {HANDLE}"), |word| if word == "-" { Some(None) } else { handle(word).map(Some) })
+        self.take("manager", &format!("- or {HANDLE}"), |word| or_none(word, handle))
     }
 
     fn access(&mut self) -> Result<Access, String> {
         let (start, end) = (self.number("start")?, self.number("end")?);
-        let rights = self.take("rights", "a number up to 255", |word| number(word).and_then(|n| u8::try_from(n).ok()))?;
+        let rights = self.take("rights", "a number up to 255", byte)?;
         Ok(Access { start, end, rights })
+    }
+
+    /// A send's flag word and hash, `-` for none; where the call ends before them, neither.
+    fn extras(&mut self) -> Result<Extras, String> {
+        if self.0.clone().next().is_none() {
+            return Ok(Extras::NONE);
+        }
+        let flags = self.take("flags", "- or a number up to 255", |word| or_none(word, byte))?;
+        let hash = self.take("hash", "- or 64 hex digits", |word| or_none(word, hash))?;
+        Ok(Extras { flags, hash })
     }
 
     fn pool(&mut self) -> Result<PoolName, String> {
@@ -57,6 +67,20 @@ impl Words<'_> {
 /// Digits only: `+1` is no number of a list.
 fn number(word: &str) -> Option<u64> {
     word.bytes().all(|b| b.is_ascii_digit()).then(|| word.parse().ok()).flatten()
+}
+
+fn byte(word: &str) -> Option<u8> {
+    number(word).and_then(|n| u8::try_from(n).ok())
+}
+
+/// `-` is none, and any other word as `read` takes it.
+fn or_none<T>(word: &str, read: impl Fn(&str) -> Option<T>) -> Option<Option<T>> {
+    if word == "-" { Some(None) } else { read(word).map(Some) }
+}
+
+fn hash(word: &str) -> Option<RegionHash> {
+    let digits: Vec<u8> = word.chars().map(|c| c.to_digit(16).map(|d| d as u8)).collect::<Option<_>>()?;
+    (digits.len() == 64).then(|| RegionHash(std::array::from_fn(|k| digits[2 * k] << 4 | digits[2 * k + 1])))
 }
 
 fn handle(word: &str) -> Option<Handle> {
@@ -85,9 +109,19 @@ pub fn parse_script(line: &str) -> Result<Option<Call>, String> {
     let mut words = words(line);
     match words.next() {
         None => Ok(None),
-        Some(name) if SCRIPT.contains(&name) => call(name, Words(words)).map(Some),
+        Some(name) if SCRIPT.contains(&name) => call(name, Words(words)).and_then(without_extras).map(Some),
         Some(name) if OTHERS.contains(&name) => Err(format!("\"{name}\" is no call of a script; expected {}", one_of(&SCRIPT))),
         Some(other) => Err(format!("\"{other}\" is no call; expected {}", one_of(&SCRIPT))),
+    }
+}
+
+/// A script's record of a send has no place for a flag word or a hash.
+fn without_extras(call: Call) -> Result<Call, String> {
+    match call {
+        Call::Send { extras, .. } if extras != Extras::NONE => {
+            Err(format!("a send of a script has no flags and no hash; expected the end of the call, found \"{}\"", extras.to_string().trim()))
+        }
+        _ => Ok(call),
     }
 }
 
@@ -106,7 +140,10 @@ fn call(name: &str, mut w: Words) -> Result<Call, String> {
         "root" => Call::Root { domain: w.handle("domain")?, access: w.access()? },
         "alias" => Call::Alias { domain: w.handle("domain")?, local: w.number("local")?, access: w.access()? },
         "carve" => Call::Carve { domain: w.handle("domain")?, local: w.number("local")?, access: w.access()? },
-        "send" => Call::Send { domain: w.handle("domain")?, local: w.number("local")?, target: w.number("target local")? },
+        "send" => {
+            let (domain, local, target) = (w.handle("domain")?, w.number("local")?, w.number("target local")?);
+            Call::Send { domain, local, target, extras: w.extras()? }
+        }
         "revoke" => Call::Revoke { domain: w.handle("domain")?, local: w.number("local")? },
         "region-revoke" => Call::RegionRevoke { domain: w.handle("domain")?, local: w.number("local")? },
         "pop" => Call::Pop,

@@ -8,10 +8,11 @@ use shared::lists::parse;
 use shared::tables::Tables;
 
 use driver::judge::{self, Judge};
-use driver::{compare, leftovers, ours, outside, sample, script, scripts};
+use driver::{compare, fixed, leftovers, ours, outside, sample, script, scripts};
 
 const USAGE: &str = "driver run [tables|words]              answers to the calls on standard input; then every entry, or every word, of the tables
 driver compare SEED CALLS LENGTH       random lists, the Rust beside the reference
+driver compare FILE                    fixed lists with their answers, the Rust beside the reference
 driver wrong-ports SEED CALLS LENGTH [lists]  each wrong port must be told apart
 driver mirror SEED LISTS               private fields as read here against the engine's own readings
 driver sample SEED LISTS LENGTH        lists with answers and a hash of the tables' words after each call
@@ -56,6 +57,7 @@ fn command(words: &[&str]) -> Result<bool, String> {
         ["run", "tables"] => run(|t| t.lines().iter().for_each(|l| println!("{l}"))),
         ["run", "words"] => run(|t| println!("{:?}", t.words())),
         ["compare", seed, calls, l] => Ok(compare::compare(number(seed)?, number(calls)?, length(l)?)),
+        ["compare", file] => fixed::check(file),
         ["wrong-ports", seed, calls, l, ref rest @ ..] => {
             let missed = compare::wrong_ports(number(seed)?, number(calls)?, length(l)?, rest == ["lists"]);
             missed.iter().for_each(|name| println!("NOT told apart: {name}"));

@@ -1,7 +1,7 @@
 //! Random lists of calls from a seed. What is drawn depends on the tables as they are, so that most calls are nearly right:
 //! live handles, slots in use, ranges on edges that are there, and beside them stale and absurd ones.
 
-use shared::calls::{Access, Call, Handle, PoolName, Sizes};
+use shared::calls::{Access, Call, Extras, Handle, PoolName, RegionHash, Sizes};
 use shared::tables::{Capa, Kind, Region, Tables};
 
 /// SplitMix64.
@@ -141,13 +141,29 @@ pub fn call(random: &mut Random, style: &Style, tables: &Tables) -> Call {
         6 => {
             let local = any_local(random, style, tables, domain, |_| true);
             let target = any_local(random, style, tables, domain, |c| needed(kind, c));
-            Call::Send { domain, local, target }
+            Call::Send { domain, local, target, extras: Extras::NONE }
         }
         7 => Call::Revoke { domain, local: any_local(random, style, tables, domain, |c| revocable(tables, c)) },
         8 => Call::RegionRevoke { domain, local: any_local(random, style, tables, domain, |c| needed(kind, c)) },
         9 => Call::Pop,
         _ => reading(random, style, domain),
     }
+}
+
+/// The same call; a send with any flag word and hash, or none of them (document 02, request 1). Apart from `call`, as the proved engine has
+/// no such send yet.
+pub fn with_extras(random: &mut Random, call: Call) -> Call {
+    let Call::Send { domain, local, target, .. } = call else { return call };
+    let any = random.next() as u8;
+    let flags = random.pick(&[None, Some(0), Some(16), Some(32), Some(48), Some(64), Some(112), Some(any)]);
+    let hash = random.one_in(2).then(|| any_hash(random));
+    Call::Send { domain, local, target, extras: Extras { flags, hash } }
+}
+
+/// 32 bytes, now and then all zero.
+fn any_hash(random: &mut Random) -> RegionHash {
+    let zero = random.one_in(8);
+    RegionHash(std::array::from_fn(|_| if zero { 0 } else { random.next() as u8 }))
 }
 
 /// Is this a capability that a call of this kind can use?

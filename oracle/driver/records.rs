@@ -1,7 +1,7 @@
 //! The records of a script (document 01, "The script program"): two-byte length of what follows, two-byte kind, 8-byte fields,
 //! all little-endian.
 
-use crate::calls::{Access, Call, Handle};
+use crate::calls::{Access, Call, Extras, Handle};
 
 /// The manager's slot where an opened domain has none.
 pub const NO_MANAGER: u64 = u64::MAX;
@@ -10,7 +10,7 @@ pub const NO_MANAGER: u64 = u64::MAX;
 #[derive(Debug, PartialEq, Eq)]
 pub struct BadRecord;
 
-/// The record of a call; `None` for a call that a script does not have.
+/// The record of a call; `None` for a call that a script does not have, as a send with a flag word or a hash.
 pub fn encode(call: &Call) -> Option<Vec<u8>> {
     let access = |d: Handle, local: u64, a: Access| [d.slot, d.gen, local, a.start, a.end, a.rights.into()];
     Some(match *call {
@@ -19,7 +19,7 @@ pub fn encode(call: &Call) -> Option<Vec<u8>> {
         Call::Root { domain: d, access: a } => record(2, &[d.slot, d.gen, a.start, a.end, a.rights.into()]),
         Call::Alias { domain, local, access: a } => record(3, &access(domain, local, a)),
         Call::Carve { domain, local, access: a } => record(4, &access(domain, local, a)),
-        Call::Send { domain: d, local, target } => record(5, &[d.slot, d.gen, local, target]),
+        Call::Send { domain: d, local, target, extras: Extras::NONE } => record(5, &[d.slot, d.gen, local, target]),
         Call::Revoke { domain: d, local } => record(6, &[d.slot, d.gen, local]),
         Call::RegionRevoke { domain: d, local } => record(7, &[d.slot, d.gen, local]),
         _ => return None,
@@ -57,7 +57,7 @@ fn decode(kind: u16, fields: &[u64]) -> Option<Call> {
         (2, &[s, g, start, end, rights]) => Call::Root { domain: handle(s, g), access: access(start, end, rights)? },
         (3, &[s, g, local, start, end, rights]) => Call::Alias { domain: handle(s, g), local, access: access(start, end, rights)? },
         (4, &[s, g, local, start, end, rights]) => Call::Carve { domain: handle(s, g), local, access: access(start, end, rights)? },
-        (5, &[s, g, local, target]) => Call::Send { domain: handle(s, g), local, target },
+        (5, &[s, g, local, target]) => Call::Send { domain: handle(s, g), local, target, extras: Extras::NONE },
         (6, &[s, g, local]) => Call::Revoke { domain: handle(s, g), local },
         (7, &[s, g, local]) => Call::RegionRevoke { domain: handle(s, g), local },
         _ => return None,

@@ -1,6 +1,6 @@
 //! Every entry of the tables, and the words that docs/TABLES.md makes of them.
 
-use crate::calls::{Handle, Sizes, Update};
+use crate::calls::{Handle, RegionHash, Sizes, Update};
 
 /// A free list and, for the three pools, the slots' generations.
 #[derive(Clone, PartialEq, Eq, Debug)]
@@ -51,6 +51,8 @@ pub struct Region {
     pub rights: u8,
     pub first_child: Option<u64>,
     pub next_sibling: Option<u64>,
+    /// Document 02, request 1. No words yet: the proved engine's tables have none for it.
+    pub hash: Option<RegionHash>,
 }
 
 #[derive(Clone, PartialEq, Eq, Debug)]

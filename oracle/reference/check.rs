@@ -135,9 +135,9 @@ fn facts() {
     assert_eq!(last(through), "no 6");
 }
 
-// ---- faults.txt
+// ---- faults.txt and flags.txt
 
-/// The sizes line, the calls and the name in the first comment of one part of faults.txt.
+/// The sizes line, the calls and the name in the first comment of one part of these.
 fn part(text: &str) -> (String, Sizes, Vec<Call>) {
     let name = text.lines().next().unwrap_or("").trim().to_string();
     let rest = text.lines().skip(1).collect::<Vec<_>>().join("\n");
@@ -154,9 +154,10 @@ fn told_apart(fault: Fault, sizes: Sizes, list: &[Call]) -> bool {
     list.iter().any(|call| right.perform(call) != wrong.perform(call) || right.tables() != wrong.tables())
 }
 
-/// Every fault has a list in faults.txt that tells it apart.
+/// Every fault has a list that tells it apart: in faults.txt, or in flags.txt behind the lists that have no fault.
 fn faults() {
-    let parts: Vec<_> = include_str!("faults.txt").split("# fault: ").skip(1).map(part).collect();
+    let texts = [include_str!("faults.txt"), include_str!("flags.txt")];
+    let parts: Vec<_> = texts.iter().flat_map(|text| text.split("# fault: ").skip(1)).map(part).collect();
     assert_eq!(parts.len(), Fault::ALL.len());
     for fault in Fault::ALL {
         let (_, sizes, list) = parts.iter().find(|(name, ..)| name == fault.name()).expect(fault.name());

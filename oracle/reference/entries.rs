@@ -90,6 +90,7 @@ fn region_entry(region: &Region) -> tables::Region {
         rights: region.access.rights,
         first_child: region.children.first().map(|&child| child as u64),
         next_sibling: None,
+        hash: region.hash,
     }
 }
 

@@ -39,12 +39,30 @@ pub enum Fault {
     SweepSparesRevokes,
     SplitLeftNew,
     NoneNotSent,
+    // Document 02, request 1.
+    UncacheableJoins,
+    MissingHashFirst,
+    FlagsBeforeStale,
+    FlagsAfterMove,
+    FlagsOfAny,
+    OwnHashAsks,
+    FlagsReplace,
+    AbsentHashKept,
+    HashWithoutFlags,
+    ZeroFlagsNothing,
+    HashNeedsFlag,
+    ZeroHashNone,
+    HashLeavesRights,
+    ChildTakesHash,
+    FreedHashStays,
 }
 
 use Fault::*;
 
+const FAULTS: usize = 52;
+
 /// Each fault with the words of the list of wrong ports, in the order of the enum.
-const NAMES: [(Fault, &str); 37] = [
+const NAMES: [(Fault, &str); FAULTS] = [
     (GainSplitsFirst, "gain splits at both edges before it fills gaps"),
     (LossSplitsFirst, "loss splits at both edges first"),
     (LossFreesLate, "loss frees dropped records only after the walk"),
@@ -82,10 +100,25 @@ const NAMES: [(Fault, &str); 37] = [
     (SweepSparesRevokes, "sweep spares dead RegionRevokes"),
     (SplitLeftNew, "split gives the left half the new slot"),
     (NoneNotSent, "None can't be sent"),
+    (UncacheableJoins, "UNCACHEABLE joins at a send"),
+    (MissingHashFirst, "send: 19 before 18"),
+    (FlagsBeforeStale, "send: 18 and 19 before 6"),
+    (FlagsAfterMove, "send: 18 and 19 after the move"),
+    (FlagsOfAny, "send: 18 and 19 for other capabilities, too"),
+    (OwnHashAsks, "send: 19 for HASH among the region's own rights"),
+    (FlagsReplace, "flags replace the rights"),
+    (AbsentHashKept, "a flag word without a hash leaves the stored one"),
+    (HashWithoutFlags, "a hash without a flag word is stored"),
+    (ZeroFlagsNothing, "flag word 0 leaves the stored hash"),
+    (HashNeedsFlag, "a hash is stored only with HASH"),
+    (ZeroHashNone, "an all-zero hash is none"),
+    (HashLeavesRights, "HASH leaves the rights where the hash is cleared"),
+    (ChildTakesHash, "alias and carve take the parent's hash"),
+    (FreedHashStays, "a freed region's hash goes to the next in its slot"),
 ];
 
 impl Fault {
-    pub const ALL: [Fault; 37] = all();
+    pub const ALL: [Fault; FAULTS] = all();
 
     /// The words of the list of wrong ports.
     pub fn name(self) -> &'static str {
@@ -94,8 +127,8 @@ impl Fault {
 }
 
 /// The faults of NAMES, tested to stand in the order of the enum.
-const fn all() -> [Fault; 37] {
-    let mut out = [GainSplitsFirst; 37];
+const fn all() -> [Fault; FAULTS] {
+    let mut out = [GainSplitsFirst; FAULTS];
     let mut i = 0;
     while i < out.len() {
         out[i] = NAMES[i].0;

@@ -1,8 +1,8 @@
 //! The plain lists that stand for document 01's tables.
 
-use shared::calls::{Access, Sizes, Update};
+use shared::calls::{Access, RegionHash, Sizes, Update};
 use shared::tables::{Capa, Kind};
-use std::collections::VecDeque;
+use std::collections::{BTreeMap, VecDeque};
 use std::sync::Arc;
 
 pub const READ: u8 = 1;
@@ -51,6 +51,8 @@ pub struct Region {
     pub access: Access,
     /// Slots of the children, in the order of the child list.
     pub children: Vec<usize>,
+    /// Document 02, request 1.
+    pub hash: Option<RegionHash>,
 }
 
 /// The update ring: the updates, oldest first, and the place of the oldest.
@@ -70,6 +72,8 @@ pub struct Lists {
     pub domains: Vec<Option<Arc<Domain>>>,
     pub regions: Vec<Option<Arc<Region>>>,
     pub queue: Queue,
+    /// Fault only: the hashes that freed regions leave in their slots.
+    pub left: BTreeMap<usize, RegionHash>,
 }
 
 /// Arenas: fresh slots go 0, 1, 2.
@@ -104,6 +108,7 @@ impl Lists {
             domains: vec![None; sizes.domains],
             regions: vec![None; sizes.regions],
             queue: Queue { updates: VecDeque::new(), first: 0 },
+            left: BTreeMap::new(),
         }
     }
 }

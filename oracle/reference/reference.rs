@@ -1,7 +1,8 @@
-//! Document 01's calls over plain lists and stacks. A wrong port can be put in as a fault.
+//! Document 01's calls over plain lists and stacks, and the flags and hashes at send of document 02's request 1. A wrong port can be put in as a fault.
 
 mod entries;
 mod faults;
+mod flags;
 mod lists;
 mod opening;
 mod queue;
@@ -59,7 +60,7 @@ impl Engine {
             Call::Root { domain, access } => self.root(domain, access),
             Call::Alias { domain, local, access } => self.alias(domain, local, access),
             Call::Carve { domain, local, access } => self.carve(domain, local, access),
-            Call::Send { domain, local, target } => self.send(domain, local, target),
+            Call::Send { domain, local, target, extras } => self.send(domain, local, target, extras),
             Call::Revoke { domain, local } => self.revoke(domain, local),
             Call::RegionRevoke { domain, local } => self.make_region_revoke(domain, local),
             Call::Pop => self.pop(),

@@ -3,7 +3,7 @@
 use crate::lists::{Region, CLEANUP, HASH, VITAL};
 use crate::seen::Branch;
 use crate::{Engine, Fault};
-use shared::calls::{Access, Answer, Handle, Reply};
+use shared::calls::{Access, Answer, Handle, RegionHash, Reply};
 use shared::tables::{Capa, Kind};
 use std::sync::Arc;
 
@@ -102,11 +102,21 @@ impl Engine {
         self.seen.note_if(self.lists.region_pool.free.is_empty(), Branch::RegionsOut);
         let gen = self.lists.region_pool.gens[r];
         self.seen.note_if(gen > 0, Branch::RegionReused);
-        self.lists.regions[r] = Some(Arc::new(Region { owner, kind, access, children: Vec::new() }));
+        let hash = self.first_hash(r, kind);
+        self.lists.regions[r] = Some(Arc::new(Region { owner, kind, access, children: Vec::new(), hash }));
         if let Kind::Alias(parent) | Kind::Carve(parent) = kind {
             self.insert_child(parent as usize, r);
         }
         self.give_slot(owner, Capa::Region(Handle { slot: r as u64, gen }))
+    }
+
+    /// A new region has no hash: none of its parent's, and none that its slot had before.
+    fn first_hash(&mut self, r: usize, kind: Kind) -> Option<RegionHash> {
+        match kind {
+            Kind::Alias(parent) | Kind::Carve(parent) if self.wrong(Fault::ChildTakesHash) => self.region(parent as usize).hash,
+            _ if self.wrong(Fault::FreedHashStays) => self.lists.left.remove(&r),
+            _ => None,
+        }
     }
 
     /// Child lists rise by start; a newcomer goes after equals.

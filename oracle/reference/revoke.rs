@@ -69,6 +69,9 @@ impl Engine {
         self.leave_list(r);
         self.give_back(r)?;
         self.lists.region_pool.put_back(r)?;
+        if self.wrong(Fault::FreedHashStays) {
+            self.lists.left.extend(self.region(r).hash.map(|hash| (r, hash)));
+        }
         self.lists.regions[r] = None;
         if self.wrong(Fault::CleanupBeforeChildren) || self.wrong(Fault::CleanupBeforeTracker) {
             return Ok(());

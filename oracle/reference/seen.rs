@@ -60,11 +60,19 @@ pub enum Branch {
     RegionReused,
     EqualStarts,
     ChildBeforeOthers,
+    FlagsJoined,
+    ZeroFlagsStore,
+    ZeroFlagsClear,
+    HashCleared,
+    HashStays,
+    ZeroHash,
+    FlagsIgnored,
+    FlagAndHash,
 }
 
 use Branch::*;
 
-const BRANCHES: usize = 55;
+const BRANCHES: usize = 63;
 
 /// Each branch with its name, in the order of the enum.
 const NAMES: [(Branch, &str); BRANCHES] = [
@@ -123,6 +131,14 @@ const NAMES: [(Branch, &str); BRANCHES] = [
     (RegionReused, "freed region slot given again"),
     (EqualStarts, "child list: equal starts"),
     (ChildBeforeOthers, "child list: newcomer before a later start"),
+    (FlagsJoined, "send: flags join the rights"),
+    (ZeroFlagsStore, "send: flag word 0 with a hash"),
+    (ZeroFlagsClear, "send: flag word 0 clears the stored hash"),
+    (HashCleared, "send: the hash is cleared, HASH stays in the rights"),
+    (HashStays, "send: no flag word, a hash other than the stored one"),
+    (ZeroHash, "send: an all-zero hash"),
+    (FlagsIgnored, "send: flags of another capability that a region's send would refuse"),
+    (FlagAndHash, "send: 18 and 19 together"),
 ];
 
 const _: () = {
@@ -133,7 +149,7 @@ const _: () = {
     }
 };
 
-/// Each call's word and the refusals that it can give, as document 01's order of checks has them.
+/// Each call's word and the refusals that it can give, as document 01's order of checks has them; 18 and 19 are document 02's.
 const REFUSALS: [(&str, &[u8]); 15] = [
     ("open", &[3, 15, 12]),
     ("channel", &[3, 12]),
@@ -141,7 +157,7 @@ const REFUSALS: [(&str, &[u8]); 15] = [
     ("root", &[3, 11, 12, 7, 13, 14, 16]),
     ("alias", &[3, 4, 5, 6, 11, 12, 7, 8, 13, 16]),
     ("carve", &[3, 4, 5, 6, 11, 12, 7, 8, 13, 14, 16]),
-    ("send", &[3, 4, 5, 12, 10, 6, 13, 14, 16]),
+    ("send", &[3, 4, 5, 12, 10, 6, 18, 19, 13, 14, 16]),
     ("revoke", &[3, 4, 10, 6, 9, 13, 14, 16]),
     ("region-revoke", &[3, 4, 5, 6, 9, 12]),
     ("pop", &[]),
@@ -174,13 +190,16 @@ fn kind_of(call: &Call) -> usize {
 
 /// Whether a branch counts in a refused call: the refusal is what was met there.
 const fn of_refusal(branch: Branch) -> bool {
-    matches!(branch, MergeSpent | SelfSendFull | SweptSent | DeadRegionMet)
+    matches!(branch, MergeSpent | SelfSendFull | SweptSent | DeadRegionMet | FlagAndHash)
 }
+
+/// Accepted, and refused with 1 to 19.
+const ANSWERS: usize = 20;
 
 /// Numbers of calls: accepted (place 0) and refused by number, and those that met each branch.
 #[derive(Clone)]
 pub struct Seen {
-    answers: [[u64; 18]; 15],
+    answers: [[u64; ANSWERS]; 15],
     branches: [u64; BRANCHES],
     /// The branches of the call that runs, one bit for each.
     now: u64,
@@ -188,7 +207,7 @@ pub struct Seen {
 
 impl Seen {
     pub fn new() -> Seen {
-        Seen { answers: [[0; 18]; 15], branches: [0; BRANCHES], now: 0 }
+        Seen { answers: [[0; ANSWERS]; 15], branches: [0; BRANCHES], now: 0 }
     }
 
     pub fn note(&mut self, branch: Branch) {
@@ -224,7 +243,7 @@ impl Seen {
     /// Every name with its count, 0 where it was not met: `no 13`, `root ok`, `root 13` and the branches.
     pub fn counts(&self) -> Vec<(String, u64)> {
         let total = |number: usize| self.answers.iter().map(|row| row[number]).sum();
-        let mut out: Vec<(String, u64)> = (3..=16).map(|n| (format!("no {n}"), total(n))).collect();
+        let mut out: Vec<(String, u64)> = (3..=16).chain(18..=19).map(|n| (format!("no {n}"), total(n))).collect();
         for ((word, numbers), row) in REFUSALS.iter().zip(&self.answers) {
             out.push((format!("{word} ok"), row[0]));
             for number in 1..row.len() {

@@ -2,27 +2,32 @@
 
 use crate::seen::Branch;
 use crate::{Engine, Fault};
-use shared::calls::{Access, Answer, Handle, Reply};
+use shared::calls::{Access, Answer, Extras, Handle, Reply};
 use shared::tables::{Capa, Kind};
 
 impl Engine {
-    /// Send: 3, the target slot 4, 5, 3, then 12 there, then the sent slot as it is after that sweep.
-    pub fn send(&mut self, domain: Handle, local: u64, target: u64) -> Answer {
+    /// Send: 3, the target slot 4, 5, 3, then 12 there, then the sent slot as it is after that sweep: 4, 10, 6, and for a region 18, 19.
+    pub fn send(&mut self, domain: Handle, local: u64, target: u64, extras: Extras) -> Answer {
         let from = self.live_domain(domain)?;
         let to = self.target(from, target)?;
-        let looked = if self.wrong(Fault::SendLooksFirst) { Some(self.sendable(from, local)?) } else { None };
+        let looked = if self.wrong(Fault::SendLooksFirst) { Some(self.sendable_with(from, local, extras)?) } else { None };
         self.room_to_send(from, local, to)?;
         let capa = match looked {
             Some(capa) => capa,
-            None => self.sendable(from, local)?,
+            None => self.sendable_with(from, local, extras)?,
         };
         self.note_send(from, to, capa, local == target);
+        self.note_ignored(capa, extras);
         if self.wrong(Fault::SelfSendNothing) && from == to {
             return Ok(Reply::Local(local));
         }
         let given = self.move_slot(from, local as usize, to, capa);
         if let Capa::Region(handle) = capa {
             self.move_region(handle.slot as usize, from, to)?;
+            if self.wrong(Fault::FlagsAfterMove) {
+                self.flags_fit(capa, extras)?;
+            }
+            self.join(handle.slot as usize, extras);
         }
         Ok(Reply::Local(given))
     }
@@ -57,6 +62,20 @@ impl Engine {
             Capa::None if self.wrong(Fault::NoneNotSent) => Err(10),
             _ => Ok(capa),
         }
+    }
+
+    /// The same, and then a region's flags: 18, 19.
+    fn sendable_with(&mut self, from: usize, local: u64, extras: Extras) -> Result<Capa, u8> {
+        let held = self.held(from, local)?;
+        let region = matches!(held, Capa::Region(_));
+        if region && self.wrong(Fault::FlagsBeforeStale) {
+            self.flags_fit(held, extras)?;
+        }
+        let capa = self.sendable(from, local)?;
+        if region && !self.wrong(Fault::FlagsAfterMove) || self.wrong(Fault::FlagsOfAny) {
+            self.flags_fit(capa, extras)?;
+        }
+        Ok(capa)
     }
 
     /// Frees the sent slot and gives one in the target's list.

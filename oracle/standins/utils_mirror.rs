@@ -266,6 +266,7 @@ fn region_of(r: &RegionCapaMirror) -> tables::Region {
         rights: r.access.ops.bits(),
         first_child: r.child_list_head.map(slot),
         next_sibling: r.next_sibling.map(slot),
+        hash: r.hash.map(calls::RegionHash),
     }
 }
 
@@ -339,7 +340,7 @@ fn region_agrees(engine: &CapaEngine, t: &Tables, i: usize, r: &tables::Region) 
     });
     let access = region.get_access_rights();
     let range = (access.start as u64, access.end as u64, access.ops.bits()) == (r.start, r.end, r.rights);
-    children && next.is_none() && range
+    children && next.is_none() && range && region.hash.map(calls::RegionHash) == r.hash
 }
 
 fn queue_agrees(engine: &mut CapaEngine, t: &Tables) -> bool {

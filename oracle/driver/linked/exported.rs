@@ -2,7 +2,7 @@
 
 use std::ptr;
 
-use shared::calls::Call;
+use shared::calls::{Call, Extras};
 
 #[repr(C)]
 pub struct Reply {
@@ -104,7 +104,7 @@ pub fn perform(t: &mut [u64], w: &mut [u64], call: &Call, run: &mut [u64]) -> Nu
         Call::Root { domain: d, access: a } => call!(mityvurno_create_root_region, t, w, d.slot, d.gen, a.start, a.end, a.rights),
         Call::Alias { domain: d, local, access: a } => call!(mityvurno_alias_region, t, w, d.slot, d.gen, local, a.start, a.end, a.rights),
         Call::Carve { domain: d, local, access: a } => call!(mityvurno_carve_region, t, w, d.slot, d.gen, local, a.start, a.end, a.rights),
-        Call::Send { domain: d, local, target } => call!(mityvurno_send, t, w, d.slot, d.gen, local, target),
+        Call::Send { domain: d, local, target, extras: Extras::NONE } => call!(mityvurno_send, t, w, d.slot, d.gen, local, target),
         Call::Revoke { domain: d, local } => call!(mityvurno_revoke, t, w, d.slot, d.gen, local),
         Call::RegionRevoke { domain: d, local } => call!(mityvurno_create_revoke_capa, t, w, d.slot, d.gen, local),
         Call::Pop => call!(mityvurno_pop, t, w),
@@ -112,6 +112,6 @@ pub fn perform(t: &mut [u64], w: &mut [u64], call: &Call, run: &mut [u64]) -> Nu
         Call::CoreMap { domain: d } => call!(mityvurno_core_map, t, w, d.slot, d.gen),
         Call::Holders { address } => call!(mityvurno_holders, t, w, address, start(run), run.len()),
         Call::Permissions { domain: d } => call!(mityvurno_permissions, t, w, d.slot, d.gen, start(run), run.len() / 3),
-        Call::Generation { .. } => unreachable!("no call of document 01"),
+        Call::Generation { .. } | Call::Send { .. } => unreachable!("no exported call"),
     }
 }

@@ -1,6 +1,6 @@
 //! Sound tables of many shapes, made by random lists of calls, and ways to damage them.
 
-use shared::calls::{Access, Call, Handle};
+use shared::calls::{Access, Call, Extras, Handle};
 use shared::decode::decode;
 use shared::tables::Tables;
 
@@ -93,7 +93,7 @@ pub fn turn(random: &mut Random, number: u64, tables: &Tables) -> Call {
         5 => Call::Root { domain, access },
         6 => Call::Alias { domain, local, access },
         7 => Call::Carve { domain, local, access },
-        8 => Call::Send { domain, local, target },
+        8 => Call::Send { domain, local, target, extras: Extras::NONE },
         9 => Call::Revoke { domain, local },
         10 => Call::RegionRevoke { domain, local },
         11 => Call::CoreMap { domain },
