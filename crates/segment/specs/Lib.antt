@@ -1,3 +1,4 @@
 pub mod Children
+pub mod Options
 pub mod Regions
 pub mod Walks

@@ -1,6 +1,7 @@
 // The region tree (segment.rs; document 01, **Alias** to **Child lists**): child lists, checks, effective ranges.
 // A link is a region's slot + 1, or 0 for none.
 pub mod children;
+pub mod options;
 pub mod regions;
 pub mod send;
 
@@ -8,11 +9,19 @@ pub use children::check_alias;
 pub use children::check_carve;
 pub use children::insert_child;
 pub use children::remove_child;
+pub use options::apply_options;
 pub use regions::access;
 pub use regions::capa_for;
 pub use regions::free_region;
 pub use regions::new_region;
+use rights::Rights;
 pub use send::send_region;
+
+// What a send says besides (document 02, request 1): no flag word, or one.
+pub enum SendOptions {
+    None,
+    Flags(Rights),
+}
 
 // Where a search of a child list stands: the links of the child before and of the child at hand.
 pub struct Place {
