@@ -7,26 +7,47 @@ use Rattle.tables.specs.declared.Slot.{Slot}
 use Rattle.tables.specs.Kinds.{FREE, REGION, «REGION_REVOKE», MANAGEMENT, ROOT}
 use Rattle.tables.specs.Tables.{Tables, regionAt}
 use Rattle.arena.specs.Arena.{liveB}
-use Rattle.refusals.specs.Refusals.{noSlot, isRoot, notCarried}
+use Rattle.rights.specs.Rights.{allowed}
+use Rattle.refusals.specs.Refusals.{noSlot, isRoot, notCarried, badFlag}
+use Rattle.answers.specs.declared.Answer.{Answer}
+use Rattle.answers.specs.declared.Answer.the-variants.{Done, Refused}
 use Rattle.answers.specs.Answers.{Effect, done, refused, andThen}
 use Rattle.slots.specs.Capas.{capaAt, withoutCapa, withEmpty}
 use Rattle.domain.specs.Activate.{reserve, insert}
+use Rattle.segment.specs.declared.SendOptions.{SendOptions}
+use Rattle.segment.specs.declared.SendOptions.the-variants as options
 use Rattle.segment.specs.Regions.{sendRegion}
+use Rattle.segment.specs.Options.{applyOptions}
 use Rattle.revocation.specs.Revoke.{revoke}
 use Rattle.checks.specs.Checks.{liveDomain, liveRegion, regionHeld, targetHeld, capaOf}
 
--- 4, 10, 6, and for a region its effective ranges; by the kinds 0 to 5
-unfoldable pub sendCapa : Slot → ℕ → Tables → Effect
-sendCapa x to s =
-    pick (eqb (x .kind) FREE) (refused noSlot s)
-    (pick (eqb (x .kind) MANAGEMENT) (refused notCarried s) (pick (eqb (x .kind) REGION) (andThen (liveRegion (x .handle) s) (λ i. sendRegion i to)) (done 0 s)))
+-- 18: of the flags only those may join that a child may add to no rights at all (document 02, request 1)
+unfoldable pub optionsAnswer : SendOptions → Answer
+optionsAnswer options.None = Done 0
+optionsAnswer (options.Flags f) = pick (allowed 0 (f .0)) (Done 0) (Refused badFlag)
 
-unfoldable pub send : Handle → ℕ → ℕ → Tables → Effect
-send h l target s =
+abbrev pub checkOptions : SendOptions → Tables → Effect
+checkOptions o s = record { answer = optionsAnswer o; tables = s }
+
+-- 6, 18, and the region's effective ranges; the flags join its rights
+unfoldable pub sendHeld : Handle → ℕ → SendOptions → Tables → Effect
+sendHeld h to o s =
+    andThen (liveRegion h s) (λ i s₁.
+    andThen (checkOptions o s₁) (λ u s₂.
+    andThen (sendRegion i to s₂) (λ v s₃. done 0 (applyOptions i o s₃))))
+
+-- 4, 10, and for a region 6, 18; by the kinds 0 to 5. For other capabilities the options are ignored.
+unfoldable pub sendCapa : Slot → ℕ → SendOptions → Tables → Effect
+sendCapa x to o s =
+    pick (eqb (x .kind) FREE) (refused noSlot s)
+    (pick (eqb (x .kind) MANAGEMENT) (refused notCarried s) (pick (eqb (x .kind) REGION) (sendHeld (x .handle) to o s) (done 0 s)))
+
+unfoldable pub send : Handle → ℕ → ℕ → SendOptions → Tables → Effect
+send h l target o s =
     andThen (liveDomain h s) (λ d s₁.
     andThen (targetHeld d target s₁) (λ to s₂.
     andThen (reserve to s₂) (λ u s₃.
-    andThen (sendCapa (capaAt s₃ d l) to s₃) (λ v s₄. insert to (capaAt s₃ d l) (withoutCapa s₄ d l)))))
+    andThen (sendCapa (capaAt s₃ d l) to o s₃) (λ v s₄. insert to (capaAt s₃ d l) (withoutCapa s₄ d l)))))
 
 -- 9
 unfoldable pub revokeUnlessRoot : ℕ → Tables → Effect

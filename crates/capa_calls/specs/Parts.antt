@@ -10,11 +10,12 @@ use Rattle.refusals.specs.Refusals.{isRoot}
 use Rattle.answers.specs.Answers.{Effect, refused, andThen}
 use Rattle.slots.specs.Capas.{capaAt, withoutCapa}
 use Rattle.domain.specs.Activate.{reserve, insert}
+use Rattle.segment.specs.declared.SendOptions.{SendOptions}
 use Rattle.checks.specs.Checks.{liveDomain, liveRegion, regionHeld, targetHeld, capaOf}
 use Rattle.capa_calls.specs.Calls.{sendCapa, send, revokeUnlessRoot, createRevokeCapa}
 
-unfoldable pub passed : ℕ → ℕ → ℕ → Tables → Effect
-passed d l to s = andThen (sendCapa (capaAt s d l) to s) (λ v s₁. insert to (capaAt s d l) (withoutCapa s₁ d l))
+unfoldable pub passed : ℕ → ℕ → ℕ → SendOptions → Tables → Effect
+passed d l to o s = andThen (sendCapa (capaAt s d l) to o s) (λ v s₁. insert to (capaAt s d l) (withoutCapa s₁ d l))
 
 unfoldable pub revokedHeld : Handle → Tables → Effect
 revokedHeld h s = andThen (liveRegion h s) revokeUnlessRoot
@@ -22,10 +23,10 @@ revokedHeld h s = andThen (liveRegion h s) revokeUnlessRoot
 unfoldable pub revoker : ℕ → ℕ → Tables → Effect
 revoker d i s = pick (eqb (regionAt s i .kind) ROOT) (refused isRoot s) (andThen (reserve d s) (λ v s₁. insert d (capaOf «REGION_REVOKE» (s₁ .regionPool) i) s₁))
 
-pub send-is : (h : Handle) (l target : ℕ) (s : Tables)
-    → send h l target s ≡ andThen (liveDomain h s) (λ d s₁. andThen (targetHeld d target s₁) (λ to s₂. andThen (reserve to s₂) (λ u. passed d l to)))
+pub send-is : (h : Handle) (l target : ℕ) (o : SendOptions) (s : Tables)
+    → send h l target o s ≡ andThen (liveDomain h s) (λ d s₁. andThen (targetHeld d target s₁) (λ to s₂. andThen (reserve to s₂) (λ u. passed d l to o)))
 unfolding send passed
-send-is h l target s = refl
+send-is h l target o s = refl
 
 pub revoker-is : (h : Handle) (l : ℕ) (s : Tables) → createRevokeCapa h l s ≡ andThen (liveDomain h s) (λ d s₁. andThen (regionHeld d l s₁) (revoker d))
 unfolding createRevokeCapa revoker

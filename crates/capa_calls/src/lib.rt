@@ -1,21 +1,60 @@
 // Capabilities sent and revoked.
 ghost use mathlib.Core.Path.{_≡_};
 ghost use Rattle.tables.specs.View.{view, Sized, Left};
-ghost use Rattle.capa_calls.specs.Calls.{sendCapa, send, revokeUnlessRoot, revokeCapa, revokeLocal, createRevokeCapa};
+ghost use Rattle.capa_calls.specs.Calls.{optionsAnswer, sendHeld, sendCapa, send, revokeUnlessRoot, revokeCapa, revokeLocal, createRevokeCapa};
 ghost use Rattle.capa_calls.specs.Parts.{passed, revokedHeld, revoker};
 use answers::Answer;
 use refusals::Refusal;
+use rights::Rights;
+use segment::SendOptions;
 use tables::Handle;
 use tables::RegionCapa;
 use tables::Slot;
 
 // ---- Send
 
-// 4, 10, 6, and for a region its effective ranges.
-fn send_capa(t: &mut [u64], x: Slot, to: usize) -> Answer
+// 18: a flag other than HASH, CLEANUP or VITAL (document 02, request 1), which are what a child may add to no rights.
+fn check_options(o: SendOptions) -> Answer
+    ensures { λ r. ⌜ r ≡ optionsAnswer o ⌝ }
+{
+    match o {
+        SendOptions::None => Answer::Done(0),
+        SendOptions::Flags(flags) => {
+            if Rights::NONE.allows(flags) {
+                Answer::Done(0)
+            } else {
+                Answer::Refused(Refusal::BAD_FLAG)
+            }
+        }
+    }
+}
+
+// 6, 18, and the region's effective ranges; the flags join its rights.
+fn send_held(t: &mut [u64], h: Handle, to: usize, o: SendOptions) -> Answer
     requires { ⌜ Sized (now t) ⌝ }
-    ensures { λ r. ⌜ r ≡ sendCapa x to (view (now (t .entry))) .answer ⌝ }
-    ensures { λ _. ⌜ Left (now (t .exit)) (sendCapa x to (view (now (t .entry))) .tables) ⌝ }
+    ensures { λ r. ⌜ r ≡ sendHeld h to o (view (now (t .entry))) .answer ⌝ }
+    ensures { λ _. ⌜ Left (now (t .exit)) (sendHeld h to o (view (now (t .entry))) .tables) ⌝ }
+{
+    match checks::live_region(t, h) {
+        Answer::Done(i) => match check_options(o) {
+            Answer::Done(u) => match segment::send_region(t, i as usize, to) {
+                Answer::Done(v) => {
+                    segment::apply_options(t, i as usize, o);
+                    Answer::Done(0)
+                }
+                Answer::Refused(r) => Answer::Refused(r),
+            },
+            Answer::Refused(r) => Answer::Refused(r),
+        },
+        Answer::Refused(r) => Answer::Refused(r),
+    }
+}
+
+// 4, 10, and for a region 6, 18; for other capabilities the options are ignored.
+fn send_capa(t: &mut [u64], x: Slot, to: usize, o: SendOptions) -> Answer
+    requires { ⌜ Sized (now t) ⌝ }
+    ensures { λ r. ⌜ r ≡ sendCapa x to o (view (now (t .entry))) .answer ⌝ }
+    ensures { λ _. ⌜ Left (now (t .exit)) (sendCapa x to o (view (now (t .entry))) .tables) ⌝ }
 {
     let handle = x.handle;
     if x.kind == Slot::FREE {
@@ -25,22 +64,19 @@ fn send_capa(t: &mut [u64], x: Slot, to: usize) -> Answer
         return Answer::Refused(Refusal::NOT_CARRIED);
     }
     if x.kind == Slot::REGION {
-        return match checks::live_region(t, handle) {
-            Answer::Done(i) => segment::send_region(t, i as usize, to),
-            Answer::Refused(r) => Answer::Refused(r),
-        };
+        return send_held(t, handle, to, o);
     }
     Answer::Done(0)
 }
 
 // What slot l holds is read after the target's list was swept, which may be the same list.
-fn pass(t: &mut [u64], d: usize, l: usize, to: usize) -> Answer
+fn pass(t: &mut [u64], d: usize, l: usize, to: usize, o: SendOptions) -> Answer
     requires { ⌜ Sized (now t) ⌝ }
-    ensures { λ r. ⌜ r ≡ passed d l to (view (now (t .entry))) .answer ⌝ }
-    ensures { λ _. ⌜ Left (now (t .exit)) (passed d l to (view (now (t .entry))) .tables) ⌝ }
+    ensures { λ r. ⌜ r ≡ passed d l to o (view (now (t .entry))) .answer ⌝ }
+    ensures { λ _. ⌜ Left (now (t .exit)) (passed d l to o (view (now (t .entry))) .tables) ⌝ }
 {
     let x = slots::capa_at(t, d, l);
-    match send_capa(t, x, to) {
+    match send_capa(t, x, to, o) {
         Answer::Done(v) => {
             slots::remove_capa(t, d, l);
             domain::insert(t, to, x)
@@ -49,15 +85,15 @@ fn pass(t: &mut [u64], d: usize, l: usize, to: usize) -> Answer
     }
 }
 
-pub fn send(t: &mut [u64], h: Handle, l: usize, target: usize) -> Answer
+pub fn send(t: &mut [u64], h: Handle, l: usize, target: usize, o: SendOptions) -> Answer
     requires { ⌜ Sized (now t) ⌝ }
-    ensures { λ r. ⌜ r ≡ send h l target (view (now (t .entry))) .answer ⌝ }
-    ensures { λ _. ⌜ Left (now (t .exit)) (send h l target (view (now (t .entry))) .tables) ⌝ }
+    ensures { λ r. ⌜ r ≡ send h l target o (view (now (t .entry))) .answer ⌝ }
+    ensures { λ _. ⌜ Left (now (t .exit)) (send h l target o (view (now (t .entry))) .tables) ⌝ }
 {
     match checks::live_domain(t, h) {
         Answer::Done(d) => match checks::target_held(t, d as usize, target) {
             Answer::Done(to) => match domain::reserve(t, to as usize) {
-                Answer::Done(u) => pass(t, d as usize, l, to as usize),
+                Answer::Done(u) => pass(t, d as usize, l, to as usize, o),
                 Answer::Refused(r) => Answer::Refused(r),
             },
             Answer::Refused(r) => Answer::Refused(r),
