@@ -15,6 +15,6 @@ stepOf (SetCoreMap h cores) s = setCoreMap h cores s
 stepOf (Root h a) s = createRootRegion h a s
 stepOf (Alias x) s = aliasRegion (x .domain) (x .local) (x .access) s
 stepOf (Carve x) s = carveRegion (x .domain) (x .local) (x .access) s
-stepOf (Send h l target) s = send h l target s
+stepOf (Send h l target o) s = send h l target o s
 stepOf (Revoke h l) s = revokeLocal h l s
 stepOf (CreateRevokeCapa h l) s = createRevokeCapa h l s

@@ -4,6 +4,7 @@ ghost use Rattle.tables.specs.View.{view, Sized, Left};
 ghost use Rattle.calls.specs.Steps.{stepOf};
 use answers::Answer;
 use region::AccessRights;
+use segment::SendOptions;
 use tables::Handle;
 
 // A part of the region in `local`, with its range and rights.
@@ -22,7 +23,7 @@ pub enum Call {
     Root(Handle, AccessRights),
     Alias(Child),
     Carve(Child),
-    Send(Handle, usize, usize),
+    Send(Handle, usize, usize, SendOptions),
     Revoke(Handle, usize),
     CreateRevokeCapa(Handle, usize),
 }
@@ -41,7 +42,7 @@ pub fn step(t: &mut [u64], call: Call) -> Answer
         Call::Root(h, a) => region_calls::create_root_region(t, h, a),
         Call::Alias(x) => region_calls::alias_region(t, x.domain, x.local, x.access),
         Call::Carve(x) => region_calls::carve_region(t, x.domain, x.local, x.access),
-        Call::Send(h, local, target) => capa_calls::send(t, h, local, target),
+        Call::Send(h, local, target, o) => capa_calls::send(t, h, local, target, o),
         Call::Revoke(h, local) => capa_calls::revoke(t, h, local),
         Call::CreateRevokeCapa(h, local) => capa_calls::create_revoke_capa(t, h, local),
     }
