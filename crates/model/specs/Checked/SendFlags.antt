@@ -1,7 +1,7 @@
 -- Cases of our own for a send with a flag word (document 02, request 1). One table, proved by one theorem.
 use mathlib.Core.Path.{_≡_, refl}
 use Prim.Native.Nat.{ℕ}
-use mathlib.Core.Option.{some}
+use mathlib.Core.Option.{none, some}
 use mathlib.Core.List.{List, [], _∷_, _++_, map}
 use Rattle.refusals.specs.Refusals.{stale, notCarried, badFlag}
 use Rattle.model.specs.State.{Sizes, cleanup, regionAt}
