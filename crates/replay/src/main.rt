@@ -6,6 +6,7 @@ use calls::Call;
 use calls::Child;
 use region::AccessRights;
 use rights::Rights;
+use segment::SendOptions;
 use sizes::MOST_WORDS;
 use sizes::Sizes;
 use tables::Handle;
@@ -56,7 +57,7 @@ fn call_of(c: Request) -> Call {
         2 => Call::Root(h, access(c.c, c.d, c.e)),
         3 => Call::Alias(child(h, c)),
         4 => Call::Carve(child(h, c)),
-        5 => Call::Send(h, c.c as usize, c.d as usize),
+        5 => Call::Send(h, c.c as usize, c.d as usize, SendOptions::None),
         6 => Call::Revoke(h, c.c as usize),
         7 => Call::CreateRevokeCapa(h, c.c as usize),
         8 => Call::Channel(h, handle(c.c, c.d)),
