@@ -6,11 +6,10 @@ use std::process::{Command, Stdio};
 use std::thread;
 
 use shared::calls::{show, Answer, Call, Extras, PoolName, Reply, Sizes, Update};
-use shared::lists::parse;
-
 use shared::tables::Tables;
 
 use crate::compare::{changes, list_seed, shorten};
+use crate::fixed::lists;
 use crate::judge::Judge;
 use crate::met::Met;
 use crate::random::{self, Random, Style};
@@ -240,17 +239,8 @@ fn print_list(program: &str, list: Vec<Call>) -> Result<bool, String> {
 /// The lists of a sample that have this build's sizes.
 pub fn sample(program: &str, file: &str) -> Result<bool, String> {
     let text = std::fs::read_to_string(file).map_err(|e| format!("{file}: {e}"))?;
-    let own = format!("sizes {}", engine::utils::mirror::sizes());
-    let mut lists: Vec<Vec<Call>> = Vec::new();
-    let mut wanted = false;
-    for (k, stored) in text.lines().enumerate() {
-        if stored.starts_with("sizes ") {
-            wanted = stored == own;
-            lists.push(Vec::new());
-        } else if let (true, Some(call)) = (wanted, parse(stored).map_err(|e| format!("{file}: line {}: {e}", k + 1))?) {
-            lists.last_mut().expect("a list has begun").push(call);
-        }
-    }
+    let lists = lists(&text).map_err(|e| format!("{file}: {e}"))?;
+    let lists: Vec<Vec<Call>> = lists.iter().map(|list| list.iter().map(|stored| stored.call).collect()).collect();
     let calls: usize = lists.iter().map(Vec::len).sum();
     for list in lists {
         if differs(program, &list)?.is_some() {
