@@ -31,6 +31,18 @@ pub struct Access {
 #[derive(Clone, Copy, PartialEq, Eq)]
 pub struct RegionHash(pub [u8; 32]);
 
+impl RegionHash {
+    /// Byte 8k + j stands in bits 8j to 8j + 7 of word k.
+    pub fn words(&self) -> [u64; 4] {
+        let (words, _) = self.0.as_chunks();
+        std::array::from_fn(|k| u64::from_le_bytes(words[k]))
+    }
+
+    pub fn of_words(words: [u64; 4]) -> RegionHash {
+        RegionHash(std::array::from_fn(|k| words[k / 8].to_le_bytes()[k % 8]))
+    }
+}
+
 /// What a send may say besides (document 02, request 1): a flag word, and a hash.
 #[derive(Clone, Copy, PartialEq, Eq, Debug)]
 pub struct Extras {

@@ -85,10 +85,7 @@ fn random_list(seed: u64, length: usize, fault: Option<Fault>, totals: &mut Tota
     run(fault, totals, |k, tables| match presets.get(k) {
         _ if k >= length => None,
         Some(preset) => Some(*preset),
-        None => {
-            let call = random::call(&mut random, &style, tables);
-            Some(random::with_extras(&mut random, call))
-        }
+        None => Some(random::call(&mut random, &style, tables)),
     })
 }
 

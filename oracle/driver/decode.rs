@@ -1,6 +1,6 @@
 //! Tables from words, whatever they are: the way back from `Tables::words` (docs/TABLES.md).
 
-use crate::calls::{Handle, Sizes, Update};
+use crate::calls::{Handle, RegionHash, Sizes, Update};
 use crate::tables::{Capa, Domain, Kind, Pool, Record, Region, Tables};
 
 /// The limits of the five sizes.
@@ -9,7 +9,13 @@ pub const LIMITS: [u64; 5] = [32, 128, 1024, 1024, 128];
 /// How many words tables of these sizes have.
 pub fn total(z: &Sizes) -> usize {
     let pools = (2 + 2 * z.domains) + (2 + 2 * z.regions) + (2 + 2 * z.records);
-    7 + pools + z.domains * (5 + 3 * z.slots) + 8 * z.regions + 9 * z.records + 4 * (z.updates + 1)
+    7 + pools + z.domains * (5 + 3 * z.slots) + 8 * z.regions + 9 * z.records + 4 * (z.updates + 1) + 5 * z.regions
+}
+
+/// The same words with no hash in any row of the hashes, which stand last; none where they have no sizes or another length.
+pub fn without_hashes(words: &[u64]) -> Option<Vec<u64>> {
+    let rows = words.len() - 5 * sizes(words)?.regions;
+    Some(words.iter().enumerate().map(|(k, &word)| if k < rows { word } else { 0 }).collect())
 }
 
 /// The tables whose words these are; none where a size is outside its limits, the length is another, or a word means nothing there.
@@ -19,11 +25,15 @@ pub fn decode(words: &[u64]) -> Option<Tables> {
     let (read, write) = (w.one(), w.one());
     let (domain_pool, region_pool, record_pool) = (w.pool(sizes.domains), w.pool(sizes.regions), w.pool(sizes.records));
     let domains = entries(&domain_pool, w.take(sizes.domains * (5 + 3 * sizes.slots)), 5 + 3 * sizes.slots, domain)?;
-    let regions = entries(&region_pool, w.take(sizes.regions * 8), 8, region)?;
+    let mut regions = entries(&region_pool, w.take(sizes.regions * 8), 8, region)?;
     let records = entries(&record_pool, w.take(sizes.records * 9), 9, record)?;
-    let places = w.0.chunks(4).map(place).collect::<Option<Vec<_>>>()?;
+    let places = w.take((sizes.updates + 1) * 4).chunks(4).map(place).collect::<Option<Vec<_>>>()?;
+    for (region, row) in regions.iter_mut().zip(w.0.chunks(5)) {
+        let hash = hash(row)?;
+        region.iter_mut().for_each(|r| r.hash = hash);
+    }
     let tables = Tables { sizes, domain_pool, region_pool, record_pool, domains, regions, records, read, write, places };
-    // What is not settled above must be 0: the words of a free entry, of an empty place, and the like.
+    // What is not settled above must be 0: the words of a free entry, of an empty place, of a hash that is not there, and the like.
     (tables.words() == words).then_some(tables)
 }
 
@@ -99,6 +109,15 @@ fn region(w: &[u64]) -> Option<Region> {
     };
     let (owner, rights) = (link(w[1])?, u8::try_from(w[5]).ok()?);
     Some(Region { owner, kind, start: w[3], end: w[4], rights, first_child: link(w[6]), next_sibling: link(w[7]), hash: None })
+}
+
+/// A row of the hashes; the outer none: nothing that a row can hold.
+fn hash(w: &[u64]) -> Option<Option<RegionHash>> {
+    match w[0] {
+        0 => Some(None),
+        1 => Some(Some(RegionHash::of_words([w[1], w[2], w[3], w[4]]))),
+        _ => None,
+    }
 }
 
 fn record(w: &[u64]) -> Option<Record> {

@@ -1,6 +1,6 @@
 //! Random scripts: calls as `random` draws them, the same damaged in one place, and bytes that are no script.
 
-use shared::calls::Call;
+use shared::calls::{Call, Extras};
 use shared::records::{encode, record, NO_MANAGER};
 
 use crate::judge::Judge;
@@ -34,6 +34,8 @@ fn records(random: &mut Random) -> Vec<Vec<u8>> {
         let call = match random::call(random, &style, &tables) {
             // A Management capability would take a slot that a region can have.
             Call::Open { cores, .. } if filling => Call::Open { manager: None, cores },
+            // A script's send has neither flags nor a hash.
+            Call::Send { domain, local, target, .. } => Call::Send { domain, local, target, extras: Extras::NONE },
             call => call,
         };
         // A script has seven of the calls only.

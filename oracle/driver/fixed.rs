@@ -1,4 +1,4 @@
-//! Fixed lists of calls with their answers, on the Rust and on the reference.
+//! Fixed lists of calls: those of a file, and such with their answers on the Rust and on the reference.
 
 use shared::calls::{hash_word, show, Call};
 use shared::lists::parse;
@@ -8,10 +8,10 @@ use crate::compare::differs;
 use crate::judge::Judge;
 
 /// A call as it stands in a file, with its line there.
-struct Stored<'a> {
+pub struct Stored<'a> {
     line: usize,
     text: &'a str,
-    call: Call,
+    pub call: Call,
 }
 
 impl Stored<'_> {
@@ -28,13 +28,13 @@ impl Stored<'_> {
 }
 
 /// The lists of a text that have this build's sizes.
-fn lists(text: &str) -> Result<Vec<Vec<Stored<'_>>>, String> {
+pub fn lists(text: &str) -> Result<Vec<Vec<Stored<'_>>>, String> {
     let own = format!("sizes {}", engine::utils::mirror::sizes());
     let (mut lists, mut wanted) = (Vec::new(), false);
     for (k, text) in text.lines().enumerate() {
         if text.starts_with("sizes ") {
             wanted = text == own;
-            lists.push(Vec::new());
+            lists.extend(wanted.then(Vec::new));
         } else if let (true, Some(call)) = (wanted, parse(text).map_err(|e| format!("line {}: {e}", k + 1))?) {
             lists.last_mut().expect("a list has begun").push(Stored { line: k + 1, text, call });
         }

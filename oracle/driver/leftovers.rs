@@ -55,7 +55,6 @@ pub fn print(seed: u64, calls: u64, length: usize) -> bool {
         let mut list = Vec::new();
         for _ in 0..length {
             let call = presets.next().unwrap_or_else(|| random::call(&mut random, &style, &judge.tables()));
-            let call = random::with_extras(&mut random, call);
             list.push(call);
             let Some(way) = way(&mut judge, &call) else { continue };
             let kept = lists.entry(way).or_default();

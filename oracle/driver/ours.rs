@@ -6,11 +6,10 @@ use std::process::{Command, Stdio};
 use std::thread;
 
 use shared::calls::{show, Answer, Call, Extras, PoolName, Reply, Sizes, Update};
-use shared::lists::parse;
-
 use shared::tables::Tables;
 
 use crate::compare::{changes, list_seed, shorten};
+use crate::fixed::lists;
 use crate::judge::Judge;
 use crate::met::Met;
 use crate::random::{self, Random, Style};
@@ -18,9 +17,11 @@ use crate::random::{self, Random, Style};
 /// So many calls are written to one process, or a list more.
 const BATCH: usize = 20_000;
 
-/// A call as eight words (oracle/README.md, "Replay").
-fn words(call: &Call, sizes: &Sizes) -> [u64; 8] {
-    let mut out = [0; 8];
+/// A call as `replay` reads it (oracle/README.md, "Replay").
+type Words = [u64; 11];
+
+fn words(call: &Call, sizes: &Sizes) -> Words {
+    let mut out = [0; 11];
     let mut put = |kind: u64, rest: &[u64]| {
         out[0] = kind;
         out[1..=rest.len()].copy_from_slice(rest);
@@ -31,8 +32,7 @@ fn words(call: &Call, sizes: &Sizes) -> [u64; 8] {
         Call::Root { domain: d, access: a } => put(2, &[d.slot, d.gen, a.start, a.end, a.rights as u64]),
         Call::Alias { domain: d, local, access: a } => put(3, &[d.slot, d.gen, local, a.start, a.end, a.rights as u64]),
         Call::Carve { domain: d, local, access: a } => put(4, &[d.slot, d.gen, local, a.start, a.end, a.rights as u64]),
-        Call::Send { domain: d, local, target, extras: Extras::NONE } => put(5, &[d.slot, d.gen, local, target]),
-        Call::Send { .. } => unreachable!("no call of `replay`"),
+        Call::Send { domain: d, local, target, extras } => put(5, &[&[d.slot, d.gen, local, target], &options(extras)[..]].concat()),
         Call::Revoke { domain: d, local } => put(6, &[d.slot, d.gen, local]),
         Call::RegionRevoke { domain: d, local } => put(7, &[d.slot, d.gen, local]),
         Call::Channel { domain: d, to } => put(8, &[d.slot, d.gen, to.slot, to.gen]),
@@ -45,6 +45,13 @@ fn words(call: &Call, sizes: &Sizes) -> [u64; 8] {
         Call::Generation { pool, slot, gen } => put(15, &[generations_at(pool, sizes) + slot, gen]),
     }
     out
+}
+
+/// A send's options: which there are, the flag word, the words of the hash. A hash without a flag word is none.
+fn options(extras: Extras) -> [u64; 6] {
+    let Some(flags) = extras.flags else { return [0; 6] };
+    let [a, b, c, d] = extras.hash.map_or([0; 4], |hash| hash.words());
+    [1 + u64::from(extras.hash.is_some()), flags.into(), a, b, c, d]
 }
 
 /// The word of the tables where a pool's generations begin (docs/TABLES.md).
@@ -117,7 +124,7 @@ impl Expected {
         Expected { sizes: engine::utils::mirror::sizes(), input: Vec::new(), lines: String::new() }
     }
 
-    fn add(&mut self, words: [u64; 8], numbers: &[u64], hash: u64) {
+    fn add(&mut self, words: Words, numbers: &[u64], hash: u64) {
         self.input.extend(words.iter().flat_map(|w| w.to_le_bytes()));
         for n in numbers.iter().chain([&hash]) {
             write!(self.lines, "{n} ").expect("a string takes all");
@@ -130,7 +137,7 @@ impl Expected {
         let side = Side::new();
         let z = self.sizes;
         let z = [z.domains, z.slots, z.regions, z.records, z.updates].map(|n| n as u64);
-        self.add([16, z[0], z[1], z[2], z[3], z[4], 0, 0], &[0], side.hash);
+        self.add([16, z[0], z[1], z[2], z[3], z[4], 0, 0, 0, 0, 0], &[0], side.hash);
         side
     }
 
@@ -229,28 +236,11 @@ fn print_list(program: &str, list: Vec<Call>) -> Result<bool, String> {
     Ok(false)
 }
 
-/// A call that the proved engine has: document 02's request 1 is not among them yet.
-fn offered(call: Option<Call>) -> Result<Option<Call>, String> {
-    match call {
-        Some(Call::Send { extras, .. }) if extras != Extras::NONE => Err("the proved engine has no send with flags or a hash yet".to_string()),
-        _ => Ok(call),
-    }
-}
-
 /// The lists of a sample that have this build's sizes.
 pub fn sample(program: &str, file: &str) -> Result<bool, String> {
     let text = std::fs::read_to_string(file).map_err(|e| format!("{file}: {e}"))?;
-    let own = format!("sizes {}", engine::utils::mirror::sizes());
-    let mut lists: Vec<Vec<Call>> = Vec::new();
-    let mut wanted = false;
-    for (k, stored) in text.lines().enumerate() {
-        if stored.starts_with("sizes ") {
-            wanted = stored == own;
-            lists.push(Vec::new());
-        } else if let (true, Some(call)) = (wanted, parse(stored).and_then(offered).map_err(|e| format!("{file}: line {}: {e}", k + 1))?) {
-            lists.last_mut().expect("a list has begun").push(call);
-        }
-    }
+    let lists = lists(&text).map_err(|e| format!("{file}: {e}"))?;
+    let lists: Vec<Vec<Call>> = lists.iter().map(|list| list.iter().map(|stored| stored.call).collect()).collect();
     let calls: usize = lists.iter().map(Vec::len).sum();
     for list in lists {
         if differs(program, &list)?.is_some() {

@@ -141,7 +141,7 @@ pub fn call(random: &mut Random, style: &Style, tables: &Tables) -> Call {
         6 => {
             let local = any_local(random, style, tables, domain, |_| true);
             let target = any_local(random, style, tables, domain, |c| needed(kind, c));
-            Call::Send { domain, local, target, extras: Extras::NONE }
+            Call::Send { domain, local, target, extras: extras(random) }
         }
         7 => Call::Revoke { domain, local: any_local(random, style, tables, domain, |c| revocable(tables, c)) },
         8 => Call::RegionRevoke { domain, local: any_local(random, style, tables, domain, |c| needed(kind, c)) },
@@ -150,14 +150,14 @@ pub fn call(random: &mut Random, style: &Style, tables: &Tables) -> Call {
     }
 }
 
-/// The same call; a send with any flag word and hash, or none of them (document 02, request 1). Apart from `call`, as the proved engine has
-/// no such send yet.
-pub fn with_extras(random: &mut Random, call: Call) -> Call {
-    let Call::Send { domain, local, target, .. } = call else { return call };
+/// Any flag word and hash of a send, or none of them (document 02, request 1).
+fn extras(random: &mut Random) -> Extras {
+    if random.one_in(4) {
+        return Extras::NONE;
+    }
     let any = random.next() as u8;
     let flags = random.pick(&[None, Some(0), Some(16), Some(32), Some(48), Some(64), Some(112), Some(any)]);
-    let hash = random.one_in(2).then(|| any_hash(random));
-    Call::Send { domain, local, target, extras: Extras { flags, hash } }
+    Extras { flags, hash: random.one_in(2).then(|| any_hash(random)) }
 }
 
 /// 32 bytes, now and then all zero.

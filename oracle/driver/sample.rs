@@ -6,15 +6,14 @@ use shared::lists::parse;
 use crate::judge::Judge;
 use crate::random::{self, Random, Style};
 
-/// A random list, each call as `vary` leaves it, and what the judge answered. `each` is called after every call.
-fn random_list(random: &mut Random, length: usize, vary: fn(&mut Random, Call) -> Call, mut each: impl FnMut(&Call, &mut Judge, String)) {
+/// A random list, and what the judge answered. `each` is called after every call.
+fn random_list(random: &mut Random, length: usize, mut each: impl FnMut(&Call, &mut Judge, String)) {
     let style = Style::new(random);
     let mut judge = Judge::new();
     let mut tables = judge.tables();
     let mut calls = random::presets(random, &tables.sizes).into_iter();
     for _ in 0..length {
         let call = calls.next().unwrap_or_else(|| random::call(random, &style, &tables));
-        let call = vary(random, call);
         let answer = show(&judge.perform(&call));
         tables = judge.tables();
         each(&call, &mut judge, answer);
@@ -30,7 +29,7 @@ pub fn print(seed: u64, lists: u64, length: usize) -> bool {
     let mut random = Random(seed);
     for _ in 0..lists {
         println!("sizes {}", engine::utils::mirror::sizes());
-        random_list(&mut random, length, |_, call| call, |call, judge, answer| println!("{}", line(call, judge, &answer)));
+        random_list(&mut random, length, |call, judge, answer| println!("{}", line(call, judge, &answer)));
     }
     true
 }
@@ -64,7 +63,7 @@ pub fn mirror(seed: u64, lists: u64) -> bool {
     let mut checked = 0;
     let mut agreed = true;
     for _ in 0..lists {
-        random_list(&mut random, 100, random::with_extras, |_, judge, _| {
+        random_list(&mut random, 100, |_, judge, _| {
             checked += 1;
             agreed &= judge.mirror_agrees();
         });

@@ -1,7 +1,7 @@
 //! Document 01's paragraph **Sound**, tested on tables clause by clause, in plain loops.
 
 use crate::calls::{Handle, Update};
-use crate::decode::decode;
+use crate::decode::{decode, without_hashes};
 use crate::tables::{Capa, Domain, Kind, Pool, Region, Tables};
 
 /// The first clause that the tables break, if any.
@@ -12,6 +12,7 @@ pub fn broken_clause(t: &Tables) -> Option<&'static str> {
 /// The same of words, whatever they are.
 pub fn fault(words: &[u64]) -> Option<&'static str> {
     match decode(words) {
+        None if without_hashes(words).is_some_and(|w| decode(&w).is_some()) => Some(HASHES),
         None => Some(WORDS),
         Some(tables) => broken_clause(&tables),
     }
@@ -19,9 +20,11 @@ pub fn fault(words: &[u64]) -> Option<&'static str> {
 
 /// What `fault` can name.
 pub fn clauses() -> impl Iterator<Item = &'static str> {
-    CLAUSES.iter().map(|(name, _)| *name).chain([WORDS])
+    CLAUSES.iter().map(|(name, _)| *name).chain([HASHES, WORDS])
 }
 
+/// They are the words of tables but for their rows of hashes.
+const HASHES: &str = "a row of the hashes has 1 and four words, or zeroes; zeroes where no region is";
 const WORDS: &str = "they are the words of tables";
 
 type Clause = (&'static str, fn(&Tables) -> bool);

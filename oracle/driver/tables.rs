@@ -51,7 +51,7 @@ pub struct Region {
     pub rights: u8,
     pub first_child: Option<u64>,
     pub next_sibling: Option<u64>,
-    /// Document 02, request 1. No words yet: the proved engine's tables have none for it.
+    /// Document 02, request 1.
     pub hash: Option<RegionHash>,
 }
 
@@ -115,6 +115,13 @@ fn region_words(region: &Region) -> [u64; 8] {
     [kind, region.owner + 1, link(parent), region.start, region.end, rights, link(region.first_child), link(region.next_sibling)]
 }
 
+/// Whether there is a hash, and its words.
+fn hash_words(hash: Option<RegionHash>) -> [u64; 5] {
+    let Some(hash) = hash else { return [0; 5] };
+    let [a, b, c, d] = hash.words();
+    [1, a, b, c, d]
+}
+
 fn record_words(record: &Record) -> [u64; 9] {
     let c = record.counts;
     [record.start, record.end, c[0], c[1], c[2], c[3], c[4], c[5], link(record.next)]
@@ -145,6 +152,7 @@ impl Tables {
         out.extend(self.regions.iter().flat_map(|r| r.as_ref().map_or([0; 8], region_words)));
         out.extend(self.records.iter().flat_map(|r| r.as_ref().map_or([0; 9], record_words)));
         out.extend(self.places.iter().flat_map(|u| u.as_ref().map_or([0; 4], update_words)));
+        out.extend(self.regions.iter().flat_map(|r| hash_words(r.as_ref().and_then(|r| r.hash))));
         out
     }
 

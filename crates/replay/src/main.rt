@@ -1,5 +1,5 @@
 // Runs calls from standard input on tables of its own, and prints of each call its answer and a hash of the tables' words, a line
-// for each (oracle/README.md, "Replay"). A call is eight 64-bit words, little-endian: its kind, and its arguments.
+// for each (oracle/README.md, "Replay"). A call is eleven 64-bit words, little-endian: its kind, and its arguments.
 ghost use Rattle.tables.specs.View.{Sized};
 use answers::Answer;
 use calls::Call;
@@ -10,6 +10,7 @@ use segment::SendOptions;
 use sizes::MOST_WORDS;
 use sizes::Sizes;
 use tables::Handle;
+use tables::Hash;
 
 pub mod input;
 pub mod output;
@@ -18,7 +19,7 @@ pub const MAKE: u64 = 16;
 
 pub const END: u64 = 17;
 
-// A call as it is read: its kind and its arguments.
+// A call as it is read: its kind and its arguments, the last four of them a send's hash.
 pub struct Request {
     pub kind: u64,
     pub a: u64,
@@ -27,15 +28,34 @@ pub struct Request {
     pub d: u64,
     pub e: u64,
     pub f: u64,
+    pub hash: Hash,
 }
 
 fn handle(slot: u64, generation: u64) -> Handle {
     Handle { slot, generation }
 }
 
+fn rights_of(word: u64) -> Rights {
+    Rights((word % 256) as u8)
+}
+
 fn access(start: u64, end: u64, rights: u64) -> AccessRights {
-    let ops = Rights((rights % 256) as u8);
-    AccessRights { start, end, ops }
+    AccessRights {
+        start,
+        end,
+        ops: rights_of(rights),
+    }
+}
+
+// What a send says besides: nothing, a flag word, or a flag word and a hash.
+fn options(c: Request) -> SendOptions {
+    let given = c.e;
+    let hash = c.hash;
+    match given {
+        0 => SendOptions::None,
+        1 => SendOptions::Flags(rights_of(c.f)),
+        _ => SendOptions::Hashed(rights_of(c.f), hash),
+    }
 }
 
 // The part of the region in local slot c of the domain.
@@ -57,7 +77,7 @@ fn call_of(c: Request) -> Call {
         2 => Call::Root(h, access(c.c, c.d, c.e)),
         3 => Call::Alias(child(h, c)),
         4 => Call::Carve(child(h, c)),
-        5 => Call::Send(h, c.c as usize, c.d as usize, SendOptions::None),
+        5 => Call::Send(h, c.c as usize, c.d as usize, options(c)),
         6 => Call::Revoke(h, c.c as usize),
         7 => Call::CreateRevokeCapa(h, c.c as usize),
         8 => Call::Channel(h, handle(c.c, c.d)),

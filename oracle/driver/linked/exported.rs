@@ -69,6 +69,8 @@ exported! {
     mityvurno_alias_region(domain: u64, generation: u64, local: u64, start: u64, end: u64, rights: u8) -> Reply;
     mityvurno_carve_region(domain: u64, generation: u64, local: u64, start: u64, end: u64, rights: u8) -> Reply;
     mityvurno_send(domain: u64, generation: u64, local: u64, target: u64) -> Reply;
+    mityvurno_send_with_flags(domain: u64, generation: u64, local: u64, target: u64, flags: u8) -> Reply;
+    mityvurno_send_with_hash(domain: u64, generation: u64, local: u64, target: u64, flags: u8, hash: *const [u8; 32]) -> Reply;
     mityvurno_revoke(domain: u64, generation: u64, local: u64) -> Reply;
     mityvurno_create_revoke_capa(domain: u64, generation: u64, local: u64) -> Reply;
     mityvurno_pop() -> UpdateReply;
@@ -104,7 +106,7 @@ pub fn perform(t: &mut [u64], w: &mut [u64], call: &Call, run: &mut [u64]) -> Nu
         Call::Root { domain: d, access: a } => call!(mityvurno_create_root_region, t, w, d.slot, d.gen, a.start, a.end, a.rights),
         Call::Alias { domain: d, local, access: a } => call!(mityvurno_alias_region, t, w, d.slot, d.gen, local, a.start, a.end, a.rights),
         Call::Carve { domain: d, local, access: a } => call!(mityvurno_carve_region, t, w, d.slot, d.gen, local, a.start, a.end, a.rights),
-        Call::Send { domain: d, local, target, extras: Extras::NONE } => call!(mityvurno_send, t, w, d.slot, d.gen, local, target),
+        Call::Send { domain: d, local, target, extras } => send(t, w, [d.slot, d.gen, local, target], extras),
         Call::Revoke { domain: d, local } => call!(mityvurno_revoke, t, w, d.slot, d.gen, local),
         Call::RegionRevoke { domain: d, local } => call!(mityvurno_create_revoke_capa, t, w, d.slot, d.gen, local),
         Call::Pop => call!(mityvurno_pop, t, w),
@@ -112,6 +114,15 @@ pub fn perform(t: &mut [u64], w: &mut [u64], call: &Call, run: &mut [u64]) -> Nu
         Call::CoreMap { domain: d } => call!(mityvurno_core_map, t, w, d.slot, d.gen),
         Call::Holders { address } => call!(mityvurno_holders, t, w, address, start(run), run.len()),
         Call::Permissions { domain: d } => call!(mityvurno_permissions, t, w, d.slot, d.gen, start(run), run.len() / 3),
-        Call::Generation { .. } | Call::Send { .. } => unreachable!("no exported call"),
+        Call::Generation { .. } => unreachable!("no exported call"),
+    }
+}
+
+/// The send for what is given besides: a hash without a flag word is none.
+fn send(t: &mut [u64], w: &mut [u64], [d, gen, local, target]: [u64; 4], extras: Extras) -> Numbers {
+    match extras {
+        Extras { flags: None, .. } => call!(mityvurno_send, t, w, d, gen, local, target),
+        Extras { flags: Some(flags), hash: None } => call!(mityvurno_send_with_flags, t, w, d, gen, local, target, flags),
+        Extras { flags: Some(flags), hash: Some(hash) } => call!(mityvurno_send_with_hash, t, w, d, gen, local, target, flags, &hash.0),
     }
 }

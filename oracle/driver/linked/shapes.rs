@@ -1,6 +1,6 @@
 //! Sound tables of many shapes, made by random lists of calls, and ways to damage them.
 
-use shared::calls::{Access, Call, Extras, Handle};
+use shared::calls::{Access, Call, Extras, Handle, RegionHash};
 use shared::decode::decode;
 use shared::tables::Tables;
 
@@ -77,6 +77,15 @@ pub fn several(random: &mut Random, words: &[u64]) -> Edits {
     pairs.flat_map(|(i, j)| [(i, words[j]), (j, words[i])]).collect()
 }
 
+/// A row of the hashes, which stand last: a hash, none, and rows that are neither. A free slot's has to be zero.
+pub fn hash_row(random: &mut Random, shape: &Shape) -> Edits {
+    let regions = engine::utils::mirror::sizes().regions as u64;
+    let row = shape.words.len() - 5 * (1 + random.below(regions) as usize);
+    let [given, word] = random.pick(&[[0, 0], [1, 0], [1, 9], [0, 9], [2, 0], [2, 9], [u64::MAX, 9]]);
+    let set = 1 + random.below(4) as usize;
+    [(row, given)].into_iter().chain((1..5).map(|k| (row + k, if k == set { word } else { 0 }))).collect()
+}
+
 /// The exported calls in turn, on a domain that is live, if any is.
 pub fn turn(random: &mut Random, number: u64, tables: &Tables) -> Call {
     let live: Vec<usize> = (0..tables.domains.len()).filter(|&d| tables.domains[d].is_some()).collect();
@@ -84,7 +93,9 @@ pub fn turn(random: &mut Random, number: u64, tables: &Tables) -> Call {
     let domain = Handle { slot: slot as u64, gen: tables.domain_pool.gens[slot] };
     let (local, target) = (random.below(tables.sizes.slots as u64), random.below(tables.sizes.slots as u64));
     let access = Access { start: random.below(8), end: random.below(20), rights: random.pick(&[1, 3, 33]) };
-    match number % 15 {
+    let flags = Some(random.pick(&[0, 16, 32, 64, 3]));
+    let send = |extras| Call::Send { domain, local, target, extras };
+    match number % 17 {
         0 => Call::Pop,
         1 => Call::Open { manager: None, cores: 1 },
         2 => Call::Open { manager: Some(domain), cores: 2 },
@@ -93,12 +104,14 @@ pub fn turn(random: &mut Random, number: u64, tables: &Tables) -> Call {
         5 => Call::Root { domain, access },
         6 => Call::Alias { domain, local, access },
         7 => Call::Carve { domain, local, access },
-        8 => Call::Send { domain, local, target, extras: Extras::NONE },
+        8 => send(Extras::NONE),
         9 => Call::Revoke { domain, local },
         10 => Call::RegionRevoke { domain, local },
         11 => Call::CoreMap { domain },
         12 => Call::Permissions { domain },
         13 => Call::Refcount { domain, start: access.start, end: access.end },
-        _ => Call::Holders { address: access.start },
+        14 => Call::Holders { address: access.start },
+        15 => send(Extras { flags, hash: None }),
+        _ => send(Extras { flags, hash: Some(RegionHash([7; 32])) }),
     }
 }
