@@ -43,18 +43,18 @@ use Rattle.refine.specs.Calls.SendOptions.{optionsIn, check-options-refi
 
 -- a region that is sent, and the options applied to it
 module _ (s : State) (whole : Whole s) (o : SendOptions) (to : ℕ) (live : Live s to) (i : ℕ) (g : Region) (e : In (s .regions) i g) where
-  abbrev sentWith : Outcome State
-  sentWith = regions.sendRegion i to s >>= λ t. ok (regions.applyOptions i o t)
+  abbrev sendsOn : Outcome State
+  sendsOn = regions.sendRegion i to s >>= λ t. ok (regions.applyOptions i o t)
 
-  sent-with : Agrees (andThen (sendRegion i to (tablesOf s)) (λ v t. done 0 (applyOptions i (optionsIn o) t))) (plain sentWith)
+  sent-with : Agrees (andThen (sendRegion i to (tablesOf s)) (λ v t. done 0 (applyOptions i (optionsIn o) t))) (plain sendsOn)
   sent-with =
       let (z, at) = live-is (atSlot (s .domains) to) live in
       agrees-call _ _ _ (bind-assoc (regions.sendRegion i to s) _ _)
       (agrees-on _ _ (regions.sendRegion i to s) (λ t. (0, t)) _ (send-region-refines s whole i g e to live) (send-whole s whole i g e to z at) (λ t (k, b, m).
       agrees-call _ _ _ (ok-then _ _) (agrees-done 0 _ _ (apply-options-is t (k .1 .regions .size) i _ m (k .0 .regions i _ m .rightsByte) o))))
 
-  pub sent-checked : Agrees (andThen (checkOptions (optionsIn o) (tablesOf s)) (λ u t. andThen (sendRegion i to t) (λ v t₁. done 0 (applyOptions i (optionsIn o) t₁)))) (plain (model.checkOptions o >> sentWith))
-  sent-checked = agrees-call _ _ _ (then-bind (model.checkOptions o) sentWith _) (check-options-refines (tablesOf s) _ _ sent-with o)
+  pub sent-checked : Agrees (andThen (checkOptions (optionsIn o) (tablesOf s)) (λ u t. andThen (sendRegion i to t) (λ v t₁. done 0 (applyOptions i (optionsIn o) t₁)))) (plain (model.checkOptions o >> sendsOn))
+  sent-checked = agrees-call _ _ _ (then-bind (model.checkOptions o) sendsOn _) (check-options-refines (tablesOf s) _ _ sent-with o)
 
 module _ (s : State) (whole : Whole s) (o : SendOptions) where
   -- behind the test of a free slot
