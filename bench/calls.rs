@@ -11,10 +11,10 @@ mod timing;
 use std::hint::black_box;
 
 use engine::utils::{calls, mirror};
-use engine::{CapaEngine, LocalCapa};
-use shared::calls::{Access, Call, Handle};
+use engine::{CapaEngine, LocalCapa, MemOps};
+use shared::calls::{Access, Call, Extras, Handle};
 
-use full::{aliased, carved, domain, in_use, read_write, room, roots};
+use full::{aliased, carved, domain, in_use, own_channel, read_write, room, roots};
 use table::{timed, words};
 
 const FIRST: Handle = Handle { slot: 0, gen: 0 };
@@ -65,6 +65,10 @@ impl Rows {
             e.revoke(d, local).unwrap();
         };
         self.row("alias and revoke, two calls; roots", room, ours, rust);
+        let own = mirror::sizes().regions / mirror::sizes().domains - 2;
+        let send = Call::Send { domain: FIRST, local: 0, target: own as u64, extras: Extras { flags: Some(32), hash: None } };
+        let flagged = |e: &mut CapaEngine| _ = e.send_with_flags(d, root, LocalCapa::new(own), Some(MemOps::CLEANUP), None).unwrap();
+        self.row("send to itself with flags; roots", own_channel, |t| _ = lent(t, w, &send, 0), flagged);
     }
 }
 

@@ -50,6 +50,12 @@ pub fn room(e: &mut CapaEngine) {
     roots_but(e, 1);
 }
 
+/// The same with two roots fewer in domain 0, and a channel to itself behind the others.
+pub fn own_channel(e: &mut CapaEngine) {
+    roots_but(e, mirror::sizes().domains + 1);
+    calls::channel(e, domain(0), domain(0)).unwrap();
+}
+
 /// Domain 0 has a channel to each of the next n domains, in local 0 up, and a root behind them.
 fn one_root(e: &mut CapaEngine, n: usize) -> LocalCapa {
     open_all(e);
