@@ -45,11 +45,16 @@ pub fn send_with_flags(
         slot: domain,
         generation,
     };
-    let options = SendOptions::Flags(Rights(flags));
+    let flags = Rights(flags);
     frame::run(
         t,
         w,
-        calls::Call::Send(domain, local as usize, target as usize, options),
+        calls::Call::Send(
+            domain,
+            local as usize,
+            target as usize,
+            SendOptions::Flags(flags),
+        ),
     )
 }
 
