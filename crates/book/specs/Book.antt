@@ -142,6 +142,7 @@ unfoldable pub ownedBy : ℕ → ℕ → Book → Book
 ownedBy d k b = let r = noted (b .regions) k in withNoted (set (b .regions) k (record { kind = r .kind; owner = d; start = r .start; end = r .end; rights = r .rights; alive = r .alive })) b
 
 -- Document 02, request 1: "With a flag word given for a region, the flags join the region's rights, in demand 3's book too": those of the region at place k.
+-- Hashes are not noted: no claim is about them.
 unfoldable pub flagged : SendOptions → ℕ → Book → Book
 flagged o k b = elim (o .flags) [
   | none ↦ b

@@ -53,7 +53,7 @@ unfolding noting
 after-revoke = refl
 
 -- A sends the alias, too, with CLEANUP: it is B's, and its rights are 3 and 32.
-after-flags : bookAfter (sizes 2 4) (example ++ (Call.Do (Step.Send (dom 0) 3 0 (record { flags = some 32 })) ∷ []))
+after-flags : bookAfter (sizes 2 4) (example ++ (Call.Do (Step.Send (dom 0) 3 0 (record { flags = some 32; hash = none })) ∷ []))
     ≡ record {
       sizes = sizes 2 4;
       regions = reg Root 0 0 16 3 true ∷ reg (Carve 0) 1 4 8 1 true ∷ reg (Alias 0) 1 0 4 35 true ∷ [];

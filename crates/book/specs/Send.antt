@@ -106,12 +106,12 @@ module _ (b : Book) (s : State) (at : ℕ → Handle) (place : ℕ → ℕ) (k :
   unfolding ownedBy
   own-match to = let h = m .regions .stored k u lives in region-match _ _ refl refl (record { kind = h .kind; owner = refl; start = h .start; end = h .end; rights = h .rights })
 
-  -- the flags join its rights
+  -- the flags join its rights; its hash is not noted
   pub options-match : (o : SendOptions) → MatchesAt (flagged o k b) (applyOptions (at k .slot) o s) at place
   unfolding flagged applyOptions
   options-match o = go (o .flags)
     where
-      go : (x : Option ℕ) → MatchesAt (flagged (record { flags = x }) k b) (applyOptions (at k .slot) (record { flags = x }) s) at place
+      go : (x : Option ℕ) → MatchesAt (flagged (record { flags = x; hash = o .hash }) k b) (applyOptions (at k .slot) (record { flags = x; hash = o .hash }) s) at place
       go none = m
       go (some f) = let h = m .regions .stored k u lives in region-match _ _ refl refl (record { kind = h .kind; owner = h .owner; start = h .start; end = h .end; rights = ap (λ n. union n f) (h .rights) })
 
@@ -150,7 +150,7 @@ options-live : (i : ℕ) (o : SendOptions) (t : State) (h : Handle) → isLive (
 unfolding applyOptions
 options-live i o t h e = go (o .flags)
   where
-    go : (x : Option ℕ) → isLive (applyOptions i (record { flags = x }) t .domainPool) (applyOptions i (record { flags = x }) t .domains) h ≡ true
+    go : (x : Option ℕ) → isLive (applyOptions i (record { flags = x; hash = o .hash }) t .domainPool) (applyOptions i (record { flags = x; hash = o .hash }) t .domains) h ≡ true
     go none = e
     go (some f) = e
 
@@ -176,7 +176,7 @@ handed-at-place : (b : Book) (at : ℕ → Handle) (to k : ℕ) (o : SendOptions
 unfolding ownedBy flagged
 handed-at-place b at to k o h t = go (o .flags)
   where
-    go : (x : Option ℕ) → AtPlace (flagged (record { flags = x }) k (ownedBy to k b) .regions) at k h
+    go : (x : Option ℕ) → AtPlace (flagged (record { flags = x; hash = o .hash }) k (ownedBy to k b) .regions) at k h
     go none = at-place-set (b .regions) k _ at k h t
     go (some f) = at-place-set (ownedBy to k b .regions) k _ at k h (at-place-set (b .regions) k _ at k h t)
 

@@ -1,5 +1,6 @@
 -- Capabilities sent and revoked on the tables, each call as the model has it, check by check.
 use Prim.Native.Nat.{ℕ}
+use mathlib.Core.Bool.{Bool, true, false}
 use lib.Dec.{eqb}
 use Rattle.base.specs.Cases.{pick}
 use Rattle.tables.specs.declared.Handle.{Handle}
@@ -7,8 +8,9 @@ use Rattle.tables.specs.declared.Slot.{Slot}
 use Rattle.tables.specs.Kinds.{FREE, REGION, «REGION_REVOKE», MANAGEMENT, ROOT}
 use Rattle.tables.specs.Tables.{Tables, regionAt}
 use Rattle.arena.specs.Arena.{liveB}
-use Rattle.rights.specs.Rights.{allowed}
-use Rattle.refusals.specs.Refusals.{noSlot, isRoot, notCarried, badFlag}
+use Rattle.rights.specs.Rights.{HASH, has, allowed}
+use Rattle.rights.specs.declared.Rights.{Rights}
+use Rattle.refusals.specs.Refusals.{noSlot, isRoot, notCarried, badFlag, noHash}
 use Rattle.answers.specs.declared.Answer.{Answer}
 use Rattle.answers.specs.declared.Answer.the-variants.{Done, Refused}
 use Rattle.answers.specs.Answers.{Effect, done, refused, andThen}
@@ -21,22 +23,28 @@ use Rattle.segment.specs.Options.{applyOptions}
 use Rattle.revocation.specs.Revoke.{revoke}
 use Rattle.checks.specs.Checks.{liveDomain, liveRegion, regionHeld, targetHeld, capaOf}
 
--- 18: of the flags only those may join that a child may add to no rights at all (document 02, request 1)
+-- 18: of the flags only those may join that a child may add to no rights at all (document 02, request 1); then 19, "HASH without a hash": HASH of the
+-- flag word
+unfoldable pub flagsAnswer : Rights → Bool → Answer
+flagsAnswer f hashed =
+    pick (allowed 0 (f .0)) (pick hashed (Done 0) (pick (has (f .0) HASH) (Refused noHash) (Done 0))) (Refused badFlag)
+
 unfoldable pub optionsAnswer : SendOptions → Answer
 optionsAnswer options.None = Done 0
-optionsAnswer (options.Flags f) = pick (allowed 0 (f .0)) (Done 0) (Refused badFlag)
+optionsAnswer (options.Flags f) = flagsAnswer f false
+optionsAnswer (options.Hashed f h) = flagsAnswer f true
 
 abbrev pub checkOptions : SendOptions → Tables → Effect
 checkOptions o s = record { answer = optionsAnswer o; tables = s }
 
--- 6, 18, and the region's effective ranges; the flags join its rights
+-- 6, 18, 19, and the region's effective ranges; then what the options say is done
 unfoldable pub sendHeld : Handle → ℕ → SendOptions → Tables → Effect
 sendHeld h to o s =
     andThen (liveRegion h s) (λ i s₁.
     andThen (checkOptions o s₁) (λ u s₂.
     andThen (sendRegion i to s₂) (λ v s₃. done 0 (applyOptions i o s₃))))
 
--- 4, 10, and for a region 6, 18; by the kinds 0 to 5. For other capabilities the options are ignored.
+-- 4, 10, and for a region 6, 18, 19; by the kinds 0 to 5. For other capabilities the options are ignored.
 unfoldable pub sendCapa : Slot → ℕ → SendOptions → Tables → Effect
 sendCapa x to o s =
     pick (eqb (x .kind) FREE) (refused noSlot s)

@@ -1,7 +1,7 @@
 // Capabilities sent and revoked.
 ghost use mathlib.Core.Path.{_≡_};
 ghost use Rattle.tables.specs.View.{view, Sized, Left};
-ghost use Rattle.capa_calls.specs.Calls.{optionsAnswer, sendHeld, sendCapa, send, revokeUnlessRoot, revokeCapa, revokeLocal, createRevokeCapa};
+ghost use Rattle.capa_calls.specs.Calls.{flagsAnswer, optionsAnswer, sendHeld, sendCapa, send, revokeUnlessRoot, revokeCapa, revokeLocal, createRevokeCapa};
 ghost use Rattle.capa_calls.specs.Parts.{passed, revokedHeld, revoker};
 use answers::Answer;
 use refusals::Refusal;
@@ -13,23 +13,34 @@ use tables::Slot;
 
 // ---- Send
 
-// 18: a flag other than HASH, CLEANUP or VITAL (document 02, request 1), which are what a child may add to no rights.
+// 18: a flag other than HASH, CLEANUP or VITAL (document 02, request 1), which are what a child may add to no rights;
+// 19: HASH in the flag word, and no hash.
+fn check_flags(flags: Rights, hashed: bool) -> Answer
+    ensures { λ r. ⌜ r ≡ flagsAnswer flags hashed ⌝ }
+{
+    if Rights::NONE.allows(flags) {
+        if hashed {
+            return Answer::Done(0);
+        }
+        if flags.contains(Rights::HASH) {
+            return Answer::Refused(Refusal::NO_HASH);
+        }
+        return Answer::Done(0);
+    }
+    Answer::Refused(Refusal::BAD_FLAG)
+}
+
 fn check_options(o: SendOptions) -> Answer
     ensures { λ r. ⌜ r ≡ optionsAnswer o ⌝ }
 {
     match o {
         SendOptions::None => Answer::Done(0),
-        SendOptions::Flags(flags) => {
-            if Rights::NONE.allows(flags) {
-                Answer::Done(0)
-            } else {
-                Answer::Refused(Refusal::BAD_FLAG)
-            }
-        }
+        SendOptions::Flags(flags) => check_flags(flags, false),
+        SendOptions::Hashed(flags, hash) => check_flags(flags, true),
     }
 }
 
-// 6, 18, and the region's effective ranges; the flags join its rights.
+// 6, 18, 19, and the region's effective ranges; then what the options say is done.
 fn send_held(t: &mut [u64], h: Handle, to: usize, o: SendOptions) -> Answer
     requires { ⌜ Sized (now t) ⌝ }
     ensures { λ r. ⌜ r ≡ sendHeld h to o (view (now (t .entry))) .answer ⌝ }
@@ -50,7 +61,7 @@ fn send_held(t: &mut [u64], h: Handle, to: usize, o: SendOptions) -> Answer
     }
 }
 
-// 4, 10, and for a region 6, 18; for other capabilities the options are ignored.
+// 4, 10, and for a region 6, 18, 19; for other capabilities the options are ignored.
 fn send_capa(t: &mut [u64], x: Slot, to: usize, o: SendOptions) -> Answer
     requires { ⌜ Sized (now t) ⌝ }
     ensures { λ r. ⌜ r ≡ sendCapa x to o (view (now (t .entry))) .answer ⌝ }

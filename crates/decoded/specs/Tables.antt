@@ -15,8 +15,10 @@ use Rattle.tables.specs.declared.Slot.{Slot}
 use Rattle.tables.specs.declared.RegionCapa.{RegionCapa}
 use Rattle.tables.specs.declared.Region.{Region}
 use Rattle.tables.specs.declared.Update.{Update}
+use Rattle.tables.specs.declared.Hash.{Hash}
+use Rattle.tables.specs.declared.RegionHash.{RegionHash}
 use Rattle.tables.specs.Kinds.{FREE, REGION, «REGION_REVOKE», MANAGEMENT, CHANNEL, PERMISSION, CLEANUP}
-use Rattle.tables.specs.Tables.{Tables, Arena, Domain, noHead, noSlot, noRegion, noRecord, noUpdate}
+use Rattle.tables.specs.Tables.{Tables, Arena, Domain, noHead, noSlot, noRegion, noRecord, noUpdate, noHash, hashGiven}
 
 abbrev pub sizesFor : state.Sizes → Sizes
 sizesFor z = record { domains = z .domains; slots = z .slots; regions = z .regions; records = z .records; updates = z .updates }
@@ -84,6 +86,21 @@ regionFor rs i (some g) =
       next = link (afterIn (siblings rs (g .kind)) i);
     }
 
+-- ---- hashes (document 02, request 1)
+
+abbrev pub hashFor : state.Hash → Hash
+hashFor x = record { word0 = x .word0; word1 = x .word1; word2 = x .word2; word3 = x .word3 }
+
+-- the row of a region's hash
+abbrev pub regionHashFor : Option state.Hash → RegionHash
+regionHashFor none = noHash
+regionHashFor (some x) = hashGiven (hashFor x)
+
+-- by what the slot holds; a free one has no hash
+abbrev pub slotHash : Option state.Region → RegionHash
+slotHash none = noHash
+slotHash (some g) = regionHashFor (g .hash)
+
 -- ---- tracker records
 
 abbrev pub recordFor : state.Record → Option ℕ → Region
@@ -135,6 +152,9 @@ recordsFor n ds = map (recordIn ds) (countUp 0 n)
 unfoldable pub ringFor : ℕ → state.Queue → List Update
 ringFor n q = map (placeFor n q) (countUp 0 (n + 1))
 
+unfoldable pub hashesFor : ℕ → List (Option state.Region) → List RegionHash
+hashesFor n rs = map (λ i. slotHash (atSlot rs i)) (countUp 0 n)
+
 unfoldable pub tablesOf : State → Tables
 tablesOf s =
     record {
@@ -148,4 +168,5 @@ tablesOf s =
       regions = regionsFor (s .sizes .regions) (s .regions);
       records = recordsFor (s .sizes .records) (s .domains);
       ring = ringFor (s .sizes .updates) (s .queue);
+      hashes = hashesFor (s .sizes .regions) (s .regions);
     }

@@ -24,12 +24,14 @@ use Rattle.decoded.specs.Canonical.WellFormed.{OutsideWellFormed, TrackersWellF
 use Rattle.decoded.specs.Canonical.Words.{SoundWords, view-shaped, well-formed-words, words-well-formed}
 use Rattle.sound_pools.specs.Hold.{outsidePoolsHold, recordPoolHolds}
 use Rattle.sound_tree.specs.Tree.{treeHolds}
+use Rattle.sound_hashes.specs.Hashes.{hashesHold}
 use Rattle.sound_capas.specs.Capas.{capasHold}
 use Rattle.sound_queue.specs.Ring.{queueHolds}
 use Rattle.sound_trackers.specs.Trackers.{trackersHold}
 use Rattle.exact_pools.specs.Law.{pools-exact, sound-pools, record-pool-exact, sound-record-pool}
 use Rattle.exact_tree.specs.Law.{holds-tree}
 use Rattle.exact_tree.specs.Words.{words-tree}
+use Rattle.exact_hashes.specs.Law.{hashes-exact}
 use Rattle.exact_capas.specs.Words.{view-stored}
 use Rattle.exact_capas.specs.Clauses.{all-before}
 use Rattle.exact_capas.specs.Full as capas
@@ -69,10 +71,12 @@ module _ (t : List ℕ) (stored : Each Word t) (z : Sized t) where
   unfolding stateOf poolFrom domainsFrom regionsFrom
   outside-holds h =
       let a = both-true (outsidePoolsHold v) _ h in
-      let b = both-true (treeHolds v) (capasHold v) (a .1) in
+      let b = both-true (treeHolds v) _ (a .1) in
+      let c = both-true (hashesHold v) (capasHold v) (b .1) in
       let pools = pools-exact v shaped .0 (a .0) in
       let tree = words-tree t z stored (record { regionsFree = pools .regionsFree }) (b .0) in
-      let held = capas.capas-exact v (record { shaped = shaped; domainPool = pools .domainPool; regionPool = pools .regionPool; domainsOnce = pools .domainOnce; regionsOnce = pools .regionOnce; regionsUsed = tree .regionsUsed }) (view-stored t stored) .0 (b .1) in (
+      let held = capas.capas-exact v (record { shaped = shaped; domainPool = pools .domainPool; regionPool = pools .regionPool; domainsOnce = pools .domainOnce; regionsOnce = pools .regionOnce; regionsUsed = tree .regionsUsed }) (view-stored t stored) .0 (c .1) in
+      let hashes = hashes-exact v .0 (c .0) in (
         record {
           domainPool = pools .domainPool;
           regionPool = pools .regionPool;
@@ -80,6 +84,8 @@ module _ (t : List ℕ) (stored : Each Word t) (z : Sized t) where
           domainsFree = pools .domainsFree;
           regionsUsed = tree .regionsUsed;
           regionsFree = pools .regionsFree;
+          hashesUsed = hashes .hashesUsed;
+          hashesFree = hashes .hashesFree;
         },
         record {
           sizesGood = limits-good (sizesFrom (v .sizes)) (shaped .limits);
@@ -123,7 +129,8 @@ module _ (t : List ℕ) (stored : Each Word t) (z : Sized t) where
 hold-outside : (v : Tables) → Shaped v → OutsideWellFormed v → OutsideSound (stateOf v) → outsideHolds v ≡ true
 hold-outside v s t h =
     both-i (outsidePoolsHold v) _ (pools-exact v s .1 (sound-pools v t h))
-    (both-i (treeHolds v) (capasHold v) (holds-tree v s t h) (capas.clauses-pass v (all-before v s t h) (capas.sound-capas v h)))
+    (both-i (treeHolds v) _ (holds-tree v s t h)
+    (both-i (hashesHold v) (capasHold v) (hashes-exact v .1 (record { hashesUsed = t .hashesUsed; hashesFree = t .hashesFree })) (capas.clauses-pass v (all-before v s t h) (capas.sound-capas v h))))
 
 hold-tracked : (v : Tables) → Shaped v → OutsideSound (stateOf v) → TrackersWellFormed v → TrackersSound (stateOf v) → trackedHolds v ≡ true
 hold-tracked v s o t h =

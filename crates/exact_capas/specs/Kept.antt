@@ -21,11 +21,11 @@ use Rattle.laws.specs.Tree.Sum.{sum, sum-get}
 use Rattle.laws.specs.Lists.{one-true}
 use Rattle.laws.specs.Words.SameTables.{unlink}
 use Rattle.tables.specs.declared.Handle.{Handle}
-use Rattle.tables.specs.Tables.{Tables, noDomain, noRegion, headAt, slotAt, regionAt}
+use Rattle.tables.specs.Tables.{Tables, noDomain, headAt, slotAt, regionAt}
 use Rattle.arena.specs.Arena.{liveB}
 use Rattle.decoded.specs.Rows.{map-up-length}
 use Rattle.decoded.specs.Shape.{Shaped}
-use Rattle.decoded.specs.Decode.Read.{poolFrom, taken, linked, kindFrom, capaFrom, heldIn, domainFrom, regionFrom, domainsFrom, regionsFrom, stateOf}
+use Rattle.decoded.specs.Decode.Read.{poolFrom, taken, linked, kindFrom, capaFrom, heldIn, domainFrom, regionRead, domainsFrom, regionsFrom, stateOf}
 use Rattle.decoded.specs.Canonical.Pools.{table-used, table-in}
 use Rattle.decoded.specs.Canonical.Pools.{table-used, table-in}
 use Rattle.sound_capas.specs.Capas.{olderB, above, climbed, rowClaim}
@@ -60,16 +60,13 @@ module _ (v : Tables) (k : Before v) (q : CapasClauses v) where
   abbrev domainRead : ℕ → state.Domain
   domainRead i = domainFrom S (v .sizes .records) (v .records) (getD (v .domains) i noDomain)
 
-  abbrev regionRead : ℕ → state.Region
-  regionRead i = regionFrom R (v .regions) (getD (v .regions) i noRegion)
-
   pub domain-in : (d : ℕ) → d < D → taken (v .domainPool) d ≡ true → In (stateOf v .domains) d (domainRead d)
   unfolding stateOf domainsFrom
   domain-in d b t = table-used D (v .domainPool) domainRead d b t
 
-  pub region-in : (i : ℕ) → i < R → taken (v .regionPool) i ≡ true → In (stateOf v .regions) i (regionRead i)
+  pub region-in : (i : ℕ) → i < R → taken (v .regionPool) i ≡ true → In (stateOf v .regions) i (regionRead v i)
   unfolding stateOf regionsFrom
-  region-in i b t = table-used R (v .regionPool) regionRead i b t
+  region-in i b t = table-used R (v .regionPool) (regionRead v) i b t
 
   -- 1 where slot j of domain d holds region i, or domain i
   abbrev pub ofRegionAt : ℕ → ℕ → ℕ → ℕ
@@ -80,7 +77,7 @@ module _ (v : Tables) (k : Before v) (q : CapasClauses v) where
 
   pub region-slots : (i d : ℕ) → i < R → taken (v .regionPool) i ≡ true → d < D → taken (v .domainPool) d ≡ true → sum (ofRegionAt i d) S ≡ oneIf (eqb (unlink (regionAt v i .owner)) d)
   unfolding stateOf regionAt
-  region-slots i d bi ti bd td = sym (held-count v s d bd (isRegionOf (handleOf (poolFrom R (v .regionPool)) i))) ∙ q .owners i (regionRead i) (region-in i bi ti) .oneSlot d (domainRead d) (domain-in d bd td)
+  region-slots i d bi ti bd td = sym (held-count v s d bd (isRegionOf (handleOf (poolFrom R (v .regionPool)) i))) ∙ q .owners i (regionRead v i) (region-in i bi ti) .oneSlot d (domainRead d) (domain-in d bd td)
 
   pub domain-slots : (i d : ℕ) → i < D → taken (v .domainPool) i ≡ true → d < D → taken (v .domainPool) d ≡ true → sum (ofDomainAt i d) S ≡ oneIf (names (linked (headAt v i .manager)) d)
   unfolding stateOf headAt
@@ -130,7 +127,7 @@ module _ (v : Tables) (k : Before v) (q : CapasClauses v) where
 
     older-region : (slotAt v d j .kind ≡ 2) ⊎ (slotAt v d j .kind ≡ 3) → liveB (v .regionPool) h ≡ false → olderB (v .regionPool) h ≡ true
     unfolding regionsFrom
-    older-region = ⊎-elim (λ e. fit-out R (v .regionPool) (s .regionPool) regionRead h (handle-as 2 e)) (λ e. fit-out R (v .regionPool) (s .regionPool) regionRead h (handle-as 3 e))
+    older-region = ⊎-elim (λ e. fit-out R (v .regionPool) (s .regionPool) (regionRead v) h (handle-as 2 e)) (λ e. fit-out R (v .regionPool) (s .regionPool) (regionRead v) h (handle-as 3 e))
 
     older-domain : (slotAt v d j .kind ≡ 4) ⊎ (slotAt v d j .kind ≡ 5) → liveB (v .domainPool) h ≡ false → olderB (v .domainPool) h ≡ true
     unfolding domainsFrom
@@ -141,7 +138,7 @@ module _ (v : Tables) (k : Before v) (q : CapasClauses v) where
     no-root e l z =
         let u = lives R (v .regionPool) (s .regionPool) h l in
         let f = subst (λ m. RevokeFit (poolFrom R (v .regionPool)) (regionsFrom v) (capaFrom m h)) e revoke-at in
-        let r = f (regionRead (h .slot)) (region-in (h .slot) (u .below) (u .used)) (true-is (live-read R (v .regionPool) (s .regionPool) regionRead h ∙ l)) in
+        let r = f (regionRead v (h .slot)) (region-in (h .slot) (u .below) (u .used)) (true-is (live-read R (v .regionPool) (s .regionPool) (regionRead v) h ∙ l)) in
         subst (λ n. T (not (isRootKind (kindFrom n (regionAt v (h .slot) .parent))))) z r
 
     pub slot-within : rowClaim v d j ≤ R + D

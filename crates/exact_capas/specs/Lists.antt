@@ -15,9 +15,9 @@ use Rattle.model.specs.Pool.{isLive}
 use Rattle.model.specs.Tree.{isRootKind}
 use Rattle.model.specs.Sound.{RevokeFit, HandleFit}
 use Rattle.tables.specs.declared.Handle.{Handle}
-use Rattle.tables.specs.Tables.{Tables, noDomain, noRegion, slotAt, regionAt}
+use Rattle.tables.specs.Tables.{Tables, noDomain, slotAt, regionAt}
 use Rattle.decoded.specs.Shape.{Shaped}
-use Rattle.decoded.specs.Decode.Read.{poolFrom, taken, kindFrom, handleFrom, heldIn, domainFrom, regionFrom, domainsFrom, regionsFrom, stateOf}
+use Rattle.decoded.specs.Decode.Read.{poolFrom, taken, kindFrom, handleFrom, heldIn, domainFrom, regionRead, domainsFrom, regionsFrom, stateOf}
 use Rattle.decoded.specs.Canonical.Pools.{table-in}
 use Rattle.sound_capas.specs.Capas.{rowClaim, capasHold}
 use Rattle.exact_capas.specs.Clauses.{Stored, Before, CapasClauses}
@@ -49,9 +49,6 @@ module _ (v : Tables) (k : Before v) (pass : capasHold v ≡ true) where
   abbrev domainRead : ℕ → state.Domain
   domainRead i = domainFrom S (v .sizes .records) (v .records) (getD (v .domains) i noDomain)
 
-  abbrev regionRead : ℕ → state.Region
-  regionRead i = regionFrom R (v .regions) (getD (v .regions) i noRegion)
-
   module _ (d : ℕ) (b : d < D) (t : taken (v .domainPool) d ≡ true) (j : ℕ) (c : j < S) where
     fit : rowClaim v d j ≤ v .sizes .regions + v .sizes .domains
     fit = rows v k pass .within d j b (omega arith)
@@ -63,8 +60,8 @@ module _ (v : Tables) (k : Before v) (pass : capasHold v ≡ true) where
     unfolding regionsFrom domainsFrom
     slot-handle =
         handle-fit (poolFrom R (v .regionPool)) (regionsFrom v) (poolFrom D (v .domainPool)) (domainsFrom v) (slotAt v d j .kind) h
-        (λ e. fit-in R (v .regionPool) (s .regionPool) regionRead h (fit-region v s d j t c fit (inl e)))
-        (λ e. fit-in R (v .regionPool) (s .regionPool) regionRead h (fit-region v s d j t c fit (inr e)))
+        (λ e. fit-in R (v .regionPool) (s .regionPool) (regionRead v) h (fit-region v s d j t c fit (inl e)))
+        (λ e. fit-in R (v .regionPool) (s .regionPool) (regionRead v) h (fit-region v s d j t c fit (inr e)))
         (λ e. fit-in D (v .domainPool) (s .domainPool) domainRead h (fit-domain v s d j t c fit (inl e)))
         (λ e. fit-in D (v .domainPool) (s .domainPool) domainRead h (fit-domain v s d j t c fit (inr e)))
 
@@ -74,8 +71,8 @@ module _ (v : Tables) (k : Before v) (pass : capasHold v ≡ true) where
       where
         root : slotAt v d j .kind ≡ 3 → (g : state.Region) → In (regionsFrom v) (h .slot) g → T (isLive (poolFrom R (v .regionPool)) (regionsFrom v) (handleFrom h)) → T (not (isRootKind (g .kind)))
         root e g f l =
-            let u = table-in R (v .regionPool) regionRead (h .slot) g f in
-            let n = no-root v s d j t c fit e (sym (live-read R (v .regionPool) (s .regionPool) regionRead h) ∙ is-true l) in
+            let u = table-in R (v .regionPool) (regionRead v) (h .slot) g f in
+            let n = no-root v s d j t c fit e (sym (live-read R (v .regionPool) (s .regionPool) (regionRead v) h) ∙ is-true l) in
             subst (λ (x : state.Region). T (not (isRootKind (x .kind)))) (u .2)
             (not-root (regionAt v (h .slot) .kind) (regionAt v (h .slot) .parent) (k .regionsUsed (h .slot) (u .0) (u .1) .kindLow) n)
 

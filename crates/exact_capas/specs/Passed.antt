@@ -16,9 +16,9 @@ use Rattle.model.specs.Sound.{OwnerSound, isRegionOf}
 use Rattle.laws.specs.Tree.Slots.{is-live}
 use Rattle.laws.specs.Tree.Sum.{sum-none}
 use Rattle.laws.specs.Words.SameTables.{unlink}
-use Rattle.tables.specs.Tables.{Tables, noDomain, noRegion, slotAt, regionAt}
+use Rattle.tables.specs.Tables.{Tables, noDomain, slotAt, regionAt}
 use Rattle.decoded.specs.Shape.{Shaped}
-use Rattle.decoded.specs.Decode.Read.{poolFrom, taken, heldIn, domainFrom, regionFrom, domainsFrom, regionsFrom, stateOf}
+use Rattle.decoded.specs.Decode.Read.{poolFrom, taken, heldIn, domainFrom, regionRead, domainsFrom, regionsFrom, stateOf}
 use Rattle.decoded.specs.Canonical.Pools.{table-used, table-in}
 use Rattle.decoded.specs.Canonical.Pools.{table-used, table-in}
 use Rattle.sound_capas.specs.Claims.{claimCount}
@@ -49,9 +49,6 @@ module _ (v : Tables) (k : Before v) (pass : capasHold v ≡ true) where
 
   abbrev domainRead : ℕ → state.Domain
   domainRead i = domainFrom S (v .sizes .records) (v .records) (getD (v .domains) i noDomain)
-
-  abbrev regionRead : ℕ → state.Region
-  regionRead i = regionFrom R (v .regions) (getD (v .regions) i noRegion)
 
   -- ---- everything in use is claimed
 
@@ -154,7 +151,7 @@ module _ (v : Tables) (k : Before v) (pass : capasHold v ≡ true) where
   pub owners : (i : ℕ) (g : state.Region) → In (stateOf v .regions) i g → OwnerSound (stateOf v .regionPool) (stateOf v .domains) i g
   unfolding stateOf regionsFrom domainsFrom regionAt
   owners i g e =
-      let u = table-in R (v .regionPool) regionRead i g e in
+      let u = table-in R (v .regionPool) (regionRead v) i g e in
       let o = owner-of i (u .0) (u .1) in
       let w : g .owner ≡ o .dom = ap (λ (x : state.Region). x .owner) (sym (u .2)) ∙ ap unlink (o .owner) in
       record {

@@ -11,9 +11,9 @@ use Rattle.model.specs.Sound as sound
 use Rattle.model.specs.Sound.{OnceEach}
 use Rattle.laws.specs.Tree.Sum.{sum, sum-add, sum-same, sum-each}
 use Rattle.laws.specs.Stack.{stack-length}
-use Rattle.tables.specs.Tables.{Tables, Arena, noDomain, noRegion}
+use Rattle.tables.specs.Tables.{Tables, Arena, noDomain}
 use Rattle.arena.specs.Arena.{capacityOf}
-use Rattle.decoded.specs.Decode.Read.{afterFree, freeFrom, poolFrom, taken, tableFrom, domainFrom, regionFrom, domainsFrom, regionsFrom, stateOf}
+use Rattle.decoded.specs.Decode.Read.{afterFree, freeFrom, poolFrom, taken, tableFrom, domainFrom, regionRead, domainsFrom, regionsFrom, stateOf}
 use Rattle.decoded.specs.Canonical.Ends.{stack-long}
 use Rattle.decoded.specs.Canonical.WellFormed.{PoolWellFormed}
 use Rattle.decoded.specs.Canonical.Pools.{table-used, table-free}
@@ -54,7 +54,7 @@ module _ (v : Tables) where
   module _ (k : Before v) where
     regions-used : sum (λ i. oneIf (taken (v .regionPool) i)) R ≡ v .regionPool .count
     unfolding stateOf poolFrom regionsFrom
-    regions-used = count-used R (v .regionPool) (λ i. regionFrom R (v .regions) (getD (v .regions) i noRegion)) (k .regionPool) (k .regionsOnce)
+    regions-used = count-used R (v .regionPool) (regionRead v) (k .regionPool) (k .regionsOnce)
 
     domains-used : sum (λ i. oneIf (taken (v .domainPool) i)) D ≡ v .domainPool .count
     unfolding stateOf poolFrom domainsFrom

@@ -14,7 +14,7 @@ use Rattle.model.specs.Sound.{OutsideSound, TrackersSound, OnceEach, slotUses}
 use Rattle.laws.specs.Stack.{once-at-most, none-beyond}
 use Rattle.tables.specs.Tables.{Tables}
 use Rattle.decoded.specs.Shape.{Shaped}
-use Rattle.decoded.specs.Decode.Read.{taken, freeFrom, heldIn, domainFrom, regionFrom, domainsFrom, regionsFrom, poolFrom, stateOf}
+use Rattle.decoded.specs.Decode.Read.{taken, freeFrom, heldIn, domainFrom, regionRead, domainsFrom, regionsFrom, poolFrom, stateOf}
 use Rattle.decoded.specs.Canonical.WellFormed.{OutsideWellFormed, TrackersWellFormed, DomainWellFormed, domainRow, regionRow, recordRow}
 use Rattle.decoded.specs.Canonical.Pools.{table-used, table-in}
 use Rattle.sound_pools.specs.declared.links.Stack.the-variants.{Domains, Regions, Records, Trackers}
@@ -28,9 +28,6 @@ use Rattle.exact_pools.specs.Domains.{record-used, no-record, domain-sta
 module _ (v : Tables) (s : Shaped v) where
   abbrev domainRead : ℕ → state.Domain
   domainRead i = domainFrom (v .sizes .slots) (v .sizes .records) (v .records) (domainRow v i)
-
-  abbrev regionRead : ℕ → state.Region
-  regionRead i = regionFrom (v .sizes .regions) (v .regions) (regionRow v i)
 
   -- ---- domains and regions: the parts of the test
 
@@ -89,7 +86,7 @@ module _ (v : Tables) (s : Shaped v) where
       domainsFree = λ i b t. free-holds v s i b t (domains-hold v (p .domainRows) i b);
       regionsFree = λ i b t. region-zero (regionRow v i) (regions-hold v (p .regionRows) i b t);
       domainOnce = good-once (v .sizes .domains) (v .domainPool) (p .domains) domainRead;
-      regionOnce = good-once (v .sizes .regions) (v .regionPool) (p .regions) regionRead;
+      regionOnce = good-once (v .sizes .regions) (v .regionPool) (p .regions) (regionRead v);
       lists = all-lists;
     }
 
@@ -102,7 +99,7 @@ module _ (v : Tables) (s : Shaped v) where
 
     regions-good : PoolGood (v .sizes .regions) (v .regionPool)
     unfolding stateOf poolFrom regionsFrom
-    regions-good = once-good (v .sizes .regions) (v .regionPool) regionRead (c .regionPool) (c .regionOnce)
+    regions-good = once-good (v .sizes .regions) (v .regionPool) (regionRead v) (c .regionPool) (c .regionOnce)
 
     row-good : (d : ℕ) (b : d < v .sizes .domains) → taken (v .domainPool) d ≡ true → RowGood v s d b
     unfolding stateOf domainsFrom

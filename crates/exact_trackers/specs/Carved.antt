@@ -19,30 +19,31 @@ use Rattle.laws.specs.Tree.Shares.{childOf, carveOf, carved}
 use Rattle.laws.specs.Tree.Facts.{carve-child}
 use Rattle.laws.specs.Tree.Carved.{Carving, carved-find, carved-get}
 use Rattle.tables.specs.declared.RegionCapa.{RegionCapa}
-use Rattle.tables.specs.Tables.{Tables, noRegion, regionAt}
+use Rattle.tables.specs.Tables.{Tables, noHash, regionAt}
+use Rattle.decoded.specs.Decode.Read as read
 use Rattle.decoded.specs.Decode.Read.{taken, kindFrom, regionFrom, regionsFrom}
 use Rattle.decoded.specs.Canonical.Pools.{table-in, table-used, table-free}
 use Rattle.sound_trackers.specs.Chains.{chain}
 use Rattle.sound_trackers.specs.Tally.{coversB, carvesB, uncarvedB}
 use Rattle.exact_trackers.specs.Tests.{chain-is, every-in, in-every}
 
--- ---- a row of the regions
+-- ---- a row of the regions, by the accessor that the test uses
 
 abbrev pub regionRead : Tables → ℕ → state.Region
-regionRead v i = regionFrom (v .sizes .regions) (v .regions) (regionAt v i)
+regionRead v i = regionFrom (v .sizes .regions) (v .regions) (regionAt v i) (getD (v .hashes) i noHash)
 
 module _ (v : Tables) (i : ℕ) where
   pub region-in : (g : state.Region) → In (regionsFrom v) i g → (i < v .sizes .regions) × (taken (v .regionPool) i ≡ true) × (regionRead v i ≡ g)
   unfolding regionsFrom regionAt
-  region-in g e = table-in (v .sizes .regions) (v .regionPool) (λ i. regionFrom (v .sizes .regions) (v .regions) (getD (v .regions) i noRegion)) i g e
+  region-in g e = table-in (v .sizes .regions) (v .regionPool) (read.regionRead v) i g e
 
   pub region-used : i < v .sizes .regions → taken (v .regionPool) i ≡ true → In (regionsFrom v) i (regionRead v i)
   unfolding regionsFrom regionAt
-  region-used h t = table-used (v .sizes .regions) (v .regionPool) (λ i. regionFrom (v .sizes .regions) (v .regions) (getD (v .regions) i noRegion)) i h t
+  region-used h t = table-used (v .sizes .regions) (v .regionPool) (read.regionRead v) i h t
 
   pub region-free : i < v .sizes .regions → taken (v .regionPool) i ≡ false → atSlot (regionsFrom v) i ≡ none
   unfolding regionsFrom regionAt
-  region-free h t = table-free (v .sizes .regions) (v .regionPool) (λ i. regionFrom (v .sizes .regions) (v .regions) (getD (v .regions) i noRegion)) i h t
+  region-free h t = table-free (v .sizes .regions) (v .regionPool) (read.regionRead v) i h t
 
   -- its children are those along the links
   pub children-are : (g : state.Region) → In (regionsFrom v) i g → chain (λ j. regionAt v j .next) (v .sizes .regions) (regionAt v i .child) ≡ g .children

@@ -21,7 +21,7 @@ use Rattle.laws.specs.Tree.Facts.{Regions, no-overlap}
 use Rattle.tables.specs.declared.RegionCapa.{RegionCapa}
 use Rattle.tables.specs.Tables.{Tables}
 use Rattle.decoded.specs.Shape.{Shaped}
-use Rattle.decoded.specs.Decode.Read.{kindFrom, regionsFrom, stateOf}
+use Rattle.decoded.specs.Decode.Read.{kindFrom, regionRead, regionsFrom, stateOf}
 use Rattle.decoded.specs.Decode.Regions.{child-once, member}
 use Rattle.decoded.specs.Canonical.WellFormed.{OutsideWellFormed, OutsideWalked, regionRow}
 use Rattle.decoded.specs.Canonical.Sound.{parent-is, outside-walked}
@@ -33,7 +33,7 @@ use Rattle.exact_tree.specs.Walks.{Behind, Sorted, pairs-fit, pairs-of}
 use Rattle.exact_tree.specs.Lists.{kids, many, Listed, uses, many-uses, tells, one-t, one-f}
 use Rattle.exact_tree.specs.Rows.{Used, used, blank, PoolClauses, slot, Inside, RowFacts}
 use Rattle.exact_tree.specs.Roots.{climb-low, climb-up}
-use Rattle.exact_tree.specs.Read.{parent-link, kind-carve, regionRead, read-in, in-read, same-starts, blank-kids, blank-listed}
+use Rattle.exact_tree.specs.Read.{parent-link, kind-carve, read-in, in-read, same-starts, blank-kids, blank-listed}
 
 floor-none : (r : RegionCapa) → floorOf noRun r ≡ 0
 unfolding floorOf

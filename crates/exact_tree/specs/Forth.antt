@@ -25,7 +25,7 @@ use Rattle.laws.specs.Tree.Slots.{each-in, in-each, is-live}
 use Rattle.tables.specs.declared.RegionCapa.{RegionCapa}
 use Rattle.tables.specs.Tables.{Tables}
 use Rattle.decoded.specs.Shape.{Shaped}
-use Rattle.decoded.specs.Decode.Read.{kindFrom, regionsFrom}
+use Rattle.decoded.specs.Decode.Read.{kindFrom, regionRead, regionsFrom}
 use Rattle.decoded.specs.Canonical.Ends.{ended-once}
 use Rattle.decoded.specs.Canonical.WellFormed.{regionRow}
 use Rattle.decoded.specs.Canonical.Sound.{parent-is}
@@ -33,7 +33,7 @@ use Rattle.sound_tree.specs.Tree.{noRun, isChild}
 use Rattle.exact_tree.specs.Walks.{nextOf, fits-parents, fits-pairs, pairs-find, pairs-ordered}
 use Rattle.exact_tree.specs.Lists.{kids, many, Listed, uses, many-uses, tells, one-t}
 use Rattle.exact_tree.specs.Rows.{Used, used, blank, PoolClauses, RegionWords, slot, RowFacts}
-use Rattle.exact_tree.specs.Read.{no-parent, parent-link, carve-kind, regionRead, read-in, in-read, same-starts, blank-listed}
+use Rattle.exact_tree.specs.Read.{no-parent, parent-link, carve-kind, read-in, in-read, same-starts, blank-listed}
 
 -- no range begins before the other ends
 apart-l : (a b c d : ℕ) → d ≤ a → T (not (ltb a d && ltb c b))
@@ -214,4 +214,5 @@ module _ (v : Tables) (s : Shaped v) (pools : PoolClauses v)
       startWord = words i .0;
       endWord = words i .1;
       rightsByte = f .rightsByte;
+      hashWords = words i .2;
     }

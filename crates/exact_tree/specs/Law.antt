@@ -20,7 +20,7 @@ use Rattle.tables.specs.declared.RegionCapa.{RegionCapa}
 use Rattle.tables.specs.Tables.{Tables, regionAt}
 use Rattle.sizes.specs.Sizes.{total}
 use Rattle.decoded.specs.Shape.{Shaped}
-use Rattle.decoded.specs.Decode.Read.{kindFrom, taken, regionsFrom, stateOf}
+use Rattle.decoded.specs.Decode.Read.{kindFrom, taken, regionRead, regionsFrom, stateOf}
 use Rattle.decoded.specs.Canonical.WellFormed.{OutsideWellFormed, RegionWellFormed, regionRow}
 use Rattle.decoded.specs.Canonical.Sound.{parent-is}
 use Rattle.sound_tree.specs.Tree.{oneIf, tallyFrom, isChild, childCount, rowsHold, listsHold, rootsHold, treeHolds}
@@ -28,7 +28,7 @@ use Rattle.sound_tree.specs.Turns.{one-few}
 use Rattle.exact_tree.specs.Lists.{many, Listed, lists-facts, facts-lists, tells, child-sum}
 use Rattle.exact_tree.specs.Rows.{Used, used, blank, PoolClauses, RegionWords, slot, RowFacts, rows-facts, facts-rows}
 use Rattle.exact_tree.specs.Roots.{roots-lead, climbs-all}
-use Rattle.exact_tree.specs.Read.{no-parent, regionRead, read-in, in-read}
+use Rattle.exact_tree.specs.Read.{no-parent, read-in, in-read}
 use Rattle.exact_tree.specs.Forth.{over, region-sound}
 use Rattle.exact_tree.specs.Back.{rows-of, listed, members, climb-any}
 

@@ -12,7 +12,7 @@ use Rattle.model.specs.State.{parentOf, regionIn, noneRegion}
 use Rattle.model.specs.Tree.{isCarve}
 use Rattle.tables.specs.declared.RegionCapa.{RegionCapa}
 use Rattle.tables.specs.Tables.{Tables, noRegion}
-use Rattle.decoded.specs.Decode.Read.{kindFrom, chainFrom, regionFrom, regionsFrom}
+use Rattle.decoded.specs.Decode.Read.{kindFrom, chainFrom, regionRead, regionsFrom}
 use Rattle.decoded.specs.Decode.Walks.{chain-none}
 use Rattle.decoded.specs.Canonical.Ends.{chainEnd, end-none}
 use Rattle.decoded.specs.Canonical.WellFormed.{regionRow}
@@ -48,16 +48,13 @@ kind-carve k l e = rw e tt
 -- ---- slots
 
 module _ (v : Tables) where
-  abbrev pub regionRead : ℕ → state.Region
-  regionRead i = regionFrom (v .sizes .regions) (v .regions) (regionRow v i)
-
-  pub read-in : (i : ℕ) → Used v i → In (regionsFrom v) i (regionRead i)
+  pub read-in : (i : ℕ) → Used v i → In (regionsFrom v) i (regionRead v i)
   unfolding regionsFrom
-  read-in i u = table-used (v .sizes .regions) (v .regionPool) regionRead i (u .below) (u .is)
+  read-in i u = table-used (v .sizes .regions) (v .regionPool) (regionRead v) i (u .below) (u .is)
 
-  pub in-read : (i : ℕ) (g : state.Region) → In (regionsFrom v) i g → Used v i × (regionRead i ≡ g)
+  pub in-read : (i : ℕ) (g : state.Region) → In (regionsFrom v) i g → Used v i × (regionRead v i ≡ g)
   unfolding regionsFrom
-  in-read i g e = let t = table-in (v .sizes .regions) (v .regionPool) regionRead i g e in (record { below = t .0; is = t .1 }, t .2)
+  in-read i g e = let t = table-in (v .sizes .regions) (v .regionPool) (regionRead v) i g e in (record { below = t .0; is = t .1 }, t .2)
 
   -- the starts of children that are in use
   pub same-starts : (l : List ℕ) → Each (Used v) l → map (λ (c : state.Region). c .start) (map (regionIn (regionsFrom v)) l) ≡ map (λ c. regionRow v c .start) l

@@ -9,13 +9,12 @@ use lib.ListN.{List·getD-eq-default}
 use Rattle.base.specs.Cases.{lt, ge, cmp, holds, fails, test}
 use Rattle.base.specs.Tests.{both, both-true, true-false}
 use Rattle.rights.specs.Rights.{allowed}
-use Rattle.model.specs.State.{Word}
+use Rattle.model.specs.State.{Word, HashWords}
 use Rattle.tables.specs.declared.RegionCapa.{RegionCapa}
 use Rattle.tables.specs.Tables.{Tables, noRegion, regionAt}
 use Rattle.decoded.specs.Shape.{Shaped}
-use Rattle.decoded.specs.Decode.Read.{taken}
-use Rattle.decoded.specs.Canonical.WellFormed.{regionRow}
-use Rattle.decoded.specs.Canonical.WellFormed.{regionRow}
+use Rattle.decoded.specs.Decode.Read.{taken, hashFrom}
+use Rattle.decoded.specs.Canonical.WellFormed.{regionRow, hashRow}
 use Rattle.decoded.specs.Canonical.Pools.{taken-used, not-taken}
 use Rattle.sound_tree.specs.Tree.{allFrom, rightsFit, inParent, placeFits, rowFits, regionFits, rowsHold}
 
@@ -36,7 +35,7 @@ pub record PoolClauses (v : Tables) : Type 0 where
 
 -- What the words are is no question of a test.
 abbrev pub RegionWords : Tables → Type 0
-RegionWords v = (i : ℕ) → Word (regionRow v i .start) × Word (regionRow v i .end)
+RegionWords v = (i : ℕ) → Word (regionRow v i .start) × Word (regionRow v i .end) × HashWords (hashFrom (hashRow v i))
 
 pub slot : (v : Tables) → Shaped v → PoolClauses v → (i : ℕ) → Slot v i
 slot v s h i = elim (cmp i (v .sizes .regions)) [

@@ -5,6 +5,7 @@ use mathlib.Core.Option.{none, some}
 use mathlib.Core.List.{List}
 use Rattle.model.specs.State as state
 use Rattle.model.specs.Perform as model
+use Rattle.tables.specs.declared.Hash.{Hash}
 use Rattle.tables.specs.Tables.{Tables}
 use Rattle.tables.specs.View.{Left}
 use Rattle.answers.specs.declared.Answer.{Answer}
@@ -15,16 +16,19 @@ use Rattle.segment.specs.declared.SendOptions.the-variants as options
 use Rattle.calls.specs.declared.Call.{Call}
 use Rattle.calls.specs.declared.Call.the-variants.{Open, OpenUnder, Channel, SetCoreMap, Root, Alias, Carve, Send, Revoke, CreateRevokeCapa}
 use Rattle.calls.specs.Steps.{stepOf}
-use Rattle.refine.specs.Calls.Perform.{stepFor}
 use Rattle.decoded.specs.Decode.Read.{handleFrom}
 use Rattle.refine.specs.Calls.Perform.{stepFor}
 
 abbrev accessIn : AccessRights → state.Access
 accessIn a = record { start = a .start; end = a .end; rights = a .ops .0 }
 
+abbrev hashIn : Hash → state.Hash
+hashIn h = record { word0 = h .word0; word1 = h .word1; word2 = h .word2; word3 = h .word3 }
+
 abbrev optionsIn : SendOptions → state.SendOptions
 optionsIn options.None = state.noOptions
-optionsIn (options.Flags f) = record { flags = some (f .0) }
+optionsIn (options.Flags f) = record { flags = some (f .0); hash = none }
+optionsIn (options.Hashed f h) = record { flags = some (f .0); hash = some (hashIn h) }
 
 abbrev pub stepNamed : Call → model.Step
 stepNamed (Open cores) = model.Open none cores
@@ -48,6 +52,7 @@ same-step (Alias x) v = refl
 same-step (Carve x) v = refl
 same-step (Send h l target options.None) v = refl
 same-step (Send h l target (options.Flags f)) v = refl
+same-step (Send h l target (options.Hashed f x)) v = refl
 same-step (Revoke h l) v = refl
 same-step (CreateRevokeCapa h l) v = refl
 

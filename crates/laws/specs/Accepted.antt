@@ -47,6 +47,12 @@ unfolding require _>>_
 checked true r h = h tt
 checked false r h = refused
 
+-- the same, with another check behind it that nothing is known of
+pub checked-first : {A B : Type 0} {Q : B → Type 0} (b : Bool) (r : Refusal) (m : Outcome A) {n : Outcome B} → (T b → All Q n) → All Q (require b r >> m >> n)
+unfolding require _>>_
+checked-first true r m h = and-then m (h tt)
+checked-first false r m h = refused
+
 pub both : {A : Type 0} {P Q : A → Type 0} {m : Outcome A} → All P m → All Q m → All (λ x. P x × Q x) m
 both (accepted h) (accepted k) = accepted (h, k)
 both refused refused = refused

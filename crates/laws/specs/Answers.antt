@@ -31,6 +31,12 @@ unfolding require _>>_
 gives-checked true r x h = h tt
 gives-checked false r x h = refuses x
 
+-- two checks, one after the other
+pub gives-checked-both : {A : Type 0} {P : A → Type 0} {R : Refusal → Type 0} (b c : Bool) (r x : Refusal) {n : Outcome A} → R r × R x → Gives P R n → Gives P R (require b r >> require c x >> n)
+unfolding require _>>_
+gives-checked-both true c r x i h = gives-checked c x (i .1) (λ t. h)
+gives-checked-both false c r x i h = refuses (i .0)
+
 -- what is said of the answer alone, and of the refusal alone
 pub answer : {A : Type 0} {P : A → Type 0} {R : Refusal → Type 0} {m : Outcome A} → Gives P R m → All P m
 answer (gives h) = accepted h

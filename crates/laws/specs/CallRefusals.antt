@@ -12,7 +12,7 @@ use Rattle.model.specs.Lists.{exists}
 use Rattle.model.specs.Outcome.{Outcome, refuse, _>>=_, _>>_, okOr}
 use Rattle.rights.specs.Rights.{allowed}
 use Rattle.refusals.specs.declared.Refusal.{Refusal}
-use Rattle.refusals.specs.Refusals.{number, memory, sizes, noDomain, noSlot, wrongKind, stale, badRange, beyond, isRoot, notCarried, noRegion, noLocal, noTracker, ringFull, noDomainRoom, spent, badFlag}
+use Rattle.refusals.specs.Refusals.{number, memory, sizes, noDomain, noSlot, wrongKind, stale, badRange, beyond, isRoot, notCarried, noRegion, noLocal, noTracker, ringFull, noDomainRoom, spent, badFlag, noHash}
 use Rattle.model.specs.State.{State, Sizes, Handle, Access, Kind, SendOptions, Capa, noCapa, region, regionRevoke, management, channel, domainAt}
 use Rattle.model.specs.Pool.{isLive}
 use Rattle.model.specs.Locals.{insertLocal, insertCapa, hasCapacity, capaAt}
@@ -21,7 +21,7 @@ use Rattle.model.specs.Making.{makeTables, makeIn}
 use Rattle.model.specs.Calls.{liveDomain, liveRegion, asRegion, asTarget, regionHeld, roomForRegion, newDomain, openDomain, openChannel, setCoreMap, createRootRegion, addChild, aliasRegion, carveRegion, sendCapa, send, revokeUnlessRoot, revokeCapa, revoke, createRevokeCapa, checkOptions}
 use Rattle.model.specs.Readings.{permissions, getRefcount, coreMap}
 use Rattle.model.specs.Perform.{Step, Open, Channel, SetCoreMap, Root, Alias, Carve, Send, Revoke, CreateRevokeCapa, Reading, Permissions, Refcount, CoreMap, Holders, Call, Make, Do, Pop, Read, performStep, readTables, perform}
-use Rattle.laws.specs.Answers.{Gives, gives, refuses, gives-then, gives-branch, gives-checked, refusal}
+use Rattle.laws.specs.Answers.{Gives, gives, refuses, gives-then, gives-branch, gives-checked, gives-checked-both, refusal}
 use Rattle.laws.specs.Keep.Refusals.{MayStop, activate-stops, exchange-stops, send-stops, revoke-stops, allocate-stops, new-stops}
 
 -- Document 01's refusals for each call, in its order of checks, those of the steps afterwards last. Bad memory (1) is refused before
@@ -33,7 +33,7 @@ stepRefusals (SetCoreMap h cores) = noDomain ∷ []
 stepRefusals (Root h a) = noDomain ∷ noRegion ∷ noLocal ∷ badRange ∷ noTracker ∷ ringFull ∷ spent ∷ []
 stepRefusals (Alias h l a) = noDomain ∷ noSlot ∷ wrongKind ∷ stale ∷ noRegion ∷ noLocal ∷ badRange ∷ beyond ∷ noTracker ∷ ringFull ∷ spent ∷ []
 stepRefusals (Carve h l a) = noDomain ∷ noSlot ∷ wrongKind ∷ stale ∷ noRegion ∷ noLocal ∷ badRange ∷ beyond ∷ noTracker ∷ ringFull ∷ spent ∷ []
-stepRefusals (Send h l target o) = noDomain ∷ noSlot ∷ wrongKind ∷ noLocal ∷ notCarried ∷ stale ∷ badFlag ∷ noTracker ∷ ringFull ∷ spent ∷ []
+stepRefusals (Send h l target o) = noDomain ∷ noSlot ∷ wrongKind ∷ noLocal ∷ notCarried ∷ stale ∷ badFlag ∷ noHash ∷ noTracker ∷ ringFull ∷ spent ∷ []
 stepRefusals (Revoke h l) = noDomain ∷ noSlot ∷ notCarried ∷ stale ∷ isRoot ∷ noTracker ∷ ringFull ∷ spent ∷ []
 stepRefusals (CreateRevokeCapa h l) = noDomain ∷ noSlot ∷ wrongKind ∷ stale ∷ isRoot ∷ noLocal ∷ []
 
@@ -191,18 +191,18 @@ module _ {R : Refusal → Type 0} where
   as-target i (channel h) = gives tt
 
   -- the check of the options, and then another step
-  options-within : {A : Type 0} {m : Outcome A} → R badFlag → (o : SendOptions) → Within R m → Within R (checkOptions o >> m)
+  options-within : {A : Type 0} {m : Outcome A} → R badFlag × R noHash → (o : SendOptions) → Within R m → Within R (checkOptions o >> m)
   unfolding checkOptions _>>_
   options-within {A} {m} i o h = go (o .flags)
     where
-      go : (x : Option ℕ) → Within R (checkOptions (record { flags = x }) >> m)
+      go : (x : Option ℕ) → Within R (checkOptions (record { flags = x; hash = o .hash }) >> m)
       go none = h
-      go (some f) = gives-checked (allowed 0 f) badFlag i (λ t. h)
+      go (some f) = gives-checked-both (allowed 0 f) _ badFlag noHash i h
 
-  moved-within : R notCarried × R stale × R badFlag → R noTracker × R spent × R ringFull → (c : Capa) (to : ℕ) (o : SendOptions) (s : State) → Within R (sendCapa c to o s)
+  moved-within : R notCarried × R stale × R badFlag × R noHash → R noTracker × R spent × R ringFull → (c : Capa) (to : ℕ) (o : SendOptions) (s : State) → Within R (sendCapa c to o s)
   unfolding sendCapa
   moved-within i j noCapa to o s = gives tt
-  moved-within i j (region h) to o s = region-within (i .1) s h andThen (λ n. options-within (i .2) o (late j (send-stops n to s) andThen (λ t. gives tt)))
+  moved-within i j (region h) to o s = region-within (i .1) s h andThen (λ n. options-within (i .2, i .3) o (late j (send-stops n to s) andThen (λ t. gives tt)))
   moved-within i j (regionRevoke h) to o s = gives tt
   moved-within i j (management h) to o s = refuses (i .0)
   moved-within i j (channel h) to o s = gives tt
@@ -228,7 +228,7 @@ send-within h l target o s =
     domain-within tt s k andThen (λ to.
     capacity-within tt to s andThen (λ u.
     slot-within tt u d l andThen (λ c.
-    moved-within (tt, tt, tt) (tt, tt, tt) c to o u andThen (λ v.
+    moved-within (tt, tt, tt, tt) (tt, tt, tt) c to o u andThen (λ v.
     insert-within tt to c _)))))))
 
 revoke-within : (h : Handle) (l : ℕ) (s : State) → Within (Of (Do (Revoke h l))) (revoke h l s)

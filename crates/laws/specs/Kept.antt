@@ -140,7 +140,7 @@ pub options-kept : (i : ℕ) (o : SendOptions) (s : State) → Kept s (applyOpti
 unfolding applyOptions
 options-kept i o s = go (o .flags)
   where
-    go : (x : Option ℕ) → Kept s (applyOptions i (record { flags = x }) s)
+    go : (x : Option ℕ) → Kept s (applyOptions i (record { flags = x; hash = o .hash }) s)
     go none = same s
     go (some f) = put-region i _ s
 

@@ -1,14 +1,14 @@
 -- The calls (document 01, **Order of checks**; `CapaEngine`). Each `do` block has the checks in that order, the refusal's number beside each.
 use Prim.Native.Nat.{ℕ}
-use mathlib.Core.Bool.{not}
+use mathlib.Core.Bool.{not, _||_}
 use mathlib.Core.Option.{Option, none, some}
 use mathlib.Core.List.{[]}
 use lib.Dec.{eqb, ltb}
 use lib.ListN.{set}
-use Rattle.model.specs.Lists.{if_then_else_, isEmpty}
+use Rattle.model.specs.Lists.{if_then_else_, isSome, isEmpty}
 use Rattle.model.specs.Outcome.{Outcome, ok, refuse, _>>=_, _>>_, require}
-use Rattle.refusals.specs.Refusals.{noDomain, wrongKind, stale, badRange, beyond, isRoot, notCarried, noRegion, noDomainRoom, badFlag}
-use Rattle.rights.specs.Rights.{allowed}
+use Rattle.refusals.specs.Refusals.{noDomain, wrongKind, stale, badRange, beyond, isRoot, notCarried, noRegion, noDomainRoom, badFlag, noHash}
+use Rattle.rights.specs.Rights.{has, allowed, HASH}
 use Rattle.model.specs.State.{Handle, Capa, noCapa, region, regionRevoke, management, channel, Access, SendOptions, Kind, Root, Alias, Carve, State, withDomains, withCores, domainAt, regionAt, putDomain}
 use Rattle.model.specs.Pool.{allocate, handleOf, isLive}
 use Rattle.model.specs.Locals.{freshLocals, hasCapacity, capaAt, insertCapa, removeCapa, emptyCapa}
@@ -143,17 +143,22 @@ carveRegion h l a s = do
 
 -- ---- send and revoke
 
--- Request 1: "18 for a flag other than HASH, CLEANUP or VITAL": these are what a child may add to no rights at all. Without a flag word there is nothing
--- to check.
+-- Request 1: "18 for a flag other than HASH, CLEANUP or VITAL" (these are what a child may add to no rights at all), "then 19 for HASH without a hash":
+-- HASH of the flag word. Without a flag word there is nothing to check.
 unfoldable pub checkOptions : SendOptions → Outcome (Unit {0})
-checkOptions o = elim (o .flags) [ none ↦ ok tt | some f ↦ require (allowed 0 f) badFlag ]
+checkOptions o = elim (o .flags) [
+  | none ↦ ok tt
+  | some f ↦ (do
+    require (allowed 0 f) badFlag  -- 18
+    require (not (has f HASH) || isSome (o .hash)) noHash)  -- 19
+]
 
 -- 10, 6, and for a region its effective ranges; "A channel, RegionRevoke or Capa::None only moves." Request 1: "For other capabilities both are ignored."
 unfoldable pub sendCapa : Capa → ℕ → SendOptions → State → Outcome State
 sendCapa noCapa to o s = ok s
 sendCapa (region h) to o s = do
   i ← liveRegion s h  -- 6
-  checkOptions o  -- 18
+  checkOptions o  -- 18, 19
   s₁ ← sendRegion i to s  -- 13, 14, 16
   ok (applyOptions i o s₁)
 sendCapa (regionRevoke h) to o s = ok s
@@ -169,7 +174,7 @@ send h l target o s = do
   to ← liveDomain s k  -- 3
   s₁ ← hasCapacity to s  -- 12
   c ← capaAt s₁ d l  -- 4
-  s₂ ← sendCapa c to o s₁  -- 10, 6, 18, then 13, 14, 16
+  s₂ ← sendCapa c to o s₁  -- 10, 6, 18, 19, then 13, 14, 16
   insertCapa to c (removeCapa d l s₂)
 
 -- 9, and the region with all below it.

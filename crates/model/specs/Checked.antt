@@ -4,4 +4,6 @@ pub mod Script
 pub mod Edges
 pub mod OurCases
 pub mod SendFlags
+pub mod SendHash
+pub mod HashAlone
 pub mod Example

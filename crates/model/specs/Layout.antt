@@ -111,9 +111,16 @@ updateWords (some (cleanup a b)) = 2 ∷ a ∷ b ∷ 0 ∷ []
 abbrev pub placeWords : ℕ → Queue → ℕ → List ℕ
 placeWords n q k = updateWords (getElem? (q .items) ((k + (n + 1) - q .readPlace) % (n + 1)))
 
+-- ---- 9. hashes, 5 words for each of the R regions (document 02, request 1)
+
+-- 1 and the four words of the region's hash; five zeros where it has none, and where the slot is free
+abbrev pub hashWords : Option Region → List ℕ
+hashWords none = replicate 5 0
+hashWords (some g) = elim (g .hash) [ none ↦ replicate 5 0 | some x ↦ 1 ∷ x .word0 ∷ x .word1 ∷ x .word2 ∷ x .word3 ∷ [] ]
+
 -- ---- the whole
 
--- The eight sections.
+-- The nine sections.
 unfoldable pub words : State → List ℕ
 words s =
     headerWords s
@@ -124,9 +131,10 @@ words s =
     ++ flatMap (regionWords (s .regions)) (countUp 0 (s .sizes .regions))
     ++ flatMap (recordSlotWords (s .domains)) (countUp 0 (s .sizes .records))
     ++ flatMap (placeWords (s .sizes .updates) (s .queue)) (countUp 0 (s .sizes .updates + 1))
+    ++ flatMap (λ i. hashWords (atSlot (s .regions) i)) (countUp 0 (s .sizes .regions))
 
 -- How many words they are (`words-length`, crate laws): what the tables' length must be, and the work area's.
 abbrev pub lengthFor : Sizes → ℕ
 lengthFor z =
     7 + (2 + 2 * z .domains) + (2 + 2 * z .regions) + (2 + 2 * z .records)
-    + z .domains * (5 + 3 * z .slots) + 8 * z .regions + 9 * z .records + 4 * (z .updates + 1)
+    + z .domains * (5 + 3 * z .slots) + 8 * z .regions + 9 * z .records + 4 * (z .updates + 1) + 5 * z .regions

@@ -7,7 +7,7 @@ use Rattle.model.specs.Lists.{if_then_else_, isSome, countIf}
 use Rattle.model.specs.Outcome.{Outcome, ok, _>>=_}
 use Rattle.refusals.specs.Refusals.{noRegion}
 use Rattle.rights.specs.Rights.{has, union, CLEANUP}
-use Rattle.model.specs.State.{State, Region, Kind, Root, Alias, Carve, Access, SendOptions, cleanup, domainAt, regionAt, putDomain, putRegion, withTracker, withRecordPool, withRegions, withOwner, withRights}
+use Rattle.model.specs.State.{State, Region, Kind, Root, Alias, Carve, Access, SendOptions, cleanup, domainAt, regionAt, putDomain, putRegion, withTracker, withRecordPool, withRegions, withOwner, withRightsHash}
 use Rattle.model.specs.Pool.{allocate, free}
 use Rattle.model.specs.Tracker.{Walk, gain, lose}
 use Rattle.model.specs.Updates.{push, pushPermission}
@@ -28,11 +28,11 @@ deactivate d a s = do
   w ← lose (a .rights) (a .start) (a .end) (domainAt s d .tracker) (s .recordPool)
   putWalk d w s
 
--- A new region of domain d in a slot of its own; 11 where none is free.
+-- A new region of domain d, without a hash, in a slot of its own; 11 where none is free.
 unfoldable pub newRegion : ℕ → Kind → Access → State → Outcome (ℕ × State)
 newRegion d k a s = do
   (i, p) ← allocate noRegion (s .regionPool)
-  ok (i, withRegions p (set (s .regions) i (some (record { owner = d; kind = k; start = a .start; end = a .end; rights = a .rights; children = [] }))) s)
+  ok (i, withRegions p (set (s .regions) i (some (record { owner = d; kind = k; start = a .start; end = a .end; rights = a .rights; children = []; hash = none }))) s)
 
 -- Region i leaves its slot (16).
 unfoldable pub freeRegion : ℕ → State → Outcome State
@@ -52,9 +52,10 @@ sendRanges old new r (x ∷ xs) s = do
 unfoldable pub sendRegion : ℕ → ℕ → State → Outcome State
 sendRegion i new s = let g = regionAt s i in sendRanges (g .owner) new (g .rights) (effectiveRanges s g) (putRegion i (withOwner new g) s)
 
--- Request 1: "With a flag word given for a region, the flags join the region's rights". The tracker counts none of the flags that may join.
+-- Request 1: "With a flag word given for a region, the flags join the region's rights .. and the hash is stored, or cleared when absent. Without one the
+-- stored hash stays." The tracker counts none of the flags that may join.
 unfoldable pub applyOptions : ℕ → SendOptions → State → State
-applyOptions i o s = elim (o .flags) [ none ↦ s | some f ↦ let g = regionAt s i in putRegion i (withRights (union (g .rights) f) g) s ]
+applyOptions i o s = elim (o .flags) [ none ↦ s | some f ↦ let g = regionAt s i in putRegion i (withRightsHash (union (g .rights) f) (o .hash) g) s ]
 
 -- "a carve's parent's domain gains it with the parent's rights"
 unfoldable pub giveBack : Region → State → Outcome State

@@ -10,7 +10,7 @@ use lib.Dec.{T, eqb, ltb}
 use lib.ListN.{length, getD}
 use Rattle.rights.specs.Rights.{allowed}
 use Rattle.model.specs.Lists.{oneIf, isSome, exists, countIf, Each, atSlot, In}
-use Rattle.model.specs.State.{Word, Handle, Pool, Capa, noCapa, region, regionRevoke, management, channel, LocalList, Record, Domain, parentOf, Region, Update, permission, cleanup, Queue, State}
+use Rattle.model.specs.State.{Word, Handle, Pool, Capa, noCapa, region, regionRevoke, management, channel, LocalList, Record, Domain, parentOf, Region, HashWords, Update, permission, cleanup, Queue, State}
 use Rattle.model.specs.Fields.{Field}
 use Rattle.model.specs.Pool.{handleOf, sameHandle, isLive}
 use Rattle.model.specs.Updates.{isPermissionOf}
@@ -80,6 +80,7 @@ pub record RegionSound (regions : List (Option Region)) (i : ℕ) (g : Region) :
   pub startWord : Word (g .start)
   pub endWord : Word (g .end)
   pub rightsByte : g .rights < 256
+  pub hashWords : HashWords (g .hash)
 
 -- ---- capability lists
 

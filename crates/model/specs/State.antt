@@ -76,7 +76,19 @@ parentOf Root = none
 parentOf (Alias p) = some p
 parentOf (Carve p) = some p
 
--- A region from start up to but not including end; its owner's slot; its children's slots in list order (`RegionCapa`).
+-- Document 02, request 1: a "32-byte hash" (`RegionHash`) as four words: byte 8 k + j of it is bits 8 j to 8 j + 7 of word k.
+pub record Hash : Type 0 where
+  pub word0 : ℕ
+  pub word1 : ℕ
+  pub word2 : ℕ
+  pub word3 : ℕ
+
+-- a hash, if there is one, is of 64-bit words
+abbrev pub HashWords : Option Hash → Type 0
+HashWords none = Unit {0}
+HashWords (some x) = Word (x .word0) × Word (x .word1) × Word (x .word2) × Word (x .word3)
+
+-- A region from start up to but not including end; its owner's slot; its children's slots in list order; its hash, if one is stored (`RegionCapa`).
 pub record Region : Type 0 where
   pub owner : ℕ
   pub kind : Kind
@@ -84,6 +96,7 @@ pub record Region : Type 0 where
   pub end : ℕ
   pub rights : ℕ
   pub children : List ℕ
+  pub hash : Option Hash
 
 -- A range with rights, as a call names it, or a permission list's record (`AccessRights`, `MemoryPermission`).
 pub record Access : Type 0 where
@@ -91,12 +104,13 @@ pub record Access : Type 0 where
   pub end : ℕ
   pub rights : ℕ
 
--- Document 02, request 1: what a send may say besides: "an optional flag word".
+-- Document 02, request 1: what a send may say besides: "an optional flag word and optional 32-byte hash".
 pub record SendOptions : Type 0 where
   pub flags : Option ℕ
+  pub hash : Option Hash
 
 abbrev pub noOptions : SendOptions
-noOptions = record { flags = none }
+noOptions = record { flags = none; hash = none }
 
 -- **Update ring**: a domain with its core map, or a range to be cleaned up (`Update`).
 pub data Update : Type 0 where
@@ -142,13 +156,13 @@ abbrev pub withTracker : List Record → Domain → Domain
 withTracker t d = record { manager = d .manager; cores = d .cores; locals = d .locals; tracker = t }
 
 abbrev pub withOwner : ℕ → Region → Region
-withOwner o r = record { owner = o; kind = r .kind; start = r .start; end = r .end; rights = r .rights; children = r .children }
+withOwner o r = record { owner = o; kind = r .kind; start = r .start; end = r .end; rights = r .rights; children = r .children; hash = r .hash }
 
-abbrev pub withRights : ℕ → Region → Region
-withRights n r = record { owner = r .owner; kind = r .kind; start = r .start; end = r .end; rights = n; children = r .children }
+abbrev pub withRightsHash : ℕ → Option Hash → Region → Region
+withRightsHash n x r = record { owner = r .owner; kind = r .kind; start = r .start; end = r .end; rights = n; children = r .children; hash = x }
 
 abbrev pub withChildren : List ℕ → Region → Region
-withChildren c r = record { owner = r .owner; kind = r .kind; start = r .start; end = r .end; rights = r .rights; children = c }
+withChildren c r = record { owner = r .owner; kind = r .kind; start = r .start; end = r .end; rights = r .rights; children = c; hash = r .hash }
 
 -- ---- a domain and a region by slot number; in sound tables the fallbacks are never met
 
@@ -156,7 +170,7 @@ abbrev pub noneDomain : Domain
 noneDomain = record { manager = none; cores = 0; locals = record { held = []; free = [] }; tracker = [] }
 
 abbrev pub noneRegion : Region
-noneRegion = record { owner = 0; kind = Root; start = 0; end = 0; rights = 0; children = [] }
+noneRegion = record { owner = 0; kind = Root; start = 0; end = 0; rights = 0; children = []; hash = none }
 
 -- the domain, and the region, in a slot
 abbrev pub domainAt : State → ℕ → Domain

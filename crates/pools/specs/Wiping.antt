@@ -1,11 +1,11 @@
--- Freeing a slot also makes the words of its record 0.
+-- Freeing a slot also makes the words of its record 0, and those of a region's hash.
 use mathlib.Core.Path.{_≡_, refl, sym, ap, _∙_}
 use mathlib.Core.Bool.{Bool, true, false}
 use mathlib.Core.List.{List}
 use Prim.Native.Nat.{ℕ}
 use Rattle.base.specs.Cases.{pick}
 use Rattle.base.specs.Tests.{both}
-use Rattle.tables.specs.Tables.{Tables, noRegion, noRecord, withDomainPool, withRegionPool, withRecordPool, withRegion, withRecord}
+use Rattle.tables.specs.Tables.{Tables, noRegion, noRecord, noHash, withDomainPool, withRegionPool, withRecordPool, withRegion, withRecord, withHash}
 use Rattle.tables.specs.View.{view, Left}
 use Rattle.arena.specs.declared.Freed.{Freed}
 use Rattle.arena.specs.declared.Freed.the-variants.{Done, Spent, NotHeld}
@@ -16,7 +16,7 @@ use Rattle.pools.specs.Pools.{poolOf, withPool}
 
 abbrev pub wiped : Tables → Pool → ℕ → Tables
 wiped s Domains i = s
-wiped s Regions i = withRegion s i noRegion
+wiped s Regions i = withHash (withRegion s i noRegion) i noHash
 wiped s Records i = withRecord s i noRecord
 
 -- slot i of pool q is freed, and its record wiped, where it can be

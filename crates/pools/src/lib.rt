@@ -2,7 +2,7 @@
 ghost use mathlib.Core.Path.{_≡_};
 ghost use lib.ListN.{getD};
 ghost use Rattle.words.specs.Cuts.{offset};
-ghost use Rattle.tables.specs.Tables.{withDomainPool, withRegionPool, withRecordPool};
+ghost use Rattle.tables.specs.Tables.{noRegion, noHash, withDomainPool, withRegionPool, withRecordPool, withRegion, withHash};
 ghost use Rattle.sizes.specs.Sizes.{sizesOf, widths};
 ghost use Rattle.tables.specs.View.{view, Sized, Left};
 ghost use Rattle.arena.specs.Arena.{given, allocated, answerTo, freed, isFreeB, liveB, capacityOf, newArena};
@@ -87,6 +87,15 @@ fn push_in(t: &mut [u64], q: Pool, i: usize) -> Freed
     arena::free(&mut t[a..e], s.slots, i)
 }
 
+// A region's record and its hash (document 02, request 1: a slot that is given again has none).
+fn wipe_region(t: &mut [u64], i: usize)
+    requires { ⌜ Sized (now t) ⌝ }
+    ensures { λ _. ⌜ Left (now (t .exit)) (withHash (withRegion (view (now (t .entry))) i noRegion) i noHash) ⌝ }
+{
+    tables::store_region(t, i, tables::no_region());
+    tables::store_hash(t, i, tables::no_hash());
+}
+
 // Makes the words of record i 0. A domain is never freed, so its record stays.
 fn wipe(t: &mut [u64], q: Pool, i: usize)
     requires { ⌜ Sized (now t) ⌝ }
@@ -94,7 +103,7 @@ fn wipe(t: &mut [u64], q: Pool, i: usize)
 {
     match q {
         Pool::Domains => {}
-        Pool::Regions => tables::store_region(t, i, tables::no_region()),
+        Pool::Regions => wipe_region(t, i),
         Pool::Records => tables::store_record(t, i, tables::no_record()),
     }
 }

@@ -14,14 +14,14 @@ use Rattle.model.specs.Layout.{words, slotOr0, freeLink}
 use Rattle.model.specs.Pool.{freshPool}
 use Rattle.model.specs.Making.{emptyTables}
 use Rattle.laws.specs.Parts.{up-length}
-use Rattle.tables.specs.Tables.{noRegion, noRecord, noUpdate}
+use Rattle.tables.specs.Tables.{noRegion, noRecord, noUpdate, noHash}
 use Rattle.tables.specs.View.{layout}
 use Rattle.arena.specs.Arena.{freshLink, linksFrom, newArena}
 use Rattle.making.specs.Empty.{empty, emptyDomain}
 use Rattle.decoded.specs.Rows.{same-up, replicate-up}
 use Rattle.laws.specs.Empty.{free-slot}
 use Rattle.decoded.specs.Links.{up-link, up-last}
-use Rattle.decoded.specs.Tables.{sizesFor, poolOf, domainFor, regionFor, recordIn, placeFor, domainsFor, regionsFor, recordsFor, ringFor, tablesOf}
+use Rattle.decoded.specs.Tables.{sizesFor, poolOf, domainFor, regionFor, slotHash, recordIn, placeFor, domainsFor, regionsFor, recordsFor, ringFor, hashesFor, tablesOf}
 use Rattle.decoded.specs.Words.{layout-tables}
 
 -- ---- a pool with every slot free
@@ -60,7 +60,7 @@ no-record zero i = refl
 no-record (suc n) i = no-record n i
 
 pub empty-tables : (z : state.Sizes) → tablesOf (emptyTables z) ≡ empty (sizesFor z)
-unfolding tablesOf empty emptyDomain domainsFor regionsFor recordsFor ringFor
+unfolding tablesOf empty emptyDomain domainsFor regionsFor recordsFor ringFor hashesFor
 empty-tables z =
     let w : (0 + 0) % (z .updates + 1) ≡ 0 = mod-eq-of-lt (omega arith) in
     let p₁ = fresh-pool (z .domains) in
@@ -70,7 +70,8 @@ empty-tables z =
     let p₅ = replicate-up (λ i. regionFor (replicate (z .regions) none) i (atSlot (replicate (z .regions) none) i)) noRegion (z .regions) (λ i h. ap (regionFor (replicate (z .regions) none) i) (free-slot (z .regions) i)) in
     let p₆ = replicate-up (recordIn (replicate (z .domains) none)) noRecord (z .records) (λ i h. no-record (z .domains) i) in
     let p₇ = replicate-up (placeFor (z .updates) (record { readPlace = 0; items = [] })) noUpdate (z .updates + 1) (λ i h. refl) in
-    λ i. record { sizes = sizesFor z; read = 0; write = w i; domainPool = p₁ i; regionPool = p₂ i; recordPool = p₃ i; domains = p₄ i; regions = p₅ i; records = p₆ i; ring = p₇ i }
+    let p₈ = replicate-up (λ i. slotHash (atSlot (replicate (z .regions) none) i)) noHash (z .regions) (λ i h. ap slotHash (free-slot (z .regions) i)) in
+    λ i. record { sizes = sizesFor z; read = 0; write = w i; domainPool = p₁ i; regionPool = p₂ i; recordPool = p₃ i; domains = p₄ i; regions = p₅ i; records = p₆ i; ring = p₇ i; hashes = p₈ i }
 
 -- what `make_empty` leaves
 pub empty-words : (z : state.Sizes) → layout (empty (sizesFor z)) ≡ words (emptyTables z)

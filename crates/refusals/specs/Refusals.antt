@@ -72,7 +72,10 @@ badRecord = record { 0 = 17 }
 abbrev pub badFlag : Refusal
 badFlag = record { 0 = 18 }
 
+abbrev pub noHash : Refusal
+noHash = record { 0 = 19 }
+
 -- ---- all of them, in the order of their numbers
 
 abbrev pub all : List Refusal
-all = memory ∷ sizes ∷ noDomain ∷ noSlot ∷ wrongKind ∷ stale ∷ badRange ∷ beyond ∷ isRoot ∷ notCarried ∷ noRegion ∷ noLocal ∷ noTracker ∷ ringFull ∷ noDomainRoom ∷ spent ∷ badRecord ∷ badFlag ∷ []
+all = memory ∷ sizes ∷ noDomain ∷ noSlot ∷ wrongKind ∷ stale ∷ badRange ∷ beyond ∷ isRoot ∷ notCarried ∷ noRegion ∷ noLocal ∷ noTracker ∷ ringFull ∷ noDomainRoom ∷ spent ∷ badRecord ∷ badFlag ∷ noHash ∷ []

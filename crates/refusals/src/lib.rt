@@ -41,8 +41,10 @@ impl Refusal {
 
     pub const BAD_FLAG: Refusal = Refusal(18);
 
+    pub const NO_HASH: Refusal = Refusal(19);
+
     // All of them. The contract ties each constant to the specification's name.
-    pub fn all() -> [Refusal; 18]
+    pub fn all() -> [Refusal; 19]
         ensures { λ r. ⌜ r ≡ all ⌝ }
     {
         [
@@ -64,6 +66,7 @@ impl Refusal {
             Refusal::SPENT,
             Refusal::BAD_RECORD,
             Refusal::BAD_FLAG,
+            Refusal::NO_HASH,
         ]
     }
 }

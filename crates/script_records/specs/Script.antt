@@ -62,7 +62,7 @@ withRights f start end rights = if ltb 255 rights then none else some (Call.Do (
 
 -- The call of a record, f i its field i: "1 open (manager slot, generation, cores ..), 2 root (domain slot, generation, start, end, rights), 3 alias and
 -- 4 carve (domain slot, generation, local, start, end, rights), 5 send (domain slot, generation, local, target local), 6 revoke and 7 RegionRevoke (domain
--- slot, generation, local)". A record's send has no flag word (document 02, request 1).
+-- slot, generation, local)". A record's send has no flag word and no hash (document 02, request 1).
 abbrev pub callOf : Kind → (ℕ → ℕ) → Option Call
 callOf opening f = some (Call.Do (Step.Open (managerOf (f 0) (f 1)) (f 2)))
 callOf root f = withRights (Step.Root (handle (f 0) (f 1))) (f 2) (f 3) (f 4)

@@ -49,7 +49,7 @@ words-for (some opening) r w h = elim (test (eqb (r .a) (2 ^ 64 - 1))) [ holds t
 words-for (some root) r w h = ((w .a, w .b), (w .c, w .d, omega arith))
 words-for (some alias) r w h = ((w .a, w .b), w .c, (w .d, w .e, omega arith))
 words-for (some carve) r w h = ((w .a, w .b), w .c, (w .d, w .e, omega arith))
-words-for (some send) r w h = ((w .a, w .b), w .c, w .d, tt)
+words-for (some send) r w h = ((w .a, w .b), w .c, w .d, (tt, tt))
 words-for (some revoke) r w h = ((w .a, w .b), w .c)
 words-for (some makeRevoke) r w h = ((w .a, w .b), w .c)
 

@@ -16,11 +16,13 @@ pub use regions::free_region;
 pub use regions::new_region;
 use rights::Rights;
 pub use send::send_region;
+use tables::Hash;
 
-// What a send says besides (document 02, request 1): no flag word, or one.
+// What a send says besides (document 02, request 1): no flag word, one without a hash, or one with a hash.
 pub enum SendOptions {
     None,
     Flags(Rights),
+    Hashed(Rights, Hash),
 }
 
 // Where a search of a child list stands: the links of the child before and of the child at hand.

@@ -8,7 +8,7 @@ use Rattle.sizes.specs.declared.Sizes.{Sizes}
 unfoldable pub sizesOf : List ℕ → Sizes
 sizesOf t = record { domains = getD t 0 0; slots = getD t 1 0; regions = getD t 2 0; records = getD t 3 0; updates = getD t 4 0 }
 
--- ---- how many words each has: the header; a domain before its slots; a slot; a region; a tracker record; a ring place
+-- ---- how many words each has: the header; a domain before its slots; a slot; a region; a tracker record; a ring place; a region's hash
 
 abbrev pub headerWidth : ℕ
 headerWidth = 7
@@ -28,6 +28,9 @@ recordWidth = 9
 abbrev pub updateWidth : ℕ
 updateWidth = 4
 
+abbrev pub hashWidth : ℕ
+hashWidth = 5
+
 -- a domain with its slots
 abbrev pub stride : Sizes → ℕ
 stride z = headWidth + z .slots * slotWidth
@@ -37,7 +40,7 @@ poolWidth n = 2 + (n + n)
 
 -- how many sections there are
 abbrev pub sections : ℕ
-sections = 8
+sections = 9
 
 -- the place of each in their order
 abbrev pub headerSection : ℕ
@@ -64,10 +67,13 @@ recordsSection = 6
 abbrev pub ringSection : ℕ
 ringSection = 7
 
+abbrev pub hashSection : ℕ
+hashSection = 8
+
 -- their widths
 abbrev pub widths : Sizes → List ℕ
 widths z =
-    headerWidth ∷ poolWidth (z .domains) ∷ poolWidth (z .regions) ∷ poolWidth (z .records) ∷ (z .domains * stride z) ∷ (z .regions * regionWidth) ∷ (z .records * recordWidth) ∷ ((z .updates + 1) * updateWidth) ∷ []
+    headerWidth ∷ poolWidth (z .domains) ∷ poolWidth (z .regions) ∷ poolWidth (z .records) ∷ (z .domains * stride z) ∷ (z .regions * regionWidth) ∷ (z .records * recordWidth) ∷ ((z .updates + 1) * updateWidth) ∷ (z .regions * hashWidth) ∷ []
 
 unfoldable pub total : Sizes → ℕ
 unfolding offset

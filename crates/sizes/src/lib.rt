@@ -3,7 +3,7 @@ ghost use mathlib.Core.Path.{_≡_};
 ghost use Rattle.words.specs.Cuts.{offset};
 ghost use Rattle.sizes.specs.Limits.{Limits, withinB, limitsB};
 ghost use Rattle.sizes.specs.Tests.{sizedB};
-ghost use Rattle.sizes.specs.Sizes.{sizesOf, stride, regionPoolSection, recordPoolSection, domainsSection, regionsSection, recordsSection, ringSection, widths, total};
+ghost use Rattle.sizes.specs.Sizes.{sizesOf, stride, regionPoolSection, recordPoolSection, domainsSection, regionsSection, recordsSection, ringSection, hashSection, widths, total};
 
 // ---- The header's words: five sizes, and the ring's two places
 
@@ -21,7 +21,8 @@ pub const READ: usize = 5;
 
 pub const WRITE: usize = 6;
 
-// ---- How many words each has: the header; a domain before its slots; a slot; a region; a tracker record; a ring place
+// ---- How many words each has: the header; a domain before its slots; a slot; a region; a tracker record; a ring place; a
+// region's hash
 
 pub const HEADER_WIDTH: usize = 7;
 
@@ -37,6 +38,8 @@ pub const REGION_WIDTH: usize = 8;
 pub const RECORD_WIDTH: usize = 9;
 
 pub const UPDATE_WIDTH: usize = 4;
+
+pub const HASH_WIDTH: usize = 5;
 
 // ---- The limits, and the words of the largest tables
 
@@ -56,7 +59,8 @@ pub const MOST_WORDS: usize = HEADER_WIDTH
     + MOST_DOMAINS * (HEAD_WIDTH + MOST_SLOTS * SLOT_WIDTH)
     + MOST_REGIONS * REGION_WIDTH
     + MOST_RECORDS * RECORD_WIDTH
-    + (MOST_UPDATES + 1) * UPDATE_WIDTH;
+    + (MOST_UPDATES + 1) * UPDATE_WIDTH
+    + MOST_REGIONS * HASH_WIDTH;
 
 // How many of each the tables hold; `slots` in each domain.
 pub struct Sizes {
@@ -149,11 +153,18 @@ pub fn ring_at(z: Sizes) -> usize
     records_at(z) + z.records * RECORD_WIDTH
 }
 
+pub fn hashes_at(z: Sizes) -> usize
+    requires { ⌜ Limits z ⌝ }
+    ensures { λ r. ⌜ r ≡ offset (widths z) hashSection ⌝ }
+{
+    ring_at(z) + (z.updates + 1) * UPDATE_WIDTH
+}
+
 pub fn total_of(z: Sizes) -> usize
     requires { ⌜ Limits z ⌝ }
     ensures { λ r. ⌜ r ≡ total z ⌝ }
 {
-    ring_at(z) + (z.updates + 1) * UPDATE_WIDTH
+    hashes_at(z) + z.regions * HASH_WIDTH
 }
 
 // Whether the words are as many as the sizes in their header ask.

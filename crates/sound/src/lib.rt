@@ -20,6 +20,10 @@ pub fn outside_holds(t: &[u64], w: &mut [u64]) -> bool
     if !tree {
         return false;
     }
+    let hashes = sound_hashes::hashes_hold(t);
+    if !hashes {
+        return false;
+    }
     sound_capas::capas_hold(t, w)
 }
 

@@ -1,4 +1,4 @@
--- Regions, tracker records and the ring are tables of whole rows: what loading and storing one is in the view.
+-- Regions, tracker records, the ring and hashes are tables of whole rows: what loading and storing one is in the view.
 use mathlib.Core.Path.{_≡_, refl, ap}
 use mathlib.Core.List.{List}
 use Prim.Native.Nat.{ℕ, _+_, _-_}
@@ -8,9 +8,10 @@ use Rattle.words.specs.Cuts.{cuts}
 use Rattle.tables.specs.declared.RegionCapa.{RegionCapa}
 use Rattle.tables.specs.declared.Region.{Region}
 use Rattle.tables.specs.declared.Update.{Update}
-use Rattle.tables.specs.Tables.{regionAt, recordAt, updateAt, withRegions, withRecords, withRing, withRegion, withRecord, withUpdate}
-use Rattle.sizes.specs.Sizes.{sizesOf, regionWidth, recordWidth, updateWidth, regionsSection, recordsSection, ringSection}
-use Rattle.tables.specs.View.{view, ofParts, Sized, Left, regionOf, regionWords, recordOf, recordWords, updateOf, updateWords}
+use Rattle.tables.specs.declared.RegionHash.{RegionHash}
+use Rattle.tables.specs.Tables.{regionAt, recordAt, updateAt, hashAt, withRegions, withRecords, withRing, withHashes, withRegion, withRecord, withUpdate, withHash}
+use Rattle.sizes.specs.Sizes.{sizesOf, regionWidth, recordWidth, updateWidth, hashWidth, regionsSection, recordsSection, ringSection, hashSection}
+use Rattle.tables.specs.View.{view, ofParts, Sized, Left, regionOf, regionWords, recordOf, recordWords, updateOf, updateWords, hashOf, hashWords}
 use Rattle.tables.specs.Sections.{only-left}
 use Rattle.tables.specs.Rows.{placed, row-loaded, row-replaced}
 
@@ -23,7 +24,10 @@ recordPlace t i = placed t recordsSection (sizesOf t .records) recordWidth i
 abbrev pub updatePlace : List ℕ → ℕ → ℕ
 updatePlace t i = placed t ringSection (sizesOf t .updates + 1) updateWidth i
 
--- ---- regions, tracker records, the ring: whole rows
+abbrev pub hashPlace : List ℕ → ℕ → ℕ
+hashPlace t i = placed t hashSection (sizesOf t .regions) hashWidth i
+
+-- ---- regions, tracker records, the ring, hashes: whole rows
 
 module _ (t : List ℕ) (s : Sized t) (i a : ℕ) where
   pub region-loaded : (p : List ℕ) → a ≡ regionPlace t i → p ≡ fetched t a regionWidth → regionOf p ≡ regionAt (view t) i
@@ -37,6 +41,10 @@ module _ (t : List ℕ) (s : Sized t) (i a : ℕ) where
   pub update-loaded : (p : List ℕ) → a ≡ updatePlace t i → p ≡ fetched t a updateWidth → updateOf p ≡ updateAt (view t) i
   unfolding updateAt view ofParts
   update-loaded p e ep = rw (ep, e) (row-loaded t (ringSection - 1) (sizesOf t .updates + 1) updateWidth s (omega arith) refl updateOf i (omega arith))
+
+  pub hash-loaded : (p : List ℕ) → a ≡ hashPlace t i → p ≡ fetched t a hashWidth → hashOf p ≡ hashAt (view t) i
+  unfolding hashAt view ofParts
+  hash-loaded p e ep = rw (ep, e) (row-loaded t (hashSection - 1) (sizesOf t .regions) hashWidth s (omega arith) refl hashOf i (omega arith))
 
   pub region-stored : (u : List ℕ) (r : RegionCapa) → a ≡ regionPlace t i → u ≡ stored t a (regionWords r) → Left u (withRegion (view t) i r)
   unfolding view ofParts cuts withRegion withRegions
@@ -55,3 +63,9 @@ module _ (t : List ℕ) (s : Sized t) (i a : ℕ) where
   update-stored u x e eu =
       let q = row-replaced t (ringSection - 1) (sizesOf t .updates + 1) updateWidth s (omega arith) refl updateOf u (updateWords x) i refl (omega arith) (rw e at eu) in
       only-left t u ringSection (withUpdate (view t) i x) s (q .0) (ap (withRing (view t)) (q .1))
+
+  pub hash-stored : (u : List ℕ) (h : RegionHash) → a ≡ hashPlace t i → u ≡ stored t a (hashWords h) → Left u (withHash (view t) i h)
+  unfolding view ofParts cuts withHash withHashes
+  hash-stored u h e eu =
+      let q = row-replaced t (hashSection - 1) (sizesOf t .regions) hashWidth s (omega arith) refl hashOf u (hashWords h) i refl (omega arith) (rw e at eu) in
+      only-left t u hashSection (withHash (view t) i h) s (q .0) (ap (withHashes (view t)) (q .1))

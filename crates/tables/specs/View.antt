@@ -12,9 +12,10 @@ use Rattle.tables.specs.declared.Slot.{Slot}
 use Rattle.tables.specs.declared.RegionCapa.{RegionCapa}
 use Rattle.tables.specs.declared.Region.{Region}
 use Rattle.tables.specs.declared.Update.{Update}
+use Rattle.tables.specs.declared.RegionHash.{RegionHash}
 use Rattle.tables.specs.Tables.{Tables, Domain, Arena}
 use Rattle.sizes.specs.Limits.{Limits}
-use Rattle.sizes.specs.Sizes.{sizesOf, headWidth, slotWidth, regionWidth, recordWidth, updateWidth, stride, headerSection, domainPoolSection, regionPoolSection, recordPoolSection, domainsSection, regionsSection, recordsSection, ringSection, widths, total}
+use Rattle.sizes.specs.Sizes.{sizesOf, headWidth, slotWidth, regionWidth, recordWidth, updateWidth, hashWidth, stride, headerSection, domainPoolSection, regionPoolSection, recordPoolSection, domainsSection, regionsSection, recordsSection, ringSection, hashSection, widths, total}
 
 -- ---- a record in its words
 
@@ -34,6 +35,9 @@ recordOf p =
 
 abbrev pub updateOf : List ℕ → Update
 updateOf p = record { kind = getD p 0 0; a = getD p 1 0; b = getD p 2 0; c = getD p 3 0 }
+
+abbrev pub hashOf : List ℕ → RegionHash
+hashOf p = record { given = getD p 0 0; word0 = getD p 1 0; word1 = getD p 2 0; word2 = getD p 3 0; word3 = getD p 4 0 }
 
 -- a pool over n slots
 unfoldable pub arenaOf : ℕ → List ℕ → Arena
@@ -58,6 +62,7 @@ ofParts z ps =
       regions = rows regionWidth (z .regions) regionOf (getD ps regionsSection []);
       records = rows recordWidth (z .records) recordOf (getD ps recordsSection []);
       ring = rows updateWidth (z .updates + 1) updateOf (getD ps ringSection []);
+      hashes = rows hashWidth (z .regions) hashOf (getD ps hashSection []);
     }
 
 unfoldable pub view : List ℕ → Tables
@@ -91,6 +96,9 @@ recordWords r =
 abbrev pub updateWords : Update → List ℕ
 updateWords u = u .kind ∷ u .a ∷ u .b ∷ u .c ∷ []
 
+abbrev pub hashWords : RegionHash → List ℕ
+hashWords h = h .given ∷ h .word0 ∷ h .word1 ∷ h .word2 ∷ h .word3 ∷ []
+
 unfoldable pub arenaWords : Arena → List ℕ
 arenaWords a = a .head ∷ a .count ∷ a .links ++ a .gens
 
@@ -103,7 +111,7 @@ headerWords s =
 
 unfoldable pub partsOf : Tables → List (List ℕ)
 partsOf s =
-    headerWords s ∷ arenaWords (s .domainPool) ∷ arenaWords (s .regionPool) ∷ arenaWords (s .recordPool) ∷ flat domainWords (s .domains) ∷ flat regionWords (s .regions) ∷ flat recordWords (s .records) ∷ flat updateWords (s .ring) ∷ []
+    headerWords s ∷ arenaWords (s .domainPool) ∷ arenaWords (s .regionPool) ∷ arenaWords (s .recordPool) ∷ flat domainWords (s .domains) ∷ flat regionWords (s .regions) ∷ flat recordWords (s .records) ∷ flat updateWords (s .ring) ∷ flat hashWords (s .hashes) ∷ []
 
 unfoldable pub layout : Tables → List ℕ
 layout s = join (partsOf s)

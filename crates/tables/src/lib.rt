@@ -1,9 +1,10 @@
 // The engine's tables in lent words: records by value, loaded and stored by their numbers.
 // docs/TABLES.md has the layout; a record that is not there is all zero, and is not stored.
 ghost use mathlib.Core.Path.{_≡_};
-ghost use Rattle.tables.specs.Tables.{noHead, noSlot, noRegion, noRecord, noUpdate};
+ghost use Rattle.tables.specs.Tables.{noHead, noSlot, noRegion, noRecord, noUpdate, noHash};
 
 pub mod domains;
+pub mod hashes;
 pub mod links;
 pub mod records;
 pub mod regions;
@@ -13,6 +14,8 @@ pub mod rows;
 pub use domains::load_head;
 pub use domains::load_slot;
 pub use domains::store_head;
+pub use hashes::load_hash;
+pub use hashes::store_hash;
 pub use links::link_to;
 pub use links::slot_to;
 pub use records::load_record;
@@ -115,6 +118,23 @@ impl Update {
     pub const CLEANUP: u64 = 2;
 }
 
+// The 32 bytes of a hash, byte 0 lowest in the first word.
+pub struct Hash {
+    pub word0: u64,
+    pub word1: u64,
+    pub word2: u64,
+    pub word3: u64,
+}
+
+// What is stored of a region's hash: whether one was given, 1 or 0, and its words.
+pub struct RegionHash {
+    pub given: u64,
+    pub word0: u64,
+    pub word1: u64,
+    pub word2: u64,
+    pub word3: u64,
+}
+
 // ---- The records that are all zero
 
 pub fn no_head() -> DomainHead
@@ -178,5 +198,17 @@ pub fn no_update() -> Update
         a: 0,
         b: 0,
         c: 0,
+    }
+}
+
+pub fn no_hash() -> RegionHash
+    ensures { λ r. ⌜ r ≡ noHash ⌝ }
+{
+    RegionHash {
+        given: 0,
+        word0: 0,
+        word1: 0,
+        word2: 0,
+        word3: 0,
     }
 }

@@ -52,7 +52,7 @@ deactivate-pool : (d : ℕ) (a : Access) (s : State) → All (SamePool s) (deact
 unfolding deactivate
 deactivate-pool d a s = bind-any _ (λ w. walk-pool d w s)
 
-give-kind : (g : Region) (k : Kind) (s : State) → All (SamePool s) (giveBack (record { owner = g .owner; kind = k; start = g .start; end = g .end; rights = g .rights; children = g .children }) s)
+give-kind : (g : Region) (k : Kind) (s : State) → All (SamePool s) (giveBack (record { owner = g .owner; kind = k; start = g .start; end = g .end; rights = g .rights; children = g .children; hash = g .hash }) s)
 unfolding giveBack
 give-kind g Root s = accepted refl
 give-kind g (Alias p) s = accepted refl

@@ -12,17 +12,17 @@ use Rattle.model.specs.Lists.{Each, In, countUp}
 use Rattle.model.specs.State as state
 use Rattle.model.specs.Sound.{recordUses}
 use Rattle.tables.specs.declared.Region.{Region}
-use Rattle.tables.specs.Tables.{Tables, Domain, noDomain, noRegion, noRecord}
+use Rattle.tables.specs.Tables.{Tables, Domain, noDomain, noRegion, noRecord, noHash}
 use Rattle.decoded.specs.Shape.{Shaped}
-use Rattle.decoded.specs.Tables.{domainFor, regionFor, recordIn, domainsFor, regionsFor, recordsFor, tablesOf}
+use Rattle.decoded.specs.Tables.{domainFor, regionFor, slotHash, recordIn, domainsFor, regionsFor, recordsFor, hashesFor, tablesOf}
 use Rattle.decoded.specs.Tracker.Trackers.{record-unused}
-use Rattle.decoded.specs.Decode.Read.{taken, domainFrom, regionFrom, domainsFrom, regionsFrom, queueFrom, stateOf}
+use Rattle.decoded.specs.Decode.Read.{taken, domainFrom, regionRead, domainsFrom, regionsFrom, queueFrom, stateOf}
 use Rattle.decoded.specs.Decode.Walks.{map-up}
 use Rattle.decoded.specs.Decode.Trackers.{Stored}
 use Rattle.decoded.specs.Canonical.WellFormed.{Canonical, WellFormed, Walked}
 use Rattle.decoded.specs.Canonical.Pools.{pool-kept, table-used, table-in, table-kept}
 use Rattle.decoded.specs.Canonical.Domains.{domain-kept}
-use Rattle.decoded.specs.Canonical.Regions.{region-kept, next-kept}
+use Rattle.decoded.specs.Canonical.Regions.{hash-kept, region-kept, next-kept}
 use Rattle.decoded.specs.Canonical.Records.{walked-stored, record-kept}
 use Rattle.decoded.specs.Canonical.Ring.{ring-kept, write-kept}
 
@@ -46,20 +46,24 @@ module _ (v : Tables) (s : Shaped v) (t : WellFormed v) (w : Walked v) where
 
   -- ---- regions
 
-  abbrev regionRead : ℕ → state.Region
-  regionRead i = regionFrom (v .sizes .regions) (v .regions) (getD (v .regions) i noRegion)
-
   regions-kept : regionsFor (v .sizes .regions) (regionsFrom v) ≡ v .regions
   unfolding regionsFor regionsFrom
-  regions-kept = table-kept (v .sizes .regions) (v .regionPool) regionRead (regionFor (regionsFrom v)) (v .regions) noRegion (s .regions) used (λ i b e. sym (t .outside .regionsFree i b e))
+  regions-kept = table-kept (v .sizes .regions) (v .regionPool) (regionRead v) (regionFor (regionsFrom v)) (v .regions) noRegion (s .regions) used (λ i b e. sym (t .outside .regionsFree i b e))
     where
-      used : (i : ℕ) → i < v .sizes .regions → taken (v .regionPool) i ≡ true → regionFor (regionsFrom v) i (some (regionRead i)) ≡ getD (v .regions) i noRegion
+      used : (i : ℕ) → i < v .sizes .regions → taken (v .regionPool) i ≡ true → regionFor (regionsFrom v) i (some (regionRead v i)) ≡ getD (v .regions) i noRegion
       used i b e =
           region-kept (v .sizes .regions) (v .regions) (regionsFrom v) i
           (λ p k q.
           let u = w .outside .parentTaken i p b e k q in
-          next-kept (v .sizes .regions) (v .regions) (regionsFrom v) i p (table-used (v .sizes .regions) (v .regionPool) regionRead p (u .0) (u .1)) (w .outside .childrenEnd p (u .0) (u .1)) (w .outside .listed i p b e k q))
-          (t .outside .regionsUsed i b e) (w .outside .childrenEnd i b e)
+          next-kept (v .sizes .regions) (v .regions) (regionsFrom v) i p (getD (v .hashes) p noHash) (table-used (v .sizes .regions) (v .regionPool) (regionRead v) p (u .0) (u .1)) (w .outside .childrenEnd p (u .0) (u .1)) (w .outside .listed i p b e k q))
+          (t .outside .regionsUsed i b e) (w .outside .childrenEnd i b e) (getD (v .hashes) i noHash)
+
+  hashes-kept : hashesFor (v .sizes .regions) (regionsFrom v) ≡ v .hashes
+  unfolding hashesFor regionsFrom
+  hashes-kept =
+      table-kept (v .sizes .regions) (v .regionPool) (regionRead v) (λ i o. slotHash o) (v .hashes) noHash (s .hashes)
+      (λ i b e. hash-kept (getD (v .hashes) i noHash) (t .outside .hashesUsed i b e))
+      (λ i b e. sym (t .outside .hashesFree i b e))
 
   -- ---- records
 
@@ -92,4 +96,4 @@ module _ (v : Tables) (s : Shaped v) (t : WellFormed v) (w : Walked v) where
       let tp = pool-kept (v .sizes .records) (v .recordPool) (s .recordPool .links) (t .tracked .recordPool) (t .tracked .recordMarks) in
       let write = write-kept (v .sizes .updates) (v .read) (v .write) (v .ring) (s .ring) (w .queue .read) (w .queue .write) (t .queue .queued) (t .queue .unqueued) in
       let ring = ring-kept (v .sizes .updates) (v .read) (v .write) (v .ring) (s .ring) (w .queue .read) (w .queue .write) (t .queue .queued) (t .queue .unqueued) in
-      λ i. record { sizes = v .sizes; read = v .read; write = write i; domainPool = dp i; regionPool = rp i; recordPool = tp i; domains = domains-kept i; regions = regions-kept i; records = records-kept i; ring = ring i }
+      λ i. record { sizes = v .sizes; read = v .read; write = write i; domainPool = dp i; regionPool = rp i; recordPool = tp i; domains = domains-kept i; regions = regions-kept i; records = records-kept i; ring = ring i; hashes = hashes-kept i }

@@ -19,7 +19,7 @@ use Rattle.laws.specs.Tree.Slots.{live-is}
 use Rattle.tables.specs.Tables.{Tables, Arena, noDomain, noSlot, noRegion, noUpdate}
 use Rattle.tables.specs.declared.Handle.{Handle}
 use Rattle.decoded.specs.Shape.{Shaped}
-use Rattle.decoded.specs.Decode.Read.{freeFrom, poolFrom, taken, tableFrom, capaFrom, listFrom, kindFrom, childrenFrom, domainFrom, regionFrom, domainsFrom, regionsFrom, updateFrom, placesFrom, queueFrom, stateOf}
+use Rattle.decoded.specs.Decode.Read.{freeFrom, poolFrom, taken, tableFrom, capaFrom, listFrom, kindFrom, childrenFrom, domainFrom, regionRead, domainsFrom, regionsFrom, updateFrom, placesFrom, queueFrom, stateOf}
 use Rattle.decoded.specs.Decode.Places.{places-outside}
 use Rattle.decoded.specs.Decode.Regions.{children-few}
 use Rattle.decoded.specs.Canonical.Ends.{chainEnd, chain-full}
@@ -53,16 +53,13 @@ module _ (v : Tables) (s : Shaped v) (h : OutsideSound (stateOf v)) where
   abbrev domainRead : ℕ → state.Domain
   domainRead i = domainFrom (v .sizes .slots) (v .sizes .records) (v .records) (getD (v .domains) i noDomain)
 
-  abbrev regionRead : ℕ → state.Region
-  regionRead i = regionFrom (v .sizes .regions) (v .regions) (getD (v .regions) i noRegion)
-
   domain-marks : Marked (v .sizes .domains) (v .domainPool)
   unfolding stateOf poolFrom domainsFrom
   domain-marks = marks (v .sizes .domains) (v .domainPool) domainRead (h .domainPool .once)
 
   region-marks : Marked (v .sizes .regions) (v .regionPool)
   unfolding stateOf poolFrom regionsFrom
-  region-marks = marks (v .sizes .regions) (v .regionPool) regionRead (h .regionPool .once)
+  region-marks = marks (v .sizes .regions) (v .regionPool) (regionRead v) (h .regionPool .once)
 
   slot-marks : (i : ℕ) → i < v .sizes .domains → taken (v .domainPool) i ≡ true → (j : ℕ) → j < v .sizes .slots → getD (getD (v .domains) i noDomain .slots) j noSlot .kind ≡ 1 → 0 < countIf (eqb j) (listFrom (v .sizes .slots) (getD (v .domains) i noDomain) .free)
   unfolding stateOf domainsFrom
@@ -74,35 +71,35 @@ module _ (v : Tables) (s : Shaped v) (h : OutsideSound (stateOf v)) where
       omega (arith, l .once j, ap oneIf (lt-ltb j (v .sizes .slots) c), ap (λ o. oneIf (isSome o)) (held-at (x .slots) j (omega arith)), free-kind (y .kind) (y .handle) k)
 
   module _ (i : ℕ) (b : i < v .sizes .regions) (e : taken (v .regionPool) i ≡ true) where
-    in-use : In (regionsFrom v) i (regionRead i)
+    in-use : In (regionsFrom v) i (regionRead v i)
     unfolding regionsFrom
-    in-use = table-used (v .sizes .regions) (v .regionPool) regionRead i b e
+    in-use = table-used (v .sizes .regions) (v .regionPool) (regionRead v) i b e
 
     children-end : chainEnd (λ k. getD (v .regions) k noRegion .next) (v .sizes .regions) (getD (v .regions) i noRegion .child) ≡ 0
     unfolding stateOf
     children-end = elim (cmp 0 (chainEnd (λ k. getD (v .regions) k noRegion .next) (v .sizes .regions) (getD (v .regions) i noRegion .child))) [
-      | lt u ↦ absurd (omega (arith, chain-full (λ k. getD (v .regions) k noRegion .next) (v .sizes .regions) (getD (v .regions) i noRegion .child) u, children-few (regionsFrom v) (h .regions) i (regionRead i) in-use, h .regionsLength))
+      | lt u ↦ absurd (omega (arith, chain-full (λ k. getD (v .regions) k noRegion .next) (v .sizes .regions) (getD (v .regions) i noRegion .child) u, children-few (regionsFrom v) (h .regions) i (regionRead v i) in-use, h .regionsLength))
       | ge u ↦ omega arith
     ]
 
     module _ (p : ℕ) (k : 2 ≤ getD (v .regions) i noRegion .kind) (q : getD (v .regions) i noRegion .parent ≡ suc p) where
-      parent : parentOf (regionRead i .kind) ≡ some p
+      parent : parentOf (regionRead v i .kind) ≡ some p
       parent = ap (λ l. parentOf (kindFrom (getD (v .regions) i noRegion .kind) l)) q ∙ parent-is (getD (v .regions) i noRegion .kind) p k
 
       -- the parent, with what it is
       parent-in : (x : state.Region) × In (regionsFrom v) p x
       unfolding stateOf
-      parent-in = live-is (atSlot (regionsFrom v) p) (h .regions i (regionRead i) in-use .parentLive p parent)
+      parent-in = live-is (atSlot (regionsFrom v) p) (h .regions i (regionRead v i) in-use .parentLive p parent)
 
-      parent-read : (p < v .sizes .regions) × (taken (v .regionPool) p ≡ true) × (regionRead p ≡ parent-in .0)
+      parent-read : (p < v .sizes .regions) × (taken (v .regionPool) p ≡ true) × (regionRead v p ≡ parent-in .0)
       unfolding regionsFrom
-      parent-read = table-in (v .sizes .regions) (v .regionPool) regionRead p (parent-in .0) (parent-in .1)
+      parent-read = table-in (v .sizes .regions) (v .regionPool) (regionRead v) p (parent-in .0) (parent-in .1)
 
       in-list : 0 < countIf (eqb i) (childrenFrom (v .sizes .regions) (v .regions) (getD (v .regions) p noRegion .child))
       unfolding stateOf
       in-list = omega (
         arith,
-        h .regions i (regionRead i) in-use .listed p (parent-in .0) (parent-in .1),
+        h .regions i (regionRead v i) in-use .listed p (parent-in .0) (parent-in .1),
         ap (λ o. oneIf (names o p)) parent,
         one p p refl,
         ap (λ (x : state.Region). countIf (eqb i) (x .children)) (parent-read .2),

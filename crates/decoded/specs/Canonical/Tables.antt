@@ -19,10 +19,10 @@ use Rattle.model.specs.Sound.{Sound, OnceEach, slotUses, recordUses}
 use Rattle.laws.specs.Stack.{once-at-most}
 use Rattle.laws.specs.Words.SameDomains.{Listed}
 use Rattle.tables.specs.declared.Update.{Update}
-use Rattle.tables.specs.Tables.{Domain, noDomain, noSlot, noRegion, noRecord, noUpdate}
+use Rattle.tables.specs.Tables.{Domain, noDomain, noSlot, noRegion, noRecord, noUpdate, noHash}
 use Rattle.decoded.specs.Rows.{getD-up}
 use Rattle.decoded.specs.Tracker.Trackers.{record-unused}
-use Rattle.decoded.specs.Tables.{poolOf, slotFor, slotsFor, domainFor, regionFor, recordIn, updateFor, placeFor, domainsFor, regionsFor, recordsFor, ringFor, tablesOf}
+use Rattle.decoded.specs.Tables.{poolOf, slotFor, slotsFor, domainFor, regionFor, regionHashFor, slotHash, recordIn, updateFor, placeFor, domainsFor, regionsFor, recordsFor, ringFor, hashesFor, tablesOf}
 use Rattle.decoded.specs.Decode.Read.{afterFree, taken, afterSlot}
 use Rattle.decoded.specs.Decode.Pools.{pool-stacked, steps, free-read, taken-used, taken-free}
 use Rattle.decoded.specs.Decode.Lists.{list-stacked, list-steps}
@@ -31,11 +31,7 @@ use Rattle.decoded.specs.Decode.Queue.{elem-at}
 use Rattle.decoded.specs.Decode.Places.{along}
 use Rattle.decoded.specs.Decode.Law.{record-once, record-beyond, record-row}
 use Rattle.decoded.specs.Canonical.Ends.{stackEnd, chainEnd, stacked-ends}
-use Rattle.decoded.specs.Canonical.WellFormed.{PoolWellFormed, Marked, SlotWellFormed, DomainWellFormed, RegionWellFormed, UpdateWellFormed, WellFormed}
-use Rattle.decoded.specs.Canonical.Pools.{not-on, on}
-use Rattle.decoded.specs.Canonical.Records.{stored-ends}
-use Rattle.decoded.specs.Canonical.Ends.{stackEnd, chainEnd, stacked-ends}
-use Rattle.decoded.specs.Canonical.WellFormed.{PoolWellFormed, Marked, SlotWellFormed, DomainWellFormed, RegionWellFormed, UpdateWellFormed, WellFormed}
+use Rattle.decoded.specs.Canonical.WellFormed.{PoolWellFormed, Marked, SlotWellFormed, DomainWellFormed, RegionWellFormed, HashWellFormed, UpdateWellFormed, WellFormed}
 use Rattle.decoded.specs.Canonical.Pools.{not-on, on}
 use Rattle.decoded.specs.Canonical.Records.{stored-ends}
 use Rattle.decoded.specs.Queue.Ring.{beyond}
@@ -87,6 +83,10 @@ region-go rs i Root g e = rw e (record { kindLow = omega arith; kindHigh = omega
 region-go rs i (Alias p) g e = rw e (record { kindLow = omega arith; kindHigh = omega arith; owned = omega arith; rootParent = λ z. absurd (omega arith); rootNext = λ z. absurd (omega arith); childParent = λ z. omega arith })
 region-go rs i (Carve p) g e = rw e (record { kindLow = omega arith; kindHigh = omega arith; owned = omega arith; rootParent = λ z. absurd (omega arith); rootNext = λ z. absurd (omega arith); childParent = λ z. omega arith })
 
+hash-well-formed : (o : Option state.Hash) → HashWellFormed (regionHashFor o)
+hash-well-formed none = record { givenBit = omega arith; noneClear = λ e. refl }
+hash-well-formed (some x) = record { givenBit = omega arith; noneClear = λ e. absurd (omega arith) }
+
 update-well-formed : (u : state.Update) → UpdateWellFormed (updateFor (some u))
 update-well-formed (permission h c) = record { kindLow = omega arith; kindHigh = omega arith; cleanupClear = λ e. absurd (omega arith) }
 update-well-formed (cleanup a b) = record { kindLow = omega arith; kindHigh = omega arith; cleanupClear = λ e. refl }
@@ -101,6 +101,10 @@ module _ (s : State) (h : Sound s) where
   region-row : (i : ℕ) → i < s .sizes .regions → getD (tablesOf s .regions) i noRegion ≡ regionFor (s .regions) i (atSlot (s .regions) i)
   unfolding tablesOf regionsFor
   region-row i b = getD-up (λ j. regionFor (s .regions) j (atSlot (s .regions) j)) (s .sizes .regions) i noRegion b
+
+  hash-row : (i : ℕ) → i < s .sizes .regions → getD (tablesOf s .hashes) i noHash ≡ slotHash (atSlot (s .regions) i)
+  unfolding tablesOf hashesFor
+  hash-row i b = getD-up (λ j. slotHash (atSlot (s .regions) j)) (s .sizes .regions) i noHash b
 
   place-row : (k : ℕ) → k < s .sizes .updates + 1 → getD (tablesOf s .ring) k noUpdate ≡ placeFor (s .sizes .updates) (s .queue) k
   unfolding tablesOf ringFor
@@ -155,6 +159,10 @@ module _ (s : State) (h : Sound s) where
           let x = taken-in (s .sizes .regions) (s .regions) (s .regionPool) (h .outside .regionPool .once) i b t in
           subst RegionWellFormed (sym (region-row i b ∙ ap (regionFor (s .regions) i) (x .1))) (region-go (s .regions) i (x .0 .kind) (x .0) refl);
       regionsFree = λ i b t. region-row i b ∙ ap (regionFor (s .regions) i) (free-in (s .sizes .regions) (s .regions) (s .regionPool) (h .outside .regionPool .once) i b t);
+      hashesUsed = λ i b t.
+          let x = taken-in (s .sizes .regions) (s .regions) (s .regionPool) (h .outside .regionPool .once) i b t in
+          subst HashWellFormed (sym (hash-row i b ∙ ap slotHash (x .1))) (hash-well-formed (x .0 .hash));
+      hashesFree = λ i b t. hash-row i b ∙ ap slotHash (free-in (s .sizes .regions) (s .regions) (s .regionPool) (h .outside .regionPool .once) i b t);
     };
     tracked = record {
       recordPool = pool-well-formed (s .sizes .records) (recordUses (s .domains)) (s .recordPool) (h .tracked .recordPool .once);

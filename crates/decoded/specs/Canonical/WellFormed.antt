@@ -12,8 +12,9 @@ use Rattle.tables.specs.declared.Slot.{Slot}
 use Rattle.tables.specs.declared.RegionCapa.{RegionCapa}
 use Rattle.tables.specs.declared.Region.{Region}
 use Rattle.tables.specs.declared.Update.{Update}
+use Rattle.tables.specs.declared.RegionHash.{RegionHash}
 use Rattle.tables.specs.Kinds.{NONE, FREE, CHANNEL, ROOT, ALIAS, CARVE, PERMISSION, CLEANUP}
-use Rattle.tables.specs.Tables.{Tables, Arena, Domain, noDomain, noSlot, noRegion, noRecord, noUpdate}
+use Rattle.tables.specs.Tables.{Tables, Arena, Domain, noDomain, noSlot, noRegion, noRecord, noUpdate, noHash}
 use Rattle.decoded.specs.Tables.{domainFor, tablesOf}
 use Rattle.decoded.specs.Decode.Read.{afterFree, freeFrom, taken, afterSlot, listFrom, childrenFrom, domainsFrom, stateOf}
 use Rattle.decoded.specs.Decode.Places.{along}
@@ -56,6 +57,11 @@ pub record RegionWellFormed (r : RegionCapa) : Type 0 where
   pub rootNext : r .kind ≡ ROOT → r .next ≡ 0
   pub childParent : ALIAS ≤ r .kind → 0 < r .parent
 
+-- the hash of a region in use: one that is given, or none
+pub record HashWellFormed (x : RegionHash) : Type 0 where
+  pub givenBit : x .given ≤ 1
+  pub noneClear : x .given ≡ 0 → x ≡ noHash
+
 -- a place of the ring where an update is queued
 pub record UpdateWellFormed (u : Update) : Type 0 where
   pub kindLow : PERMISSION ≤ u .kind
@@ -69,6 +75,9 @@ domainRow v i = getD (v .domains) i noDomain
 
 abbrev pub regionRow : Tables → ℕ → RegionCapa
 regionRow v i = getD (v .regions) i noRegion
+
+abbrev pub hashRow : Tables → ℕ → RegionHash
+hashRow v i = getD (v .hashes) i noHash
 
 abbrev pub recordRow : Tables → ℕ → Region
 recordRow v i = getD (v .records) i noRecord
@@ -89,6 +98,8 @@ pub record OutsideWellFormed (v : Tables) : Type 0 where
   pub domainsFree : (i : ℕ) → i < v .sizes .domains → taken (v .domainPool) i ≡ false → domainRow v i ≡ domainFor (v .sizes .slots) none
   pub regionsUsed : (i : ℕ) → i < v .sizes .regions → taken (v .regionPool) i ≡ true → RegionWellFormed (regionRow v i)
   pub regionsFree : (i : ℕ) → i < v .sizes .regions → taken (v .regionPool) i ≡ false → regionRow v i ≡ noRegion
+  pub hashesUsed : (i : ℕ) → i < v .sizes .regions → taken (v .regionPool) i ≡ true → HashWellFormed (hashRow v i)
+  pub hashesFree : (i : ℕ) → i < v .sizes .regions → taken (v .regionPool) i ≡ false → hashRow v i ≡ noHash
 
 pub record TrackersWellFormed (v : Tables) : Type 0 where
   pub recordPool : PoolWellFormed (v .sizes .records) (v .recordPool)

@@ -6,17 +6,18 @@ use mathlib.Core.List.{[]}
 use native.Mathlib.Omega.{arith}
 use lib.ListN.{getD}
 use Rattle.base.specs.Cases.{lt, ge, cmp}
-use Rattle.model.specs.Lists.{In}
+use Rattle.model.specs.Lists.{In, atSlot}
 use Rattle.model.specs.State as state
 use Rattle.model.specs.State.{State}
 use Rattle.model.specs.Layout.{link}
 use Rattle.model.specs.Sound.{Sound, recordUses, slotUses}
 use Rattle.laws.specs.Stack.{once-at-most, none-beyond}
+use Rattle.laws.specs.Tree.Slots.{in-length}
 use Rattle.laws.specs.Words.SameTrackers.{firstSlot}
 use Rattle.tables.specs.declared.Region.{Region}
-use Rattle.tables.specs.Tables.{noDomain, noRegion, noRecord, regionAt}
+use Rattle.tables.specs.Tables.{noDomain, noRegion, noRecord, noHash, regionAt}
 use Rattle.decoded.specs.Rows.{getD-up}
-use Rattle.decoded.specs.Tables.{regionFor, recordIn, recordsFor, tablesOf}
+use Rattle.decoded.specs.Tables.{regionFor, regionHashFor, slotHash, recordIn, recordsFor, hashesFor, tablesOf}
 use Rattle.decoded.specs.Slots.Domains.{domain-row}
 use Rattle.decoded.specs.Tree.Regions.{region-read}
 use Rattle.decoded.specs.Decode.Read.{linked, trackerFrom, domainFrom, domainsFrom, regionsFrom, stateOf}
@@ -48,6 +49,10 @@ module _ (s : State) (h : Sound s) where
   unfolding regionAt
   region-row i g at = region-read s (h .outside .regionsLength) i g at
 
+  hash-row : (i : ℕ) (g : state.Region) → In (s .regions) i g → getD (tablesOf s .hashes) i noHash ≡ regionHashFor (g .hash)
+  unfolding tablesOf hashesFor
+  hash-row i g at = getD-up (λ j. slotHash (atSlot (s .regions) j)) (s .sizes .regions) i noHash (omega (arith, in-length (s .regions) i g at, h .outside .regionsLength)) ∙ ap slotHash at
+
   module _ (d : ℕ) (x : state.Domain) (at : In (s .domains) d x) where
     tracker-read : trackerFrom (s .sizes .records) (tablesOf s .records) (link (firstSlot (x .tracker))) ≡ x .tracker
     tracker-read =
@@ -67,7 +72,7 @@ module _ (s : State) (h : Sound s) where
 
   regions-read : regionsFrom (tablesOf s) ≡ s .regions
   unfolding regionsFrom tablesOf
-  regions-read = table-read (s .regions) (s .sizes .regions) (h .outside .regionsLength) (s .regionPool) (h .outside .regionPool .once) _ (λ i g at. region-from (s .sizes .regions) (s .regions) (h .outside .regionsLength) (h .outside .regions) (tablesOf s .regions) region-row i g at)
+  regions-read = table-read (s .regions) (s .sizes .regions) (h .outside .regionsLength) (s .regionPool) (h .outside .regionPool .once) _ (λ i g at. region-from (s .sizes .regions) (s .regions) (h .outside .regionsLength) (h .outside .regions) (tablesOf s .regions) region-row i g at (getD (tablesOf s .hashes) i noHash) (hash-row i g at))
 
   pub decode : stateOf (tablesOf s) ≡ s
   unfolding stateOf tablesOf

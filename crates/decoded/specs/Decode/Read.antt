@@ -16,8 +16,9 @@ use Rattle.tables.specs.declared.Slot.{Slot}
 use Rattle.tables.specs.declared.RegionCapa.{RegionCapa}
 use Rattle.tables.specs.declared.Region.{Region}
 use Rattle.tables.specs.declared.Update.{Update}
+use Rattle.tables.specs.declared.RegionHash.{RegionHash}
 use Rattle.tables.specs.Kinds.{PERMISSION}
-use Rattle.tables.specs.Tables.{Tables, Arena, Domain, noDomain, noSlot, noRegion, noRecord, noUpdate}
+use Rattle.tables.specs.Tables.{Tables, Arena, Domain, noDomain, noSlot, noRegion, noRecord, noUpdate, noHash}
 
 -- ---- walks
 
@@ -120,12 +121,24 @@ kindFrom (suc (suc (suc n))) p = Carve (unlink p)
 abbrev pub childrenFrom : ℕ → List RegionCapa → ℕ → List ℕ
 childrenFrom n l k = chainFrom (λ i. getD l i noRegion .next) n k
 
-abbrev pub regionFrom : ℕ → List RegionCapa → RegionCapa → state.Region
-regionFrom n l r =
-    record { owner = unlink (r .owner); kind = kindFrom (r .kind) (r .parent); start = r .start; end = r .end; rights = r .rights; children = childrenFrom n l (r .child) }
+-- a hash, by the word that says whether there is one
+abbrev pub hashBy : ℕ → state.Hash → Option state.Hash
+hashBy zero x = none
+hashBy (suc n) x = some x
+
+abbrev pub hashFrom : RegionHash → Option state.Hash
+hashFrom x = hashBy (x .given) (record { word0 = x .word0; word1 = x .word1; word2 = x .word2; word3 = x .word3 })
+
+abbrev pub regionFrom : ℕ → List RegionCapa → RegionCapa → RegionHash → state.Region
+regionFrom n l r x =
+    record { owner = unlink (r .owner); kind = kindFrom (r .kind) (r .parent); start = r .start; end = r .end; rights = r .rights; children = childrenFrom n l (r .child); hash = hashFrom x }
+
+-- from the rows of slot i
+abbrev pub regionRead : Tables → ℕ → state.Region
+regionRead v i = regionFrom (v .sizes .regions) (v .regions) (getD (v .regions) i noRegion) (getD (v .hashes) i noHash)
 
 unfoldable pub regionsFrom : Tables → List (Option state.Region)
-regionsFrom v = tableFrom (v .sizes .regions) (v .regionPool) (λ i. regionFrom (v .sizes .regions) (v .regions) (getD (v .regions) i noRegion))
+regionsFrom v = tableFrom (v .sizes .regions) (v .regionPool) (regionRead v)
 
 -- ---- the ring
 

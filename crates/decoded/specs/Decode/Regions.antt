@@ -2,7 +2,7 @@
 -- members than there are regions.
 use mathlib.Core.Path.{_≡_, refl, ap, _∙_}
 use Prim.Native.Nat.{ℕ, _≤_, _<_}
-use mathlib.Core.Option.{Option, some}
+use mathlib.Core.Option.{Option, none, some}
 use mathlib.Core.List.{List, _∷_}
 use native.Mathlib.Omega.{arith}
 use native.Mathlib.Decide.{ℕ-discrete}
@@ -21,16 +21,21 @@ use Rattle.laws.specs.Tree.Facts.{Regions, child-le, has-parent, listing, own}
 use Rattle.laws.specs.Tree.Shape.{child-slots-at}
 use Rattle.laws.specs.Test.Paths.{no-longer}
 use Rattle.tables.specs.declared.RegionCapa.{RegionCapa}
+use Rattle.tables.specs.declared.RegionHash.{RegionHash}
 use Rattle.tables.specs.Tables.{noRegion}
 use Rattle.decoded.specs.Tree.Children.{sibling-list}
-use Rattle.decoded.specs.Tables.{regionFor}
-use Rattle.decoded.specs.Decode.Read.{kindFrom, childrenFrom, regionFrom}
+use Rattle.decoded.specs.Tables.{regionFor, regionHashFor}
+use Rattle.decoded.specs.Decode.Read.{kindFrom, childrenFrom, hashFrom, regionFrom}
 use Rattle.decoded.specs.Decode.Walks.{chain-walked, chained-after}
 
 kind-read : (k : Kind) → kindFrom (kindWord k) (link (parentOf k)) ≡ k
 kind-read Root = refl
 kind-read (Alias p) = refl
 kind-read (Carve p) = refl
+
+pub hash-read : (o : Option state.Hash) → hashFrom (regionHashFor o) ≡ o
+hash-read none = refl
+hash-read (some x) = refl
 
 -- ---- child lists
 
@@ -82,8 +87,9 @@ module _ (n : ℕ) (rs : List (Option state.Region)) (long : length rs ≡ n) (s
       chain-walked (λ i. getD rows i noRegion .next) n (g .children) (omega (arith, children-few rs s p g at))
       (chained-after (λ i. getD rows i noRegion .next) (g .children) (child-once rs s p g at) next)
 
-  pub region-from : regionFrom n rows (getD rows p noRegion) ≡ g
-  region-from =
+  pub region-from : (x : RegionHash) → x ≡ regionHashFor (g .hash) → regionFrom n rows (getD rows p noRegion) x ≡ g
+  region-from x e =
       let k = kind-read (g .kind) in
-      ap (regionFrom n rows) (row p g at)
-      ∙ λ i. record { owner = g .owner; kind = k i; start = g .start; end = g .end; rights = g .rights; children = children-read i }
+      let u = ap hashFrom e ∙ hash-read (g .hash) in
+      ap (λ r. regionFrom n rows r x) (row p g at)
+      ∙ λ i. record { owner = g .owner; kind = k i; start = g .start; end = g .end; rights = g .rights; children = children-read i; hash = u i }

@@ -15,11 +15,11 @@ use Rattle.model.specs.State.{State, Kind, Root, Alias, Carve, parentOf, region
 use Rattle.model.specs.Layout.{link, siblings}
 use Rattle.laws.specs.Tree.Slots.{in-length}
 use Rattle.tables.specs.declared.RegionCapa.{RegionCapa}
-use Rattle.tables.specs.Tables.{withRegions, withRegion, withNext, withChild}
+use Rattle.tables.specs.Tables.{withRegions, withHashes, withRegion, withNext, withChild}
 use Rattle.decoded.specs.Rows.{set-two}
 use Rattle.decoded.specs.Links.{after-top, after-under, after-out, after-behind, first-before, after-before}
-use Rattle.decoded.specs.Tree.Regions.{childrenIn}
-use Rattle.decoded.specs.Tables.{regionFor, regionsFor, tablesOf}
+use Rattle.decoded.specs.Tree.Regions.{childrenIn, hashes-kept}
+use Rattle.decoded.specs.Tables.{regionFor, slotHash, regionsFor, tablesOf}
 
 -- ---- rows
 
@@ -100,8 +100,10 @@ module _ (s : State) (long : length (s .regions) ≡ s .sizes .regions) (p : ℕ
   -- the new list is cs
   put : (cs : List ℕ) (i j : ℕ) (x y : RegionCapa) → regionsFor (s .sizes .regions) (regionsWith (s .regions) p g cs) ≡ set (set (regionsFor (s .sizes .regions) (s .regions)) j y) i x
       → tablesOf (putRegion p (withChildren cs g) s) ≡ withRegion (withRegion (tablesOf s) j y) i x
-  unfolding tablesOf withRegion withRegions
-  put cs i j x y e = ap (withRegions (tablesOf s)) e
+  unfolding tablesOf withRegion withRegions withHashes
+  put cs i j x y e =
+      let h = hashes-kept (s .regions) (s .sizes .regions) p (some (withChildren cs g)) (ap slotHash (sym at)) in
+      λ t. withHashes (withRegions (tablesOf s) (e t)) (h t)
 
   -- i is a child of p
   module _ (i : ℕ) (x : state.Region) (ei : In (s .regions) i x) (hi : parentOf (x .kind) ≡ some p) (ni : i ≢ p) where

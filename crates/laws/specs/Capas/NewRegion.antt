@@ -85,7 +85,7 @@ pub record NewRegion (s : State) (d i : ℕ) (u : State) : Type 0 where
   pub domains : u .domains ≡ s .domains
 
 abbrev newRegionOf : ℕ → Kind → Access → Region
-newRegionOf d k a = record { owner = d; kind = k; start = a .start; end = a .end; rights = a .rights; children = [] }
+newRegionOf d k a = record { owner = d; kind = k; start = a .start; end = a .end; rights = a .rights; children = []; hash = none }
 
 module _ (s : State) (h : CapasSound s) (d : ℕ) (x : Domain) (e : In (s .domains) d x) where
   grow-new : (i : ℕ) (is : List ℕ) (k : Kind) (a : Access) → s .regionPool .free ≡ i ∷ is → NewRegion s d i (grown i is (newRegionOf d k a) s)

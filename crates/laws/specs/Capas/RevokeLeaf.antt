@@ -45,7 +45,7 @@ module _ (own man : Shares) where
   walked-left : (s t u : State) → Left s t → Walked own man t u → Left s u
   walked-left s t u a w = record { held = w .held; sameLists = same-lists-then s t u (a .sameLists) (w .sameLists); live = λ j l. subst (λ rs. T (isSome (atSlot rs j))) (sym (w .regions)) (a .live j l) }
 
-  give-kind : (g : Region) (k : Kind) (p : ℕ) (s : State) → Held own man s → parentOf k ≡ some p → T (isSome (atSlot (s .regions) p)) → All (Walked own man s) (giveBack (record { owner = g .owner; kind = k; start = g .start; end = g .end; rights = g .rights; children = g .children }) s)
+  give-kind : (g : Region) (k : Kind) (p : ℕ) (s : State) → Held own man s → parentOf k ≡ some p → T (isSome (atSlot (s .regions) p)) → All (Walked own man s) (giveBack (record { owner = g .owner; kind = k; start = g .start; end = g .end; rights = g .rights; children = g .children; hash = g .hash }) s)
   unfolding giveBack
   give-kind g Root p s h n l = accepted (walked-self own man s h)
   give-kind g (Alias q) p s h n l = accepted (walked-self own man s h)

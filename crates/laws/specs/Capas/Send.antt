@@ -1,5 +1,5 @@
 -- Send keeps the clauses about lists, owners, managers and the queue: the slot leaves one list and joins another, and a region's owner
--- changes to match, so that its one slot is in its owner's list again. The options change its rights alone.
+-- changes to match, so that its one slot is in its owner's list again. The options change its rights and its hash alone.
 use mathlib.Core.Path.{_≡_, refl, sym, ap, subst, _∙_}
 use Prim.Native.Nat.{ℕ}
 use mathlib.Core.Bool.{false}
@@ -10,7 +10,7 @@ use lib.ListN.{set}
 use lib.Seq.{getD-set-same, set-set}
 use Rattle.model.specs.Lists.{oneIf, isSome, atSlot, In}
 use Rattle.model.specs.Outcome.{_>>=_}
-use Rattle.model.specs.State.{Handle, Capa, noCapa, region, regionRevoke, management, channel, LocalList, Domain, Region, State, SendOptions, withLocals, withOwner, withRights, putRegion, domainAt}
+use Rattle.model.specs.State.{Handle, Capa, noCapa, region, regionRevoke, management, channel, LocalList, Domain, Region, State, SendOptions, Hash, withLocals, withOwner, withRightsHash, putRegion, domainAt}
 use Rattle.model.specs.Pool.{handleOf}
 use Rattle.model.specs.Locals.{freeLocal, insertCapa, removeCapa}
 use Rattle.model.specs.Tree.{effectiveRanges}
@@ -86,9 +86,9 @@ module _ (s : State) (k : Handle) (i to : ℕ) (g : Region) (e : In (s .regions)
   there : In (t .regions) i (withOwner to g)
   there = ap (λ rs. atSlot rs i) (w .regions) ∙ getD-set-same (s .regions) i (some (withOwner to g)) none (in-length (s .regions) i g e)
 
-  joined : (n : ℕ) → Sent s k to (putRegion i (withRights n (withOwner to g)) t)
-  joined n =
-      let r = withRights n (withOwner to g) in
+  joined : (n : ℕ) (y : Option Hash) → Sent s k to (putRegion i (withRightsHash n y (withOwner to g)) t)
+  joined n y =
+      let r = withRightsHash n y (withOwner to g) in
       let s₁ = putRegion i (withOwner to g) s in
       record {
         slot = i;
@@ -106,7 +106,7 @@ module _ (s : State) (k : Handle) (i to : ℕ) (g : Region) (e : In (s .regions)
       }
 
   options-sent : (o : SendOptions) → Joinable o → Sent s k to (applyOptions i o t)
-  options-sent o j = applied (Sent s k to) t i (withOwner to g) there (record { slot = i; sent = g; is = e; handle = q; new = withOwner to g; owner = refl; walked = w }) (λ n x. joined n) o j
+  options-sent o j = applied (Sent s k to) t i (withOwner to g) there o (record { slot = i; sent = g; is = e; handle = q; new = withOwner to g; owner = refl; walked = w }) (λ n x. joined n (o .hash)) j
 
 module _ (s : State) (h : CapasSound s) (d to l : ℕ) (x y : Domain) (e : In (s .domains) d x) (f : In (s .domains) to y) where
   abbrev own : Shares

@@ -23,7 +23,7 @@ use Rattle.laws.specs.Keep.Child.{child-agree, with-parent}
 module _ (s : State) (agree : TrackersAgree s) (size : length (s .regions) ≡ s .sizes .regions) (pool : PoolSound (s .sizes .regions) (slotUses (s .regions)) (s .regionPool)) (d : ℕ) (x : Domain) (at : In (s .domains) d x) (a : Access) where
   module _ (p : ℕ) (h : Region) (e : In (s .regions) p h) (z : a .start < a .end) where
     pub alias-agree : T (checkAlias s h a) → All (λ (y : ℕ × State). TrackersAgreeWith (s .regions) (y .1) × Gains (s .regions) (y .1 .regions) (made d (Alias p) a) × T (isSome (atSlot (y .1 .domains) d))) (addChild d p (Alias p) a s)
-    alias-agree t = child-agree s agree size pool d x at a p h e (Alias p) (λ rs. Gains (s .regions) rs (made d (Alias p) a)) (λ i l free. alias-law s (agree .regions) i (made d (Alias p) a) l free refl p h e z refl t)
+    alias-agree t = child-agree s agree size pool d x at a p h e (Alias p) (λ rs. Gains (s .regions) rs (made d (Alias p) a)) (λ i l free. alias-law s (agree .regions) i (made d (Alias p) a) l free refl p h e z tt refl t)
 
 module _ (s : State) (sound : Sound s) (h : Handle) (a : Access) where
   pub alias-keeps : (l : ℕ) → All After (aliasRegion h l a s)

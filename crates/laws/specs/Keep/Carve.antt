@@ -31,7 +31,7 @@ module _ (s : State) (agree : TrackersAgree s) (size : length (s .regions) ≡ s
     Carved rs = Exchanges (s .regions) rs (made d (Carve p) a) h × CountsIncludeRange (s .regions) (h .owner) (a .start) (a .end) (h .rights)
 
     pub carve-agree : T (checkCarve s h a) → All (λ (y : ℕ × State). TrackersAgreeWith (s .regions) (y .1) × Carved (y .1 .regions) × T (isSome (atSlot (y .1 .domains) d))) (addChild d p (Carve p) a s)
-    carve-agree t = child-agree s agree size pool d x at a p h e (Carve p) Carved (λ i l free. let r = carve-law s (agree .regions) i (made d (Carve p) a) l free refl p h e z refl t in (r .0, (r .1, r .2)))
+    carve-agree t = child-agree s agree size pool d x at a p h e (Carve p) Carved (λ i l free. let r = carve-law s (agree .regions) i (made d (Carve p) a) l free refl p h e z tt refl t in (r .0, (r .1, r .2)))
 
 module _ (s : State) (sound : Sound s) (h : Handle) (a : Access) where
   -- the range that the domain loses is its own, since the parent is

@@ -91,7 +91,7 @@ allocate-free l n p size h r = weaken (allocate-from r (p .gens) (p .free)) (λ 
 ))
 
 abbrev pub made : ℕ → Kind → Access → Region
-made d k a = record { owner = d; kind = k; start = a .start; end = a .end; rights = a .rights; children = [] }
+made d k a = record { owner = d; kind = k; start = a .start; end = a .end; rights = a .rights; children = []; hash = none }
 
 module _ (s : State) (size : length (s .regions) ≡ s .sizes .regions) (pool : PoolSound (s .sizes .regions) (slotUses (s .regions)) (s .regionPool)) where
   pub new-all : (d : ℕ) (k : Kind) (a : Access) (P : ℕ × State → Type 0) → ((i : ℕ) (p : Pool) → i < length (s .regions) → atSlot (s .regions) i ≡ none → P (i, withRegions p (set (s .regions) i (some (made d k a))) s)) → All P (newRegion d k a s)

@@ -35,7 +35,7 @@ module _ (s : State) (sound : Sound s) where
   step-keeps (Step.Root h a) w = bind (root-keeps s sound h a (w .1)) (λ (n, t) k. accepted k)
   step-keeps (Step.Alias h l a) w = bind (alias-keeps s sound h a l) (λ (n, t) k. accepted k)
   step-keeps (Step.Carve h l a) w = bind (carve-keeps s sound h a l) (λ (n, t) k. accepted k)
-  step-keeps (Step.Send h l target p) w = bind (send-keeps s whole h l target p) (λ (n, t) k. accepted k)
+  step-keeps (Step.Send h l target p) w = bind (send-keeps s whole h l target p (w .3 .1)) (λ (n, t) k. accepted k)
   step-keeps (Step.Revoke h l) w = bind (revoke-keeps s whole h l) (λ t k. accepted k)
   step-keeps (Step.CreateRevokeCapa h l) w = bind (create-revoke-capa-keeps s whole h l) (λ (n, t) k. accepted k)
 

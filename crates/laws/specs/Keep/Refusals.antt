@@ -70,7 +70,7 @@ free-stops : (i : ℕ) (s : State) → MayStop (freeRegion i s)
 unfolding freeRegion free
 free-stops i s = gives-checked {P = λ a. Unit {0}} _ _ (inr (inl refl)) (λ t. gives tt) andThen λ p. gives tt
 
-give-kind : (g : Region) (k : Kind) (s : State) → MayStop (giveBack (record { owner = g .owner; kind = k; start = g .start; end = g .end; rights = g .rights; children = g .children }) s)
+give-kind : (g : Region) (k : Kind) (s : State) → MayStop (giveBack (record { owner = g .owner; kind = k; start = g .start; end = g .end; rights = g .rights; children = g .children; hash = g .hash }) s)
 unfolding giveBack
 give-kind g Root s = gives tt
 give-kind g (Alias p) s = gives tt

@@ -1,5 +1,5 @@
--- Sound regions stay sound: a root is added, an alias or a carve by its rule, a region without children is removed, a region changes its owner or extends
--- its rights.
+-- Sound regions stay sound: a root is added, an alias or a carve by its rule, a region without children is removed, a region changes its owner or its hash,
+-- or extends its rights.
 -- For each the table that the steps leave, that it is a change of one slot, and that it is sound.
 use mathlib.Core.Path.{_≡_, refl, sym, ap, _∙_}
 use mathlib.Core.Logic.{_≢_}
@@ -13,7 +13,7 @@ use lib.ListN.{length, set}
 use lib.Seq.{getD-set-same, getD-set-other}
 use Rattle.base.specs.Options.{none-some, some-same}
 use Rattle.model.specs.Lists.{countIf, atSlot, In, without}
-use Rattle.model.specs.State.{Region, Kind, Root, parentOf, noneRegion, withChildren, withOwner, withRights}
+use Rattle.model.specs.State.{Hash, HashWords, Region, Kind, Root, parentOf, noneRegion, withChildren, withOwner, withRightsHash}
 use Rattle.model.specs.Tree.{insertSorted}
 use Rattle.laws.specs.Tree.Slots.{in-length}
 use Rattle.laws.specs.Tree.Shares.{childOf, child}
@@ -168,8 +168,8 @@ module _ (rs : List (Option Region)) (s : Regions rs) where
   module _ (i : ℕ) (g : Region) (e : In rs i g) where
     -- it becomes domain o's
     pub owner-kept : (o : ℕ) → Regions (set rs i (some (withOwner o g)))
-    owner-kept o = changed-kept i g e (withOwner o g) (record { kind = refl; start = refl; end = refl; rights = extends-same (g .rights) (g .rights) refl }) refl
+    owner-kept o = changed-kept i g e (withOwner o g) (record { kind = refl; start = refl; end = refl; rights = extends-same (g .rights) (g .rights) refl; hash = λ w. w }) refl
 
-    -- its rights are extended
-    pub rights-kept : (n : ℕ) → Extends (g .rights) n → Regions (set rs i (some (withRights n g)))
-    rights-kept n x = changed-kept i g e (withRights n g) (record { kind = refl; start = refl; end = refl; rights = x }) refl
+    -- its rights are extended, its hash is another
+    pub rights-hash-kept : (n : ℕ) (y : Option Hash) → Extends (g .rights) n → HashWords y → Regions (set rs i (some (withRightsHash n y g)))
+    rights-hash-kept n y x w = changed-kept i g e (withRightsHash n y g) (record { kind = refl; start = refl; end = refl; rights = x; hash = λ v. w }) refl

@@ -1,6 +1,7 @@
--- What the regions are to each other is kept where regions are removed, change their owners or extend their rights, as long as parents stay, and where a
--- region that fits is added. Owners and child lists play no part: a region is compared with what was in its slot by kind, range and rights (`Like`).
-use mathlib.Core.Path.{_≡_, refl, sym, ap, _∙_}
+-- What the regions are to each other is kept where regions are removed, change their owners or hashes or extend their rights, as long as parents stay, and
+-- where a region that fits is added. Owners and child lists play no part: a region is compared with what was in its slot by kind, range and rights, and its
+-- hash stays one of words (`Like`).
+use mathlib.Core.Path.{_≡_, refl, sym, ap, subst, _∙_}
 use mathlib.Core.Logic.{_≢_}
 use Prim.Native.Nat.{ℕ, _<_}
 use mathlib.Core.Option.{Option, none, some}
@@ -10,7 +11,7 @@ use native.Mathlib.Decide.{ℕ-discrete}
 use Rattle.base.specs.Cases.{lt, ge, cmp}
 use Rattle.base.specs.Options.{none-some, some-same}
 use Rattle.model.specs.Lists.{atSlot, In}
-use Rattle.model.specs.State.{Region, Kind, Root, parentOf, withChildren}
+use Rattle.model.specs.State.{HashWords, Region, Kind, Root, parentOf, withChildren}
 use Rattle.model.specs.Sound.{Rooted}
 use Rattle.laws.specs.Tree.Shares.{childOf, carveOf}
 use Rattle.laws.specs.Tree.Facts.{Apart, Under, same, hangs, is-carve, carve-child}
@@ -24,10 +25,11 @@ pub record Like (w z : Region) : Type 0 where
   pub start : z .start ≡ w .start
   pub end : z .end ≡ w .end
   pub rights : Extends (w .rights) (z .rights)
+  pub hash : HashWords (w .hash) → HashWords (z .hash)
 
 -- the same but for the child list
 like-bare : (w z : Region) → withChildren [] z ≡ withChildren [] w → Like w z
-like-bare w z p = record { kind = ap (λ (r : Region). r .kind) p; start = ap (λ (r : Region). r .start) p; end = ap (λ (r : Region). r .end) p; rights = extends-same (w .rights) (z .rights) (ap (λ (r : Region). r .rights) p) }
+like-bare w z p = record { kind = ap (λ (r : Region). r .kind) p; start = ap (λ (r : Region). r .start) p; end = ap (λ (r : Region). r .end) p; rights = extends-same (w .rights) (z .rights) (ap (λ (r : Region). r .rights) p); hash = subst HashWords (sym (ap (λ (r : Region). r .hash) p)) }
 
 pub bare-like : (x y : Option Region) (z : Region) → bare x ≡ bare y → x ≡ some z → (w : Region) × (y ≡ some w) × Like w z × Like z w
 bare-like x none z e q = absurd (none-some (bare x) (withChildren [] z) e (ap bare q))
@@ -46,7 +48,7 @@ module _ (rs rs′ : List (Option Region)) (i : ℕ) (x y : Option Region) (t : 
 -- ---- what is said of regions is said of their like
 
 sized-like : (w z : Region) → Like w z → Sized w → Sized z
-sized-like w z l s = record { nonempty = omega arith; startWord = omega arith; endWord = omega arith; rightsByte = l .rights .byte (s .rightsByte) }
+sized-like w z l s = record { nonempty = omega arith; startWord = omega arith; endWord = omega arith; rightsByte = l .rights .byte (s .rightsByte); hashWords = l .hash (s .hashWords) }
 
 child-like : (w z : Region) (p : ℕ) → Like w z → 0 < childOf (z .kind) p → 0 < childOf (w .kind) p
 child-like w z p l h = omega (arith, ap (λ (k : Kind). childOf k p) (l .kind))
@@ -66,7 +68,7 @@ under-like rs rs′ p w z l u h e m = record {
   rights = m .rights .parent (z .rights) (l .rights .child (u .parent .rights) (u .rights));
 }
 
--- ---- regions are removed, change their owners or extend their rights
+-- ---- regions are removed, change their owners or hashes or extend their rights
 
 module _ (rs rs′ : List (Option Region)) (s : Shape rs) (back : (k : ℕ) (z : Region) → In rs′ k z → (w : Region) × In rs k w × Like w z)
     (up : (k p : ℕ) (z h : Region) → In rs′ k z → 0 < childOf (z .kind) p → In rs p h → (y : Region) × In rs′ p y × Like h y) where

@@ -1,6 +1,6 @@
 -- The laws of each change, for the tables that the steps leave: the regions stay sound, and the counts are what the change says.
 -- A root, an alias and a carve are added by the rules that the calls check; an alias and a carve without children are removed; a region changes its owner,
--- or extends its rights.
+-- or extends its rights and changes its hash.
 use mathlib.Core.Path.{_≡_, ap}
 use Prim.Native.Nat.{ℕ, _≤_, _<_}
 use mathlib.Core.Option.{Option, none, some}
@@ -8,7 +8,7 @@ use mathlib.Core.List.{List, []}
 use lib.Dec.{T}
 use lib.ListN.{length, set}
 use Rattle.model.specs.Lists.{atSlot, In}
-use Rattle.model.specs.State.{State, Region, Root, Alias, Carve, parentOf, withOwner, withRights}
+use Rattle.model.specs.State.{State, Hash, HashWords, Region, Root, Alias, Carve, parentOf, withOwner, withRightsHash}
 use Rattle.model.specs.Tree.{isCarve, accessOf, checkAlias, checkCarve, effectiveRanges}
 use Rattle.laws.specs.Tree.Facts.{Regions}
 use Rattle.laws.specs.Tree.Slots.{in-length}
@@ -18,7 +18,7 @@ use Rattle.laws.specs.Tree.Rule.{Fits, alias-fits, carve-fits}
 use Rattle.laws.specs.Tree.Shape.{Sized, under-sized, to-shape}
 use Rattle.laws.specs.Tree.CountsInclude.{CountsInclude}
 use Rattle.laws.specs.Tree.Pieces.{spread}
-use Rattle.laws.specs.Tree.Keep.{slot-added, root-kept, child-added, child-kept, slot-removed, removed-kept, owner-kept, rights-kept}
+use Rattle.laws.specs.Tree.Keep.{slot-added, root-kept, child-added, child-kept, slot-removed, removed-kept, owner-kept, rights-hash-kept}
 use Rattle.laws.specs.Tree.Tallies.{Gains, Exchanges, Moves, SameCounts, add-plain, add-carve, added-include, remove-plain, remove-carve, removed-include, changes-owner, owner-include, extends-counts}
 
 module _ (s : State) (ok : Regions (s .regions)) where
@@ -29,12 +29,12 @@ module _ (s : State) (ok : Regions (s .regions)) where
     root-law z e = (root-kept (s .regions) ok i g l free empty z e, add-plain (s .regions) ok _ i free g (slot-added (s .regions) ok i g l free empty z) (ap isCarve e))
 
     -- under region h in slot p
-    module _ (p : ℕ) (h : Region) (at : In (s .regions) p h) (n : g .start < g .end) where
+    module _ (p : ℕ) (h : Region) (at : In (s .regions) p h) (n : g .start < g .end) (w : HashWords (g .hash)) where
       abbrev with : List (Option Region)
       with = childIn (set (s .regions) i (some g)) i g p h
 
       size : Fits (s .regions) p g → Sized g
-      size r = under-sized (s .regions) (to-shape (s .regions) ok) p g (r .under) n
+      size r = under-sized (s .regions) (to-shape (s .regions) ok) p g (r .under) n w
 
       added : Fits (s .regions) p g → Changed (s .regions) with i none (some g)
       added r = child-added (s .regions) ok i g l free empty (size r) p h at r
@@ -76,7 +76,7 @@ module _ (s : State) (ok : Regions (s .regions)) where
   pub owner-law : (i : ℕ) (g : Region) → In (s .regions) i g → (o : ℕ) → Regions (set (s .regions) i (some (withOwner o g))) × Moves (s .regions) (set (s .regions) i (some (withOwner o g))) g o (effectiveRanges s g) × ((a : ℕ) → 0 < spread 1 (effectiveRanges s g) a → CountsInclude (s .regions) (g .owner) a (g .rights))
   owner-law i g e o = (owner-kept (s .regions) ok i g e o, changes-owner (s .regions) ok i g e _ o (set-slot (s .regions) i (some g) (some (withOwner o g)) (in-length (s .regions) i g e) e), owner-include (s .regions) ok i g e)
 
-  -- ---- region g in slot i extends its rights
+  -- ---- region g in slot i extends its rights, and its hash is another
 
-  pub rights-law : (i : ℕ) (g : Region) → In (s .regions) i g → (n : ℕ) → Extends (g .rights) n → Regions (set (s .regions) i (some (withRights n g))) × SameCounts (s .regions) (set (s .regions) i (some (withRights n g)))
-  rights-law i g e n x = (rights-kept (s .regions) ok i g e n x, extends-counts (s .regions) _ i g n x (set-slot (s .regions) i (some g) (some (withRights n g)) (in-length (s .regions) i g e) e))
+  pub rights-hash-law : (i : ℕ) (g : Region) → In (s .regions) i g → (n : ℕ) (y : Option Hash) → Extends (g .rights) n → HashWords y → Regions (set (s .regions) i (some (withRightsHash n y g))) × SameCounts (s .regions) (set (s .regions) i (some (withRightsHash n y g)))
+  rights-hash-law i g e n y x w = (rights-hash-kept (s .regions) ok i g e n y x w, extends-counts (s .regions) _ i g n y x (set-slot (s .regions) i (some g) (some (withRightsHash n y g)) (in-length (s .regions) i g e) e))

@@ -12,7 +12,7 @@ use lib.Ieee.Fits.{and-l, and-r}
 use Rattle.base.specs.Cases.{lt, ge, cmp}
 use Rattle.base.specs.Options.{none-some}
 use Rattle.model.specs.Lists.{countIf, isSome, atSlot, In}
-use Rattle.model.specs.State.{Word, Region, Kind, Root, Alias, Carve, parentOf, noneRegion, regionIn}
+use Rattle.model.specs.State.{Word, HashWords, Region, Kind, Root, Alias, Carve, parentOf, noneRegion, regionIn}
 use Rattle.model.specs.Tree.{isCarve, accessOf, overlaps}
 use Rattle.model.specs.Sound.{Rooted}
 use Rattle.laws.specs.Tree.Slots.{is-live, in-each}
@@ -26,6 +26,7 @@ pub record Sized (g : Region) : Type 0 where
   pub startWord : Word (g .start)
   pub endWord : Word (g .end)
   pub rightsByte : g .rights < 256
+  pub hashWords : HashWords (g .hash)
 
 pub record Shape (rs : List (Option Region)) : Type 0 where
   pub under : (k p : ℕ) (x : Region) → In rs k x → 0 < childOf (x .kind) p → Under rs p x
@@ -33,11 +34,11 @@ pub record Shape (rs : List (Option Region)) : Type 0 where
   pub rooted : (k : ℕ) (x : Region) → In rs k x → Rooted rs k
   pub sized : (k : ℕ) (x : Region) → In rs k x → Sized x
 
--- what lies under a region is nearly so: its range must not be empty
-pub under-sized : (rs : List (Option Region)) → Shape rs → (p : ℕ) (y : Region) → Under rs p y → y .start < y .end → Sized y
-under-sized rs s p y u n =
+-- what lies under a region is nearly so: its range must not be empty, and its hash of words
+pub under-sized : (rs : List (Option Region)) → Shape rs → (p : ℕ) (y : Region) → Under rs p y → y .start < y .end → HashWords (y .hash) → Sized y
+under-sized rs s p y u n w =
     let z = s .sized p (u .parent) (u .is) in
-    record { nonempty = n; startWord = word (y .start) (u .parent .end) (omega (arith, u .high)) (z .endWord); endWord = word (y .end) (u .parent .end) (u .high) (z .endWord); rightsByte = byte-allowed (u .parent .rights) (y .rights) (u .rights) (z .rightsByte) }
+    record { nonempty = n; startWord = word (y .start) (u .parent .end) (omega (arith, u .high)) (z .endWord); endWord = word (y .end) (u .parent .end) (u .high) (z .endWord); rightsByte = byte-allowed (u .parent .rights) (y .rights) (u .rights) (z .rightsByte); hashWords = w }
   where
     word : (m n : ℕ) → m ≤ n → Word n → Word m
     word m n h w = omega arith
@@ -64,7 +65,7 @@ module _ (rs : List (Option Region)) (s : Regions rs) where
     under = under rs s;
     apart = apart rs s;
     rooted = λ k x e. s k x e .rooted;
-    sized = λ k x e. let r = s k x e in record { nonempty = r .nonempty; startWord = r .startWord; endWord = r .endWord; rightsByte = r .rightsByte };
+    sized = λ k x e. let r = s k x e in record { nonempty = r .nonempty; startWord = r .startWord; endWord = r .endWord; rightsByte = r .rightsByte; hashWords = r .hashWords };
   }
 
   -- nothing hangs under a dead slot
@@ -127,4 +128,5 @@ from-halves rs s l i g e = record {
   startWord = s .sized i g e .startWord;
   endWord = s .sized i g e .endWord;
   rightsByte = s .sized i g e .rightsByte;
+  hashWords = s .sized i g e .hashWords;
 }

@@ -153,7 +153,7 @@ module _ (f : Field) (rs : List (Option Region)) (d a : ℕ) where
 
 -- ---- the carves
 
-carve-kind : (p a : ℕ) (g : Region) (k : Kind) → oneIf (carves p a (some (record { owner = g .owner; kind = k; start = g .start; end = g .end; rights = g .rights; children = g .children }))) ≡ within (g .start) (g .end) a (carveOf k p) 0
+carve-kind : (p a : ℕ) (g : Region) (k : Kind) → oneIf (carves p a (some (record { owner = g .owner; kind = k; start = g .start; end = g .end; rights = g .rights; children = g .children; hash = g .hash }))) ≡ within (g .start) (g .end) a (carveOf k p) 0
 carve-kind p a g Root = sym (within-same {A = ℕ} (g .start) (g .end) a 0 0 refl)
 carve-kind p a g (Alias q) = sym (within-same {A = ℕ} (g .start) (g .end) a 0 0 refl)
 carve-kind p a g (Carve q) = elim (test (eqb q p)) [

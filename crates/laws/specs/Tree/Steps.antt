@@ -45,7 +45,7 @@ unfolding sendRanges
 ranges-regions old new r [] s = accepted refl
 ranges-regions old new r (x ∷ xs) s = bind (deactivate-regions old _ s) (λ s₁ h. bind (activate-regions new _ s₁) (λ s₂ k. weaken (ranges-regions old new r xs s₂) (λ t m. m ∙ k ∙ h)))
 
-give-kind : (g : Region) (k : Kind) (s : State) → All (SameRegions s) (giveBack (record { owner = g .owner; kind = k; start = g .start; end = g .end; rights = g .rights; children = g .children }) s)
+give-kind : (g : Region) (k : Kind) (s : State) → All (SameRegions s) (giveBack (record { owner = g .owner; kind = k; start = g .start; end = g .end; rights = g .rights; children = g .children; hash = g .hash }) s)
 unfolding giveBack
 give-kind g Root s = accepted refl
 give-kind g (Alias p) s = accepted refl

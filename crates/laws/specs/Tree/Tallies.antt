@@ -1,5 +1,6 @@
 -- How the counts of sound regions change, at every domain and address, for the reach and the four rights: a region is added, a
--- region that nothing hangs under is removed (the same, read backwards), a region changes its owner or extends its rights. And what is lost was there.
+-- region that nothing hangs under is removed (the same, read backwards), a region changes its owner or its hash, or extends its rights. And what is lost was
+-- there.
 use mathlib.Core.Path.{_≡_, sym, ap, _∙_}
 use mathlib.Core.Logic.{_≢_}
 use Prim.Native.Nat.{ℕ, _+_, _≤_, _<_}
@@ -11,7 +12,7 @@ use lib.Dec.{eqb}
 use Rattle.base.specs.Cases.{lt, ge, cmp}
 use Rattle.base.specs.Options.{none-some}
 use Rattle.model.specs.Lists.{if_then_else_, oneIf, countIf, atSlot, In}
-use Rattle.model.specs.State.{Region, Kind, Carve, withOwner, withRights}
+use Rattle.model.specs.State.{Hash, Region, Kind, Carve, withOwner, withRightsHash}
 use Rattle.model.specs.Fields.{Field, counter}
 use Rattle.model.specs.Tree.{isCarve, Range, childrenOf, effectiveFrom}
 use Rattle.model.specs.Counts.{regionCount}
@@ -119,12 +120,12 @@ module _ (rs : List (Option Region)) (s : Regions rs) where
           counts-include rs i g e a (w .0) (w .1) z
     ]
 
--- ---- a region extends its rights: it counts as before
+-- ---- a region extends its rights, and gets another hash: it counts as before
 
-module _ (rs rs′ : List (Option Region)) (i : ℕ) (g : Region) (n : ℕ) (x : Extends (g .rights) n) (t : Changed rs rs′ i (some g) (some (withRights n g))) where
+module _ (rs rs′ : List (Option Region)) (i : ℕ) (g : Region) (n : ℕ) (y : Option Hash) (x : Extends (g .rights) n) (t : Changed rs rs′ i (some g) (some (withRightsHash n y g))) where
   pub extends-counts : SameCounts rs rs′
   extends-counts f d a = omega (
     arith,
-    tally-change rs rs′ i (some g) (some (withRights n g)) t f d a (λ k. omega (arith, carved-change rs rs′ i (some g) (some (withRights n g)) t k a)),
+    tally-change rs rs′ i (some g) (some (withRightsHash n y g)) t f d a (λ k. omega (arith, carved-change rs rs′ i (some g) (some (withRightsHash n y g)) t k a)),
     ap (λ (c : ℕ). clear (carved rs i a) (within (g .start) (g .end) a (if eqb (g .owner) d then c else 0) 0)) (x .counted f),
   )

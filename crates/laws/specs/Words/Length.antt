@@ -8,8 +8,8 @@ use lib.Dec.{eqb}
 use lib.ListN.{length, drop, getElem?, length-append, length-map, replicate, length-replicate}
 use Rattle.base.specs.Cases.{holds, fails, test}
 use Rattle.model.specs.Lists.{atSlot, countUp, firstOf, afterIn}
-use Rattle.model.specs.State.{Sizes, Pool, Capa, noCapa, region, regionRevoke, management, channel, LocalList, Record, Domain, parentOf, Region, Update, permission, cleanup, Queue, State}
-use Rattle.model.specs.Layout.{link, slotOr0, headerWords, freeLink, poolWords, capaWords, slotWords, domainWords, kindWord, siblings, regionWords, trackerWords, recordSlotWords, updateWords, placeWords, words, lengthFor}
+use Rattle.model.specs.State.{Sizes, Pool, Capa, noCapa, region, regionRevoke, management, channel, LocalList, Record, Domain, parentOf, Hash, Region, Update, permission, cleanup, Queue, State}
+use Rattle.model.specs.Layout.{link, slotOr0, headerWords, freeLink, poolWords, capaWords, slotWords, domainWords, kindWord, siblings, regionWords, trackerWords, recordSlotWords, updateWords, placeWords, hashWords, words, lengthFor}
 use Rattle.model.specs.Sound.{PoolSound, Sound}
 use Rattle.laws.specs.Parts.{join, in-turn, sum, join-length, up-length, rows-length}
 
@@ -73,7 +73,22 @@ update-width (some (cleanup a b)) = refl
 pub place-width : (n : ℕ) (q : Queue) (k : ℕ) → length (placeWords n q k) ≡ 4
 place-width n q k = update-width (getElem? (q .items) ((k + (n + 1) - q .readPlace) % (n + 1)))
 
--- ---- the eight sections
+-- `hashWords` by the hash; used only in proofs
+abbrev pub hashRow : Option Hash → List ℕ
+hashRow o = elim o [ none ↦ replicate 5 0 | some x ↦ 1 ∷ x .word0 ∷ x .word1 ∷ x .word2 ∷ x .word3 ∷ [] ]
+
+hash-row-width : (o : Option Hash) → length (hashRow o) ≡ 5
+hash-row-width none = refl
+hash-row-width (some x) = refl
+
+region-hash-width : (o : Option Region) → length (hashWords o) ≡ 5
+region-hash-width none = refl
+region-hash-width (some g) = hash-row-width (g .hash)
+
+pub hash-width : (rs : List (Option Region)) (i : ℕ) → length (hashWords (atSlot rs i)) ≡ 5
+hash-width rs i = region-hash-width (atSlot rs i)
+
+-- ---- the nine sections
 
 -- the sections, and how long each is; used only in proofs
 abbrev pub sections : State → List (List ℕ)
@@ -86,12 +101,13 @@ sections s =
     ∷ flatMap (regionWords (s .regions)) (countUp 0 (s .sizes .regions))
     ∷ flatMap (recordSlotWords (s .domains)) (countUp 0 (s .sizes .records))
     ∷ flatMap (placeWords (s .sizes .updates) (s .queue)) (countUp 0 (s .sizes .updates + 1))
+    ∷ flatMap (λ i. hashWords (atSlot (s .regions) i)) (countUp 0 (s .sizes .regions))
     ∷ []
 
 abbrev pub widths : Sizes → List ℕ
 widths z =
     7 ∷ (2 + 2 * z .domains) ∷ (2 + 2 * z .regions) ∷ (2 + 2 * z .records)
-    ∷ z .domains * (5 + 3 * z .slots) ∷ z .regions * 8 ∷ z .records * 9 ∷ (z .updates + 1) * 4 ∷ []
+    ∷ z .domains * (5 + 3 * z .slots) ∷ z .regions * 8 ∷ z .records * 9 ∷ (z .updates + 1) * 4 ∷ z .regions * 5 ∷ []
 
 pub words-join : (s : State) → words s ≡ join (sections s)
 unfolding words
@@ -112,7 +128,8 @@ section-lengths s h =
     let rs = rows-length _ _ (region-width (s .regions)) 0 (z .regions) in
     let ts = rows-length _ _ (record-width (s .domains)) 0 (z .records) in
     let us = rows-length _ _ (place-width (z .updates) (s .queue)) 0 (z .updates + 1) in
-    λ i. 7 ∷ d i ∷ r i ∷ t i ∷ ds i ∷ rs i ∷ ts i ∷ us i ∷ []
+    let hs = rows-length _ _ (hash-width (s .regions)) 0 (z .regions) in
+    λ i. 7 ∷ d i ∷ r i ∷ t i ∷ ds i ∷ rs i ∷ ts i ∷ us i ∷ hs i ∷ []
 
 pub words-length : (s : State) → Sound s → length (words s) ≡ lengthFor (s .sizes)
 words-length s h = ap length (words-join s) ∙ join-length (sections s) ∙ ap sum (section-lengths s h) ∙ omega arith

@@ -1,4 +1,4 @@
--- Equal words of the regions give the same regions. A region's list of children is told by the first child and each child's next sibling:
+-- Equal words of the regions and of their hashes give the same regions. A region's list of children is told by the first child and each child's next sibling:
 -- a region stands in exactly its parent's list, once, so its sibling link is that list's.
 use mathlib.Core.Path.{_≡_, refl, ap, ap₂, sym, _∙_}
 use Prim.Native.Nat.{ℕ, zero, suc, _<_, _≤_}
@@ -10,12 +10,12 @@ use lib.ListN.{length, getD}
 use Rattle.base.specs.Cases.{holds, fails, test}
 use Rattle.base.specs.Tests.{true-is}
 use Rattle.model.specs.Lists.{oneIf, isSome, countIf, Each, atSlot, In, firstOf, afterIn}
-use Rattle.model.specs.State.{Kind, Root, Alias, Carve, parentOf, Region, noneRegion, regionIn}
-use Rattle.model.specs.Layout.{link, slotOr0, kindWord, siblings, regionWords}
+use Rattle.model.specs.State.{Kind, Root, Alias, Carve, parentOf, Hash, Region, noneRegion, regionIn}
+use Rattle.model.specs.Layout.{link, slotOr0, kindWord, siblings, regionWords, hashWords}
 use Rattle.model.specs.Sound.{slotUses, names, RegionSound}
 use Rattle.laws.specs.Stack.{one-at-most, same-stack}
 use Rattle.laws.specs.Words.SameTables.{neither, both, pair, same-table, at-slots, unlink, same-slot}
-use Rattle.laws.specs.Words.Length.{regionRow}
+use Rattle.laws.specs.Words.Length.{regionRow, hashRow}
 use Rattle.laws.specs.Tree.Facts.{named}
 use Rattle.laws.specs.Tree.Slots.{in-length}
 
@@ -30,6 +30,18 @@ read-kind : (k : Kind) → readKind (kindWord k) (link (parentOf k)) ≡ k
 read-kind Root = refl
 read-kind (Alias p) = refl
 read-kind (Carve p) = refl
+
+-- a hash, read from its five words; used only in proofs
+abbrev readHash : ℕ → ℕ → ℕ → ℕ → ℕ → Option Hash
+readHash zero a b c d = none
+readHash (suc n) a b c d = some (record { word0 = a; word1 = b; word2 = c; word3 = d })
+
+abbrev readHashRow : List ℕ → Option Hash
+readHashRow r = readHash (getD r 0 0) (getD r 1 0) (getD r 2 0) (getD r 3 0) (getD r 4 0)
+
+read-hash : (o : Option Hash) → readHashRow (hashRow o) ≡ o
+read-hash none = refl
+read-hash (some x) = refl
 
 -- ---- where a region is listed
 
@@ -62,7 +74,7 @@ parents-list : (rs : List (Option Region)) (k : Kind) (p : ℕ) (g : Region) →
 parents-list rs k p g e i = ap (siblingsOf rs) e ∙ ap (λ (o : Option Region). Option·getD o noneRegion .children) i
 
 module _ (n : ℕ) (rs ts : List (Option Region)) (ln : length rs ≡ n) (ln′ : length ts ≡ n) (used : (i : ℕ) → slotUses rs i ≡ slotUses ts i)
-    (rows : (i : ℕ) → i < n → regionWords rs i ≡ regionWords ts i)
+    (rows : (i : ℕ) → i < n → regionWords rs i ≡ regionWords ts i) (hashes : (i : ℕ) → i < n → hashWords (atSlot rs i) ≡ hashWords (atSlot ts i))
     (hr : (i : ℕ) (g : Region) → In rs i g → RegionSound rs i g) (ht : (i : ℕ) (g : Region) → In ts i g → RegionSound ts i g) where
   -- word w of the row of a live region
   word : (w i : ℕ) (g k : Region) → In rs i g → In ts i k → getD (regionRow rs i (some g)) w 0 ≡ getD (regionRow ts i (some k)) w 0
@@ -72,6 +84,11 @@ module _ (n : ℕ) (rs ts : List (Option Region)) (ln : length rs ≡ n) (ln′ 
 
   same-kind : (i : ℕ) (g k : Region) → In rs i g → In ts i k → g .kind ≡ k .kind
   same-kind i g k a b = sym (read-kind (g .kind)) ∙ ap₂ readKind (word 0 i g k a b) (word 2 i g k a b) ∙ read-kind (k .kind)
+
+  same-hash : (i : ℕ) (g k : Region) → In rs i g → In ts i k → g .hash ≡ k .hash
+  same-hash i g k a b =
+      let row = at-slots hashWords hashWords (atSlot rs i) (atSlot ts i) g k a b (hashes i (omega (arith, in-length rs i g a))) in
+      sym (read-hash (g .hash)) ∙ ap readHashRow row ∙ read-hash (k .hash)
 
   same-parent : (c : ℕ) → parentAt (atSlot rs c) ≡ parentAt (atSlot ts c)
   same-parent c = elim (pair (atSlot rs c) (atSlot ts c) (used c)) [
@@ -109,6 +126,7 @@ module _ (n : ℕ) (rs ts : List (Option Region)) (ln : length rs ≡ n) (ln′ 
       end = word 4 p g k a b i;
       rights = word 5 p g k a b i;
       children = same-children i;
+      hash = same-hash p g k a b i;
     }
 
   pub same-regions : rs ≡ ts

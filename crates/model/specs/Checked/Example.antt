@@ -26,8 +26,8 @@ empty-words : words (emptyTables ones)
     ≡ (1 ∷ 1 ∷ 1 ∷ 1 ∷ 1 ∷ 0 ∷ 0 ∷ [])
     -- 2. to 4. pools
     ++ freePool ++ freePool ++ freePool
-    -- 5. domain, 6. region, 7. tracker record, 8. ring
-    ++ replicate 8 0 ++ replicate 8 0 ++ replicate 9 0 ++ replicate 8 0
+    -- 5. domain, 6. region, 7. tracker record, 8. ring, 9. hash
+    ++ replicate 8 0 ++ replicate 8 0 ++ replicate 9 0 ++ replicate 8 0 ++ replicate 5 0
 unfolding computing
 empty-words = refl
 
@@ -74,6 +74,8 @@ opened-words : words opened
     -- 8. ring: domain 0 is queued with core map 5; one place is empty
     ++ (1 ∷ 0 ∷ 0 ∷ 5 ∷ [])
     ++ (0 ∷ 0 ∷ 0 ∷ 0 ∷ [])
+    -- 9. hashes: none
+    ++ replicate 15 0
 unfolding computing
 opened-words = refl
 
@@ -92,9 +94,9 @@ round = refl
 
 -- ---- lengths
 
--- "Full size: 34,545 words", and 3,273 for the script's tables
-full-length : lengthFor (record { domains = 32; slots = 128; regions = 1024; records = 1024; updates = 128 }) ≡ 34_545
+-- 39,665 words at the largest sizes, and 3,913 for the script's tables
+full-length : lengthFor (record { domains = 32; slots = 128; regions = 1024; records = 1024; updates = 128 }) ≡ 39_665
 full-length = refl
 
-script-length : lengthFor (record { domains = 8; slots = 16; regions = 128; records = 128; updates = 32 }) ≡ 3_273
+script-length : lengthFor (record { domains = 8; slots = 16; regions = 128; records = 128; updates = 32 }) ≡ 3_913
 script-length = refl

@@ -1,7 +1,7 @@
 -- Cases of our own for a send with a flag word (document 02, request 1). One table, proved by one theorem.
 use mathlib.Core.Path.{_≡_, refl}
 use Prim.Native.Nat.{ℕ}
-use mathlib.Core.Option.{some}
+use mathlib.Core.Option.{none, some}
 use mathlib.Core.List.{List, [], _∷_, _++_, map}
 use Rattle.refusals.specs.Refusals.{stale, notCarried, badFlag}
 use Rattle.model.specs.State.{Sizes, cleanup, regionAt}
@@ -14,9 +14,9 @@ use Rattle.model.specs.Checked.OurCases.{SizedCase, answered, z, opened,
 
 -- ---- calls for short
 
--- a send with a flag word, from a slot of domain 0 through its slot 0
+-- a send with a flag word and no hash, from a slot of domain 0 through its slot 0
 abbrev sendFlags : ℕ → ℕ → Call
-sendFlags l f = Call.Do (Step.Send (dom 0) l 0 (record { flags = some f }))
+sendFlags l f = Call.Do (Step.Send (dom 0) l 0 (record { flags = some f; hash = none }))
 
 -- domain 1 under domain 0, with its Management in slot 0; a root 0 to 16 with rights 3 in slot 1; an alias of it in slot 2, an alias 4 to 8 of that in slot 3
 abbrev small : Sizes

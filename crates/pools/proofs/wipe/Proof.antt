@@ -1,4 +1,4 @@
--- Each arm stores the record that is all zero.
+-- Each arm stores what is all zero.
 use Rattle.arena.specs.Arena.{given}
 use borrow.Author.Needs.{needs}
 use mathlib.Core.Path.{refl}
@@ -11,11 +11,8 @@ enum-told c = search needs
 enum-told-2 : tie.Need-enum-told-2
 enum-told-2 c = search needs
 
-no-region-requires : tie.Need-no-region-requires
-no-region-requires c κs = search needs
-
-store-region-requires : tie.Need-store-region-requires
-store-region-requires c κs = search needs
+wipe-region-requires : tie.Need-wipe-region-requires
+wipe-region-requires c κs = search needs
 
 enum-told-3 : tie.Need-enum-told-3
 enum-told-3 c = search needs
@@ -33,7 +30,7 @@ same-length : tie.Need-same-length
 same-length c = search needs
 
 returns-2 : tie.Need-returns-2
-returns-2 c = rw (c .before .before .before .before .before .enum-told2 .given .1) (rw (c .before .before .before .no-region .ensures) at (c .before .before .store-region .ensures))
+returns-2 c = rw (c .before .before .before .before .enum-told2 .given .1) (c .before .before .wipe-region .ensures)
 
 same-length-2 : tie.Need-same-length-2
 same-length-2 c = search needs
@@ -47,8 +44,7 @@ wipe-spec =
     (tie.spec
     enum-told
     enum-told-2
-    no-region-requires
-    store-region-requires
+    wipe-region-requires
     enum-told-3
     no-record-requires
     store-record-requires

@@ -1,4 +1,5 @@
--- Slots taken and freed: the pool changes, and with it the row of the domain that is opened, of the region that is made or freed.
+-- Slots taken and freed: the pool changes, and with it the row of the domain that is opened, of the region that is made
+-- or freed. A new region has no hash, as the free slot had none.
 use mathlib.Core.Path.{_≡_, sym, ap, _∙_}
 use Prim.Native.Nat.{ℕ, _-_, _^_, _<_}
 use mathlib.Core.Bool.{Bool, true, false, not}
@@ -17,15 +18,15 @@ use Rattle.model.specs.Regions.{freeRegion}
 use Rattle.model.specs.Sound.{PoolSound, slotUses}
 use Rattle.laws.specs.Lists.{not-used}
 use Rattle.laws.specs.Tree.Slots.{in-length}
-use Rattle.tables.specs.Tables.{noRegion, withDomainPool, withRegionPool, withDomains, withRegion}
+use Rattle.tables.specs.Tables.{noRegion, noHash, withDomainPool, withRegionPool, withDomains, withRegion, withHash}
 use Rattle.arena.specs.Arena.{allocated, freesB, freed}
 use Rattle.pools.specs.declared.Pool.the-variants.{Regions}
 use Rattle.pools.specs.Wiping.{slotFreed}
-use Rattle.decoded.specs.Tables.{poolOf, domainFor, regionFor, tablesOf}
+use Rattle.decoded.specs.Tables.{poolOf, domainFor, regionFor, regionHashFor, slotHash, tablesOf}
 use Rattle.refine.specs.Arenas.Pools.{poolFreed, allocated-first, first-inside, first-unused, frees-is, freed-is}
 use Rattle.decoded.specs.Tracker.Trackers.{trackerOf}
 use Rattle.decoded.specs.Slots.Domains.{domain-set}
-use Rattle.decoded.specs.Tree.Regions.{childrenIn, region-set}
+use Rattle.decoded.specs.Tree.Regions.{childrenIn, region-set, region-set-kept}
 
 -- ---- slots taken
 
@@ -40,13 +41,13 @@ module _ (s : State) (i : ℕ) (is : List ℕ) where
       domain-set s long _ i (some x) (first-inside n (slotUses (s .domains)) (s .domainPool) h i is e) (t ∙ ap trackerOf (sym o))
       ∙ ap (λ a. withDomains (withDomainPool (tablesOf s) a) (set (tablesOf s .domains) i (domainFor (s .sizes .slots) (some x)))) (sym (allocated-first n (slotUses (s .domains)) (s .domainPool) h i is e))
 
-  pub region-made : (g : state.Region) → length (s .regions) ≡ s .sizes .regions → PoolSound (s .sizes .regions) (slotUses (s .regions)) (s .regionPool) → s .regionPool .free ≡ i ∷ is → g .children ≡ []
+  pub region-made : (g : state.Region) → length (s .regions) ≡ s .sizes .regions → PoolSound (s .sizes .regions) (slotUses (s .regions)) (s .regionPool) → s .regionPool .free ≡ i ∷ is → g .children ≡ [] → g .hash ≡ none
       → tablesOf (state.withRegions (record { gens = s .regionPool .gens; free = is }) (set (s .regions) i (some g)) s)
       ≡ withRegion (withRegionPool (tablesOf s) (allocated (poolOf (s .sizes .regions) (s .regionPool)))) i (regionFor (s .regions) i (some g))
-  region-made g long h e c =
+  region-made g long h e c q =
       let n = s .sizes .regions in
       let o = not-used (atSlot (s .regions) i) (first-unused n (slotUses (s .regions)) (s .regionPool) h i is e) in
-      region-set s long _ i (some g) (first-inside n (slotUses (s .regions)) (s .regionPool) h i is e) (c ∙ ap childrenIn (sym o))
+      region-set-kept s long _ i (some g) (first-inside n (slotUses (s .regions)) (s .regionPool) h i is e) (c ∙ ap childrenIn (sym o)) (ap regionHashFor q ∙ ap slotHash (sym o))
       ∙ ap (λ a. withRegion (withRegionPool (tablesOf s) a) i (regionFor (s .regions) i (some g))) (sym (allocated-first n (slotUses (s .regions)) (s .regionPool) h i is e))
 
 -- ---- a region's slot freed
@@ -67,9 +68,9 @@ module _ (s : State) (long : length (s .regions) ≡ s .sizes .regions) (h : Poo
   -- ---- the code
 
   code-is : (b : Bool) → freesB (poolOf (s .sizes .regions) (s .regionPool)) i ≡ b
-      → slotFreed (tablesOf s) Regions i ≡ pick b (withRegion (withRegionPool (tablesOf s) (freed (poolOf (s .sizes .regions) (s .regionPool)) i)) i noRegion) (tablesOf s)
+      → slotFreed (tablesOf s) Regions i ≡ pick b (withHash (withRegion (withRegionPool (tablesOf s) (freed (poolOf (s .sizes .regions) (s .regionPool)) i)) i noRegion) i noHash) (tablesOf s)
   unfolding slotFreed tablesOf
-  code-is b e = ap (λ c. pick c (withRegion (withRegionPool (tablesOf s) (freed (poolOf (s .sizes .regions) (s .regionPool)) i)) i noRegion) (tablesOf s)) e
+  code-is b e = ap (λ c. pick c (withHash (withRegion (withRegionPool (tablesOf s) (freed (poolOf (s .sizes .regions) (s .regionPool)) i)) i noRegion) i noHash) (tablesOf s)) e
 
   -- ---- the model
 
@@ -89,7 +90,7 @@ module _ (s : State) (long : length (s .regions) ≡ s .sizes .regions) (h : Poo
         | holds t ↦ code-is false (f ∙ ap not t) ∙ ap tablesOf (sym (model-kept t))
         | fails t ↦
             code-is true (f ∙ ap not t)
-            ∙ ap (λ a. withRegion (withRegionPool (tablesOf s) a) i noRegion) (freed-is (s .sizes .regions) (slotUses (s .regions)) (s .regionPool) h i below used)
+            ∙ ap (λ a. withHash (withRegion (withRegionPool (tablesOf s) a) i noRegion) i noHash) (freed-is (s .sizes .regions) (slotUses (s .regions)) (s .regionPool) h i below used)
             ∙ sym (region-set s long (poolFreed (s .regionPool) (free i (s .regionPool))) i none below (sym (ap childrenIn at ∙ leaf)))
             ∙ ap tablesOf (sym (model-freed t))
       ]

@@ -74,6 +74,6 @@ module _ (s : State) (sound : Sound s) where
   call-refines (model.Root h a) w = agrees-call _ _ _ (local-is _) (create-root-region-refines s sound (handleFor h) (accessIn a) (w .1))
   call-refines (model.Alias h l a) w = agrees-call _ _ _ (local-is _) (alias-region-refines s sound (handleFor h) (accessIn a) l)
   call-refines (model.Carve h l a) w = agrees-call _ _ _ (local-is _) (carve-region-refines s sound (handleFor h) (accessIn a) l)
-  call-refines (model.Send h l target o) w = agrees-call _ _ _ (local-is _) (send-refines s sound (handleFor h) l target o)
+  call-refines (model.Send h l target o) w = agrees-call _ _ _ (local-is _) (send-refines s sound (handleFor h) l target o (w .3 .1))
   call-refines (model.Revoke h l) w = agrees-call _ _ _ (silent-is _) (revoke-refines s sound (handleFor h) l)
   call-refines (model.CreateRevokeCapa h l) w = agrees-call _ _ _ (local-is _) (create-revoke-capa-refines s sound (handleFor h) l)

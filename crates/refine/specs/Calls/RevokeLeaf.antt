@@ -64,18 +64,18 @@ module _ (s : State) (raisable : TrackersRaisable s) (p : ℕ) (h : state.Region
         (agrees-call _ _ (plain (model.activate (h .owner) (record { start = b; end = e; rights = h .rights }) s)) (ap (λ (r : state.Region). plain (model.activate (r .owner) (record { start = b; end = e; rights = r .rights }) s)) reg)
         (follows-range activate model.activate activate-refines s (h .owner) b e (h .rights) byte raisable live z))
 
-    give-kind : (k : Kind) (o r n c : ℕ) (cs : List ℕ) → parentOf k ≡ some p
+    give-kind : (k : Kind) (o r n c : ℕ) (cs : List ℕ) (x : Option state.Hash) → parentOf k ≡ some p
         → Agrees (giveBack (record { kind = kindWord k; owner = suc o; parent = link (parentOf k); start = b; end = e; rights = r; child = c; next = n }) T)
-        (plain (model.giveBack (record { owner = o; kind = k; start = b; end = e; rights = r; children = cs }) s))
+        (plain (model.giveBack (record { owner = o; kind = k; start = b; end = e; rights = r; children = cs; hash = x }) s))
     unfolding giveBack model.giveBack _>>=_
-    give-kind Root o r n c cs q = absurd (none-some none p refl q)
-    give-kind (Alias m) o r n c cs q = (refl, refl)
-    give-kind (Carve m) o r n c cs q = back m (some-same (some m) m p refl q)
+    give-kind Root o r n c cs x q = absurd (none-some none p refl q)
+    give-kind (Alias m) o r n c cs x q = (refl, refl)
+    give-kind (Carve m) o r n c cs x q = back m (some-same (some m) m p refl q)
 
   -- region g, by its row among the regions rs before
   pub give-back-refines : (rs : List (Option state.Region)) (i : ℕ) (g : state.Region) → parentOf (g .kind) ≡ some p → g .start < g .end
       → Agrees (giveBack (regionFor rs i (some g)) (tablesOf s)) (model.giveBack g s >>= λ s₁. ok (0, s₁))
-  give-back-refines rs i g n z = give-kind (g .start) (g .end) z (g .kind) (g .owner) (g .rights) _ _ (g .children) n
+  give-back-refines rs i g n z = give-kind (g .start) (g .end) z (g .kind) (g .owner) (g .rights) _ _ (g .children) (g .hash) n
 
 -- ---- the range is queued
 

@@ -51,7 +51,7 @@ module _ (s : State) (sound : Sound s) (h : Handle) (a : AccessRights) where
       let pool = r .base .regions .pool in
       agrees-next _ _ (steps.newRegion d Root (accessFor a) s₁) _
       (new-region-refines s₁ size pool (agree-children s₁ (r .agree)) d (domain-small s base d x e) Root a)
-      (both (both (root-agree s₁ (r .agree) size pool d (r .domain) (r .at) (accessFor a) (record { nonempty = r .nonempty; startWord = w .0; endWord = w .1; rightsByte = w .2 })) (new-base s₁ d (r .base) (is-live _ _ (r .at)) Root (accessFor a)))
+      (both (both (root-agree s₁ (r .agree) size pool d (r .domain) (r .at) (accessFor a) (record { nonempty = r .nonempty; startWord = w .0; endWord = w .1; rightsByte = w .2; hashWords = tt })) (new-base s₁ d (r .base) (is-live _ _ (r .at)) Root (accessFor a)))
       (new-all s₁ size pool d Root (accessFor a) (λ y. Lists (y .1)) (λ i p l free. l₁))) (λ i s₂ (((b, gains, at), ((k, live), still)), l₂).
       agrees-next _ _ (insertCapa d (region (handleOf (s₂ .regionPool) i)) s₂) _
       (insert-here s₂ d (k, l₂, live) (region (handleOf (s₂ .regionPool) i)) _ (region-of s₂ i))

@@ -5,7 +5,7 @@ use lib.Dec.{eqb}
 use Rattle.model.specs.Lists.{atSlot, In}
 use Rattle.model.specs.Outcome.{Outcome, ok, _>>=_, _>>_}
 use Rattle.refusals.specs.Refusals.{notCarried}
-use Rattle.model.specs.State.{State, Region, SendOptions, Capa, noCapa, region, regionRevoke, management, channel}
+use Rattle.model.specs.State.{State, HashWords, Region, SendOptions, Capa, noCapa, region, regionRevoke, management, channel}
 use Rattle.model.specs.Locals as locals
 use Rattle.model.specs.Locals.{hasCapacity, insertCapa, removeCapa}
 use Rattle.model.specs.Regions as regions
@@ -70,9 +70,9 @@ module _ (s : State) (whole : Whole s) (o : SendOptions) where
   send-capa-refines to live (channel h) = (refl, refl)
 
 module _ (s : State) (sound : Sound s) (h : Handle) (l : ℕ) where
-  pub send-refines : (target : ℕ) (o : SendOptions) → Agrees (send h l target (optionsIn o) (tablesOf s)) (model.send (handleIn h) l target o s)
+  pub send-refines : (target : ℕ) (o : SendOptions) → HashWords (o .hash) → Agrees (send h l target (optionsIn o) (tablesOf s)) (model.send (handleIn h) l target o s)
   unfolding send model.send sendCapa
-  send-refines target o =
+  send-refines target o hash =
       let base = sound-base s sound in
       let lists = sound-lists s sound in
       from-domain s base h _ _ (λ d x e.
@@ -83,5 +83,5 @@ module _ (s : State) (sound : Sound s) (h : Handle) (l : ℕ) where
       let (z, i) = live-is (atSlot (s₁ .domains) to) lo in
       agrees-call _ _ _ (pair-then (locals.capaAt s₁ d l) (λ c. model.sendCapa c to o s₁) (λ c t. insertCapa to c (removeCapa d l t))) (
       agrees-on _ _ (both-of s₁ w l₁ d ld l (λ c. model.sendCapa c to o s₁)) (λ v. (0, v .1)) _ (looked s₁ w l₁ d ld l (λ c. model.sendCapa c to o s₁) (sends s₁ w o to) (send-capa-refines s₁ w o to lo))
-      (kept s₁ w l₁ d ld l (λ c. model.sendCapa c to o s₁) (λ c. send-capa s₁ w o c to z i)) (λ (c, t) (j, w₂, b).
+      (kept s₁ w l₁ d ld l (λ c. model.sendCapa c to o s₁) (λ c. send-capa s₁ w o hash c to z i)) (λ (c, t) (j, w₂, b).
       moved s₁ t (w .1) l₁ w₂ b d ld l c j to lo))))))

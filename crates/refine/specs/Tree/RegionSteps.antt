@@ -88,7 +88,7 @@ none-given r p e = ap (λ (l : List ℕ). elim l [ [] ↦ refuse r | j ∷ js �
 
 module _ (s : State) (long : length (s .regions) ≡ s .sizes .regions) (sound : PoolSound (s .sizes .regions) (slotUses (s .regions)) (s .regionPool)) (live : ChildrenLive (s .regions)) (d : ℕ) (small : d < 2 ^ 64 - 1) (k : Kind) (a : AccessRights) where
   abbrev made : state.Region
-  made = record { owner = d; kind = k; start = a .start; end = a .end; rights = a .ops .0; children = [] }
+  made = record { owner = d; kind = k; start = a .start; end = a .end; rights = a .ops .0; children = []; hash = none }
 
   abbrev capa : RegionCapa
   capa = capaFor d (kindWord k) (link (parentOf k)) a
@@ -122,7 +122,7 @@ module _ (s : State) (long : length (s .regions) ≡ s .sizes .regions) (sound :
       agrees-ok _ _ i _ _ (made-at capa (tablesOf s) _ at) (model-made i is e) (
       ap (λ (q : RegionCapa). withRegion (withRegionPool (tablesOf s) (allocated (tablesOf s .regionPool))) i q) (sym (capa-is i o))
       ∙ ap (λ (q : Arena). withRegion (withRegionPool (tablesOf s) (allocated q)) i (regionFor (s .regions) i (some made))) pool-here
-      ∙ sym (region-made s i is made long sound e refl))
+      ∙ sym (region-made s i is made long sound e refl refl))
 
   -- kind word and parent link are 1 and 0 of a root, 2 or 3 and the parent's link of a child
   pub new-region-refines : Agrees (newRegion (capaFor d (kindWord k) (link (parentOf k)) a) (tablesOf s)) (model.newRegion d k (accessFor a) s)

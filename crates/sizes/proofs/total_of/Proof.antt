@@ -1,4 +1,4 @@
--- The words end where the ring does.
+-- The words end where the hashes do.
 use Rattle.sizes.specs.Tests.{domains-fit}
 use Rattle.sizes.specs.Sizes.{total}
 use Rattle.words.specs.Cuts.{offset}
@@ -7,22 +7,19 @@ use native.Mathlib.Omega.{arith}
 use Rattle.sizes.proofs.total_of.Statement.{statement}
 use Rattle.sizes.proofs.total_of.Tie as tie
 
-ring-at-requires : tie.Need-ring-at-requires
-ring-at-requires c κs = search needs
-
-add-result : tie.Need-add-result
-add-result c = search needs
+hashes-at-requires : tie.Need-hashes-at-requires
+hashes-at-requires c κs = search needs
 
 mul-result : tie.Need-mul-result
 mul-result c = search needs
 
-add-result-2 : tie.Need-add-result-2
+add-result : tie.Need-add-result
 unfolding offset
-add-result-2 c = omega (arith, domains-fit (c .before .before .args .z) (c .before .before .pre))
+add-result c = omega (arith, domains-fit (c .before .before .args .z) (c .before .before .pre))
 
 returns : tie.Need-returns
 unfolding offset total
 returns c = omega arith
 
 pub total-of-spec : {M : Type 1} → statement M
-total-of-spec = tie.close (tie.spec ring-at-requires add-result mul-result add-result-2 returns)
+total-of-spec = tie.close (tie.spec hashes-at-requires mul-result add-result returns)

@@ -1,0 +1,1 @@
+// No code: that the test of the regions' hashes is exact (specs/).
