@@ -1,7 +1,7 @@
 // Capabilities sent and revoked.
 ghost use Rattle.model.specs.State.{noOptions};
 ghost use Rattle.model.specs.Perform.{Call, Step};
-ghost use Rattle.frame.specs.Replies.{handle, replyOf, Returns};
+ghost use Rattle.frame.specs.Replies.{handle, withFlags, replyOf, Returns};
 use frame::Reply;
 
 // Without a flag word. The value is the slot in the list of the domain that the target names.
@@ -17,6 +17,22 @@ pub extern "C" fn mityvurno_send(
     ensures { λ r. ⌜ Returns replyOf (now (t .entry)) (now (w .entry)) (Call.Do (Step.Send (handle domain generation) local target noOptions)) r (now (t .exit)) (now (w .exit)) ⌝ }
 {
     lent_capas::send(t, w, domain, generation, local, target)
+}
+
+// With a flag word: the flags join the rights of a region that is sent.
+#[no_mangle]
+pub extern "C" fn mityvurno_send_with_flags(
+    t: &mut [u64],
+    w: &mut [u64],
+    domain: u64,
+    generation: u64,
+    local: u64,
+    target: u64,
+    flags: u8,
+) -> Reply
+    ensures { λ r. ⌜ Returns replyOf (now (t .entry)) (now (w .entry)) (Call.Do (Step.Send (handle domain generation) local target (withFlags flags))) r (now (t .exit)) (now (w .exit)) ⌝ }
+{
+    lent_capas::send_with_flags(t, w, domain, generation, local, target, flags)
 }
 
 #[no_mangle]

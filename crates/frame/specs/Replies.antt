@@ -5,7 +5,7 @@ use Prim.Native.Nat.{ℕ}
 use mathlib.Core.Option.{some}
 use mathlib.Core.List.{List, [], map}
 use lib.ListN.{getD}
-use Rattle.model.specs.State.{Sizes, Handle, Access}
+use Rattle.model.specs.State.{Sizes, Handle, Access, SendOptions}
 use Rattle.model.specs.Perform.{Call, Answer, code, values}
 use Rattle.model.specs.Memory.{After, AfterPermissions, AfterHolders}
 use Rattle.readings.specs.declared.Permission.{Permission}
@@ -23,6 +23,10 @@ access start end rights = record { start = start; end = end; rights = rights }
 
 abbrev pub sizes : ℕ → ℕ → ℕ → ℕ → ℕ → Sizes
 sizes domains slots regions records updates = record { domains = domains; slots = slots; regions = regions; records = records; updates = updates }
+
+-- a send's options (document 02, request 1): a flag word
+abbrev pub withFlags : ℕ → SendOptions
+withFlags flags = record { flags = some flags }
 
 -- ---- an answer as a record
 

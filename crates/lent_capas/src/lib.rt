@@ -1,8 +1,9 @@
 // Capabilities sent and revoked.
 ghost use Rattle.model.specs.State.{noOptions};
 ghost use Rattle.model.specs.Perform.{Call, Step};
-ghost use Rattle.frame.specs.Replies.{handle, replyOf, Returns};
+ghost use Rattle.frame.specs.Replies.{handle, withFlags, replyOf, Returns};
 use frame::Reply;
+use rights::Rights;
 use segment::SendOptions;
 use tables::Handle;
 
@@ -25,6 +26,35 @@ pub fn send(
         t,
         w,
         calls::Call::Send(domain, local as usize, target as usize, SendOptions::None),
+    )
+}
+
+// With a flag word: the flags join the rights of a region that is sent.
+pub fn send_with_flags(
+    t: &mut [u64],
+    w: &mut [u64],
+    domain: u64,
+    generation: u64,
+    local: u64,
+    target: u64,
+    flags: u8,
+) -> Reply
+    ensures { λ r. ⌜ Returns replyOf (now (t .entry)) (now (w .entry)) (Call.Do (Step.Send (handle domain generation) local target (withFlags flags))) r (now (t .exit)) (now (w .exit)) ⌝ }
+{
+    let domain = Handle {
+        slot: domain,
+        generation,
+    };
+    let flags = Rights(flags);
+    frame::run(
+        t,
+        w,
+        calls::Call::Send(
+            domain,
+            local as usize,
+            target as usize,
+            SendOptions::Flags(flags),
+        ),
     )
 }
 

@@ -12,7 +12,7 @@ use Rattle.frame.specs.declared.replies.Reply.{Reply}
 use Rattle.frame.specs.Replies.{replyOf, domainReplyOf, updateReplyOf, Returns}
 use Rattle.book.specs.Book.{Book}
 use Rattle.book.specs.Lent.{ClaimsOf}
-use Rattle.promise.specs.Calls.{Called, Words, Exported, Sequence, make-tables, open-domain, open-under, open-channel, set-core-map, create-root-region, alias-region, carve-region, send, revoke, create-revoke-capa, pop}
+use Rattle.promise.specs.Calls.{Called, Words, Exported, Sequence, make-tables, open-domain, open-under, open-channel, set-core-map, create-root-region, alias-region, carve-region, send, send-with-flags, revoke, create-revoke-capa, pop}
 use Rattle.promise.specs.Returned.{noteAllReturned}
 use Rattle.promise.specs.Everything.{everything}
 
@@ -77,30 +77,13 @@ one t w t₁ w₁ x u h = record { calls = x ∷ []; arguments = (u, tt); sequen
 pub reached-made : {t w : List ℕ} {z : Sizes} {r : Reply} {t₁ w₁ : List ℕ} → Returns replyOf t w (Call.Make z) r t₁ w₁ → r .refusal ≡ 0 → Reached z t₁
 reached-made {t} {w} {r = r} {w₁ = w₁} h e = record { memory = t; reply = r; calls = []; accepted = e; arguments = tt; sequence = Sequence.next w w₁ h Sequence.start }
 
--- the flag word that a step gives
-abbrev pub flagsOf : Step → Option ℕ
-flagsOf (Step.Open m cores) = none
-flagsOf (Step.Channel d to) = none
-flagsOf (Step.SetCoreMap d cores) = none
-flagsOf (Step.Root d x) = none
-flagsOf (Step.Alias d l x) = none
-flagsOf (Step.Carve d l x) = none
-flagsOf (Step.Send d l to o) = o .flags
-flagsOf (Step.Revoke d l) = none
-flagsOf (Step.CreateRevokeCapa d l) = none
-
--- what is said of a step that gives this flag word: nothing where there is one, since no exported function gives one
-abbrev pub LeadsWith : Option ℕ → List ℕ → List ℕ → Type 0
-LeadsWith none t t₁ = Leads t t₁
-LeadsWith (some f) t t₁ = Unit {0}
-
 module _ {t w : List ℕ} {a : Answer} {t₁ w₁ : List ℕ} where
-  send-leads : (d : Handle) (l to : ℕ) (x : Option ℕ) → StepWords (Step.Send d l to (record { flags = x })) → After t w (Call.Do (Step.Send d l to (record { flags = x }))) a t₁ w₁ → LeadsWith x t t₁
+  send-leads : (d : Handle) (l to : ℕ) (x : Option ℕ) → StepWords (Step.Send d l to (record { flags = x })) → After t w (Call.Do (Step.Send d l to (record { flags = x }))) a t₁ w₁ → Leads t t₁
   send-leads d l to none u h = one t w t₁ w₁ (send (d .slot) (d .generation) l to (replyOf a)) u (record { answer = a; after = h; reply = refl })
-  send-leads d l to (some f) u h = tt
+  send-leads d l to (some f) u h = one t w t₁ w₁ (send-with-flags (d .slot) (d .generation) l to f (replyOf a)) u (record { answer = a; after = h; reply = refl })
 
-  -- any step of the model without a flag word is an exported call, by the record that its function makes of the answer
-  pub step-leads : (c : Step) → StepWords c → After t w (Call.Do c) a t₁ w₁ → LeadsWith (flagsOf c) t t₁
+  -- any step of the model is an exported call, by the record that its function makes of the answer
+  pub step-leads : (c : Step) → StepWords c → After t w (Call.Do c) a t₁ w₁ → Leads t t₁
   step-leads (Step.Open none cores) u h = one t w t₁ w₁ (open-domain cores (domainReplyOf a)) u (record { answer = a; after = h; reply = refl })
   step-leads (Step.Open (some m) cores) u h = one t w t₁ w₁ (open-under (m .slot) (m .generation) cores (domainReplyOf a)) u (record { answer = a; after = h; reply = refl })
   step-leads (Step.Channel d to) u h = one t w t₁ w₁ (open-channel (d .slot) (d .generation) (to .slot) (to .generation) (replyOf a)) u (record { answer = a; after = h; reply = refl })
