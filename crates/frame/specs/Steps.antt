@@ -22,13 +22,13 @@ use Rattle.refine.specs.Calls.Perform.{stepFor}
 abbrev accessIn : AccessRights → state.Access
 accessIn a = record { start = a .start; end = a .end; rights = a .ops .0 }
 
-abbrev hashIn : Hash → state.Hash
-hashIn h = record { word0 = h .word0; word1 = h .word1; word2 = h .word2; word3 = h .word3 }
+abbrev hashFrom : Hash → state.Hash
+hashFrom h = record { word0 = h .word0; word1 = h .word1; word2 = h .word2; word3 = h .word3 }
 
 abbrev optionsIn : SendOptions → state.SendOptions
 optionsIn options.None = state.noOptions
 optionsIn (options.Flags f) = record { flags = some (f .0); hash = none }
-optionsIn (options.Hashed f h) = record { flags = some (f .0); hash = some (hashIn h) }
+optionsIn (options.Hashed f h) = record { flags = some (f .0); hash = some (hashFrom h) }
 
 abbrev pub stepNamed : Call → model.Step
 stepNamed (Open cores) = model.Open none cores

@@ -1,18 +1,20 @@
 -- Tables that some calls of the exported functions left: the form in which the contract of a program carries what `everything` and `untouched` speak of.
-use mathlib.Core.Path.{_≡_, refl}
+use mathlib.Core.Path.{_≡_, refl, sym, subst}
 use Prim.Native.Nat.{ℕ}
 use mathlib.Core.Option.{Option, none, some}
 use mathlib.Core.List.{List, [], _∷_, _++_}
 use Rattle.model.specs.Lists.{Each}
-use Rattle.model.specs.State.{Sizes, Handle}
-use Rattle.model.specs.Perform.{Step, Call, Answer}
+use Rattle.model.specs.State.{State, Sizes, Handle, Hash}
+use Rattle.model.specs.Perform.{Step, Call, Answer, perform, after, step}
 use Rattle.model.specs.CallWords.{StepWords}
-use Rattle.model.specs.Memory.{After}
+use Rattle.model.specs.Layout.{words}
+use Rattle.model.specs.Memory.{After, notSound, performed, zeroed}
+use Rattle.model.specs.Checked.HashAlone.{hash-alone}
 use Rattle.frame.specs.declared.replies.Reply.{Reply}
 use Rattle.frame.specs.Replies.{replyOf, domainReplyOf, updateReplyOf, Returns}
 use Rattle.book.specs.Book.{Book}
 use Rattle.book.specs.Lent.{ClaimsOf}
-use Rattle.promise.specs.Calls.{Called, Words, Exported, Sequence, make-tables, open-domain, open-under, open-channel, set-core-map, create-root-region, alias-region, carve-region, send, send-with-flags, revoke, create-revoke-capa, pop}
+use Rattle.promise.specs.Calls.{Called, Words, Exported, Sequence, make-tables, open-domain, open-under, open-channel, set-core-map, create-root-region, alias-region, carve-region, send, send-with-flags, send-with-hash, revoke, create-revoke-capa, pop}
 use Rattle.promise.specs.Returned.{noteAllReturned}
 use Rattle.promise.specs.Everything.{everything}
 
@@ -77,10 +79,18 @@ one t w t₁ w₁ x u h = record { calls = x ∷ []; arguments = (u, tt); sequen
 pub reached-made : {t w : List ℕ} {z : Sizes} {r : Reply} {t₁ w₁ : List ℕ} → Returns replyOf t w (Call.Make z) r t₁ w₁ → r .refusal ≡ 0 → Reached z t₁
 reached-made {t} {w} {r = r} {w₁ = w₁} h e = record { memory = t; reply = r; calls = []; accepted = e; arguments = tt; sequence = Sequence.next w w₁ h Sequence.start }
 
+-- steps that do the same on every state are answered the same
+same-after : (t w : List ℕ) (c d : Step) (a : Answer) (t₁ w₁ : List ℕ) → ((s : State) → perform s (Call.Do c) ≡ perform s (Call.Do d)) → After t w (Call.Do c) a t₁ w₁ → After t w (Call.Do d) a t₁ w₁
+unfolding step
+same-after t w c d a t₁ w₁ e (notSound x q n) = notSound (Call.Do d) tt n
+same-after t w c d a t₁ w₁ e (performed x s q l) = subst (λ o. After t w (Call.Do d) (after s o .0) (words (after s o .1)) (zeroed w)) (sym (e s)) (performed (Call.Do d) s tt l)
+
 module _ {t w : List ℕ} {a : Answer} {t₁ w₁ : List ℕ} where
-  send-leads : (d : Handle) (l to : ℕ) (x : Option ℕ) → StepWords (Step.Send d l to (record { flags = x })) → After t w (Call.Do (Step.Send d l to (record { flags = x }))) a t₁ w₁ → Leads t t₁
-  send-leads d l to none u h = one t w t₁ w₁ (send (d .slot) (d .generation) l to (replyOf a)) u (record { answer = a; after = h; reply = refl })
-  send-leads d l to (some f) u h = one t w t₁ w₁ (send-with-flags (d .slot) (d .generation) l to f (replyOf a)) u (record { answer = a; after = h; reply = refl })
+  -- a send: without a flag word, whatever its hash (`hash-alone`); with a flag word and no hash; with both
+  send-leads : (d : Handle) (l to : ℕ) (x : Option ℕ) (y : Option Hash) → StepWords (Step.Send d l to (record { flags = x; hash = y })) → After t w (Call.Do (Step.Send d l to (record { flags = x; hash = y }))) a t₁ w₁ → Leads t t₁
+  send-leads d l to none y u h = one t w t₁ w₁ (send (d .slot) (d .generation) l to (replyOf a)) (u .0, u .1, u .2, (tt, tt)) (record { answer = a; after = same-after t w _ _ a t₁ w₁ (λ s. hash-alone s d l to y) h; reply = refl })
+  send-leads d l to (some f) none u h = one t w t₁ w₁ (send-with-flags (d .slot) (d .generation) l to f (replyOf a)) u (record { answer = a; after = h; reply = refl })
+  send-leads d l to (some f) (some y) u h = one t w t₁ w₁ (send-with-hash (d .slot) (d .generation) l to f y (replyOf a)) u (record { answer = a; after = h; reply = refl })
 
   -- any step of the model is an exported call, by the record that its function makes of the answer
   pub step-leads : (c : Step) → StepWords c → After t w (Call.Do c) a t₁ w₁ → Leads t t₁
@@ -91,7 +101,7 @@ module _ {t w : List ℕ} {a : Answer} {t₁ w₁ : List ℕ} where
   step-leads (Step.Root d x) u h = one t w t₁ w₁ (create-root-region (d .slot) (d .generation) (x .start) (x .end) (x .rights) (replyOf a)) u (record { answer = a; after = h; reply = refl })
   step-leads (Step.Alias d l x) u h = one t w t₁ w₁ (alias-region (d .slot) (d .generation) l (x .start) (x .end) (x .rights) (replyOf a)) u (record { answer = a; after = h; reply = refl })
   step-leads (Step.Carve d l x) u h = one t w t₁ w₁ (carve-region (d .slot) (d .generation) l (x .start) (x .end) (x .rights) (replyOf a)) u (record { answer = a; after = h; reply = refl })
-  step-leads (Step.Send d l to o) u h = send-leads d l to (o .flags) u h
+  step-leads (Step.Send d l to o) u h = send-leads d l to (o .flags) (o .hash) u h
   step-leads (Step.Revoke d l) u h = one t w t₁ w₁ (revoke (d .slot) (d .generation) l (replyOf a)) u (record { answer = a; after = h; reply = refl })
   step-leads (Step.CreateRevokeCapa d l) u h = one t w t₁ w₁ (create-revoke-capa (d .slot) (d .generation) l (replyOf a)) u (record { answer = a; after = h; reply = refl })
 
