@@ -104,12 +104,8 @@ fn preset(random: &mut Random, sizes: &Sizes) -> Call {
     Call::Generation { pool, slot, gen: random.pick(&[u64::MAX, u64::MAX - 1, u64::MAX - 2, 7]) }
 }
 
-/// The next call of a list, on these tables.
-pub fn call(random: &mut Random, style: &Style, tables: &Tables) -> Call {
-    let live: Vec<Handle> = live_domains(tables);
-    if live.is_empty() && !random.one_in(4) {
-        return Call::Open { manager: None, cores: random.below(8) };
-    }
+/// The kind of the next call, by its place among the weights.
+fn kind(random: &mut Random, style: &Style, tables: &Tables, live: &[Handle]) -> usize {
     let mut draw = random.below(style.weights.iter().sum());
     let mut kind = 0;
     while draw >= style.weights[kind] {
@@ -124,6 +120,16 @@ pub fn call(random: &mut Random, style: &Style, tables: &Tables) -> Call {
     if matches!(kind, 1 | 3..=6 | 8) && live.iter().all(full) && !random.one_in(3) {
         kind = 7;
     }
+    kind
+}
+
+/// The next call of a list, on these tables.
+pub fn call(random: &mut Random, style: &Style, tables: &Tables) -> Call {
+    let live: Vec<Handle> = live_domains(tables);
+    if live.is_empty() && !random.one_in(4) {
+        return Call::Open { manager: None, cores: random.below(8) };
+    }
+    let kind = kind(random, style, tables, &live);
     // A domain that holds what the call needs, if there is one.
     let useful = live.iter().filter(|h| tables.domains[h.slot as usize].iter().any(|d| d.held.iter().flatten().any(|c| needed(kind, *c))));
     let useful: Vec<Handle> = useful.copied().collect();
