@@ -117,8 +117,8 @@ fn sampled(random: &mut Random, words: &[u64], k: usize) -> usize {
     at
 }
 
-/// Single words, `words` of them or all, with several values each; and for each word four edits of several words, four twists and four rows
-/// of the hashes.
+/// Single words, `words` of them or all, with several values each; and for each word four edits of several words, four twists and a row of
+/// the hashes.
 fn edits(tester: &mut Tester, shape: &Shape, words: usize) -> Result<(), String> {
     let n = shape.words.len();
     let all = words >= n;
@@ -128,10 +128,11 @@ fn edits(tester: &mut Tester, shape: &Shape, words: usize) -> Result<(), String>
             with_edits(tester, shape, vec![(k, value)])?;
         }
         for _ in 0..4 {
-            let random = &mut tester.random;
-            let edits = [shapes::several(random, &shape.words), twists::twist(random, shape), shapes::hash_row(random, shape)];
+            let edits = [shapes::several(&mut tester.random, &shape.words), twists::twist(&mut tester.random, shape)];
             edits.into_iter().try_for_each(|edits| with_edits(tester, shape, edits))?;
         }
+        let row = shapes::hash_row(&mut tester.random, shape);
+        with_edits(tester, shape, row)?;
     }
     Ok(())
 }
