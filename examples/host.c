@@ -98,6 +98,23 @@ static void more(mityvurno_domain_reply a, mityvurno_domain_reply b)
     updates();
 }
 
+/* A hands B a frame buffer that must be wiped on return, with the hash of what is in it, and takes it back. READ is no flag that a send may
+ * add, and HASH needs a hash. */
+static void hand_over(mityvurno_domain_reply a)
+{
+    static const uint8_t hash[32] = {0x6d, 0x69, 0x74, 0x79};
+    mityvurno_reply buffer = mityvurno_alias_region(LENT, a.slot, a.generation, 1, 12, 16, MITYVURNO_READ);
+    mityvurno_reply way_back = mityvurno_create_revoke_capa(LENT, a.slot, a.generation, buffer.value);
+    call(buffer);
+    call(way_back);
+    call(mityvurno_send_with_flags(LENT, a.slot, a.generation, buffer.value, 0, MITYVURNO_READ));
+    call(mityvurno_send_with_flags(LENT, a.slot, a.generation, buffer.value, 0, MITYVURNO_HASH));
+    call(mityvurno_send_with_hash(LENT, a.slot, a.generation, buffer.value, 0, MITYVURNO_HASH | MITYVURNO_CLEANUP, hash));
+    updates();
+    call(mityvurno_revoke(LENT, a.slot, a.generation, way_back.value));
+    updates();
+}
+
 int main(void)
 {
     mityvurno_domain_reply a, b;
@@ -108,5 +125,6 @@ int main(void)
     b = opened(mityvurno_open_under(LENT, a.slot, a.generation, 0));
     example(a, b);
     more(a, b);
+    hand_over(a);
     return 0;
 }

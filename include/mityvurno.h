@@ -1,5 +1,6 @@
 /* The exported calls of Mityvurno, a region capability engine (target/staticlib/libengine.a, written by `rt staticlib engine`; x86-64).
- * Document 01 (docs/01-scope.md) says what each call does, and docs/TABLES.md what each word of the tables holds.
+ * Document 01 (docs/01-scope.md) says what each call does, docs/AMENDMENTS.md what has changed since, and docs/TABLES.md what each word
+ * of the tables holds.
  *
  * The host lends two runs of words for the time of a call: the tables, which keep everything between calls, and a work area of the same
  * length. Each call tests both and trusts neither: any contents and any lengths are answered. Tables that are not sound, or a length that
@@ -45,7 +46,7 @@ extern "C" {
 #define MITYVURNO_WORDS(domains, slots, regions, records, updates)                                              \
     ((size_t)7 + (2 + 2 * (size_t)(domains)) + (2 + 2 * (size_t)(regions)) + (2 + 2 * (size_t)(records)) +      \
      (size_t)(domains) * (5 + 3 * (size_t)(slots)) + 8 * (size_t)(regions) + 9 * (size_t)(records) +            \
-     4 * ((size_t)(updates) + 1))
+     4 * ((size_t)(updates) + 1) + 5 * (size_t)(regions))
 
 /* ---- rights: a word of 8 bits */
 
@@ -62,7 +63,7 @@ enum mityvurno_rights {
 
 /* ---- answers */
 
-/* Document 01's refusals, "Memory and who can be refused". */
+/* Document 01's refusals, "Memory and who can be refused", and 18 and 19 of document 02. */
 enum mityvurno_refusal {
     MITYVURNO_ACCEPTED = 0,
     /* the host that lends */
@@ -85,7 +86,10 @@ enum mityvurno_refusal {
     MITYVURNO_NO_DOMAIN_ROOM = 15, /* no domain free */
     MITYVURNO_SPENT = 16,          /* a generation of 2^64 - 1 would be raised */
     /* a script's author; no exported call gives it */
-    MITYVURNO_BAD_RECORD = 17
+    MITYVURNO_BAD_RECORD = 17,
+    /* the flag word of a send, of a region only */
+    MITYVURNO_BAD_FLAG = 18, /* a flag other than HASH, CLEANUP or VITAL */
+    MITYVURNO_NO_HASH = 19   /* HASH in the flag word, and no hash */
 };
 
 /* `refusal` is one of the numbers above. A refusal gives its number and nothing else: the other fields are 0 then. */
@@ -160,6 +164,15 @@ mityvurno_reply mityvurno_carve_region(MITYVURNO_LENT, uint64_t domain, uint64_t
 /* Moves what `local` holds to the domain that the Channel or Management capability in `target` names; value: the slot there.
  * Refusals: 3; of the target 4, 5, 3, 12; of the sent slot 4, 10, 6; 13, 14, 16. */
 mityvurno_reply mityvurno_send(MITYVURNO_LENT, uint64_t domain, uint64_t generation, uint64_t local, uint64_t target);
+
+/* The same with a flag word, without a hash and with one of 32 bytes, which are read only. Where `local` holds a region, the flags join its
+ * rights for good, and its stored hash becomes the one given, or none; flags 0 do that as well. Where it holds anything else, flags and
+ * hash are not looked at. mityvurno_send leaves rights and hash as they are. The hash may lie anywhere that is not written in the call.
+ * Refusals: 3; of the target 4, 5, 3, 12; of the sent slot 4, 10, 6, 18, and 19 where no hash is given; 13, 14, 16. */
+mityvurno_reply mityvurno_send_with_flags(MITYVURNO_LENT, uint64_t domain, uint64_t generation, uint64_t local, uint64_t target,
+                                          uint8_t flags);
+mityvurno_reply mityvurno_send_with_hash(MITYVURNO_LENT, uint64_t domain, uint64_t generation, uint64_t local, uint64_t target,
+                                         uint8_t flags, const uint8_t hash[32]);
 
 /* Revokes what `local` holds or names, a region with all below it. Refusals: 3, 4, 10, 6, 9; 13, 14, 16. */
 mityvurno_reply mityvurno_revoke(MITYVURNO_LENT, uint64_t domain, uint64_t generation, uint64_t local);
