@@ -6,7 +6,7 @@ use lib.Dec.{T, leb}
 use Rattle.base.specs.Tests.{is-true, true-is, both}
 use Rattle.model.specs.State as state
 use Rattle.model.specs.Making.{upTo, goodSizes}
-use Rattle.sizes.specs.Limits.{Limits, withinB, limitsB, limits-true, true-limits}
+use Rattle.sizes.specs.Limits.{mostDomains, mostSlots, mostRegions, mostRecords, mostUpdates, Limits, withinB, limitsB, limits-true, true-limits}
 use Rattle.decoded.specs.Tables.{sizesFor}
 
 pub and-both : (a b : Bool) → a && b ≡ both a b
@@ -26,8 +26,8 @@ up-to most n = and-both (leb 1 n) (leb n most)
 pub good-sizes : (z : state.Sizes) → goodSizes z ≡ limitsB (sizesFor z)
 unfolding limitsB
 good-sizes z =
-    five (upTo 32 (z .domains)) (upTo 128 (z .slots)) (upTo 1024 (z .regions)) (upTo 1024 (z .records)) (upTo 128 (z .updates))
-    ∙ rw (up-to 32 (z .domains), up-to 128 (z .slots), up-to 1024 (z .regions), up-to 1024 (z .records), up-to 128 (z .updates))
+    five (upTo mostDomains (z .domains)) (upTo mostSlots (z .slots)) (upTo mostRegions (z .regions)) (upTo mostRecords (z .records)) (upTo mostUpdates (z .updates))
+    ∙ rw (up-to mostDomains (z .domains), up-to mostSlots (z .slots), up-to mostRegions (z .regions), up-to mostRecords (z .records), up-to mostUpdates (z .updates))
 
 pub good-limits : (z : state.Sizes) → T (goodSizes z) → Limits (sizesFor z)
 good-limits z h = limits-true (sizesFor z) (sym (good-sizes z) ∙ is-true h)

@@ -38,6 +38,13 @@ stride z = headWidth + z .slots * slotWidth
 abbrev pub poolWidth : ℕ → ℕ
 poolWidth n = 2 + (n + n)
 
+-- the header's words behind the five sizes: the ring's two places
+abbrev pub readWord : ℕ
+readWord = 5
+
+abbrev pub writeWord : ℕ
+writeWord = 6
+
 -- how many sections there are
 abbrev pub sections : ℕ
 sections = 9

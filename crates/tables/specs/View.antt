@@ -15,7 +15,7 @@ use Rattle.tables.specs.declared.Update.{Update}
 use Rattle.tables.specs.declared.RegionHash.{RegionHash}
 use Rattle.tables.specs.Tables.{Tables, Domain, Arena}
 use Rattle.sizes.specs.Limits.{Limits}
-use Rattle.sizes.specs.Sizes.{sizesOf, headWidth, slotWidth, regionWidth, recordWidth, updateWidth, hashWidth, stride, headerSection, domainPoolSection, regionPoolSection, recordPoolSection, domainsSection, regionsSection, recordsSection, ringSection, hashSection, widths, total}
+use Rattle.sizes.specs.Sizes.{sizesOf, readWord, writeWord, headWidth, slotWidth, regionWidth, recordWidth, updateWidth, hashWidth, stride, headerSection, domainPoolSection, regionPoolSection, recordPoolSection, domainsSection, regionsSection, recordsSection, ringSection, hashSection, widths, total}
 
 -- ---- a record in its words
 
@@ -53,8 +53,8 @@ unfoldable pub ofParts : Sizes → List (List ℕ) → Tables
 ofParts z ps =
     record {
       sizes = z;
-      read = getD (getD ps headerSection []) 5 0;
-      write = getD (getD ps headerSection []) 6 0;
+      read = getD (getD ps headerSection []) readWord 0;
+      write = getD (getD ps headerSection []) writeWord 0;
       domainPool = arenaOf (z .domains) (getD ps domainPoolSection []);
       regionPool = arenaOf (z .regions) (getD ps regionPoolSection []);
       recordPool = arenaOf (z .records) (getD ps recordPoolSection []);
