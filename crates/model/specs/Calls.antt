@@ -1,4 +1,5 @@
 -- The calls (document 01, **Order of checks**; `CapaEngine`). Each `do` block has the checks in that order, the refusal's number beside each.
+-- Where room was found first (`roomForRegion`, `hasCapacity`), `newRegion` and `insertCapa` find it too, so that no 11 or 12 stands beside them.
 use Prim.Native.Nat.{ℕ}
 use mathlib.Core.Bool.{not, _||_}
 use mathlib.Core.Option.{Option, none, some}
@@ -124,7 +125,8 @@ aliasRegion h l a s = do
   s₃ ← activate d a s₂  -- 13, 14, 16
   ok (n, s₃)
 
--- **Carve**: "the domain loses the range with the parent's rights and gains it with the new ones; if equal, the tracker isn't touched".
+-- **Carve**: "the domain loses the range with the parent's rights and gains it with the new ones; if equal, the tracker isn't touched". The whole words
+-- are compared: 35 and 3 differ, though the tracker counts alike.
 unfoldable pub exchangeRights : ℕ → ℕ → Access → State → Outcome State
 exchangeRights d old a s = if eqb old (a .rights) then ok s else (do
   s₁ ← deactivate d (record { start = a .start; end = a .end; rights = old }) s
@@ -165,7 +167,8 @@ sendCapa (regionRevoke h) to o s = ok s
 sendCapa (management h) to o s = refuse notCarried  -- 10
 sendCapa (channel h) to o s = ok s
 
--- **Send**: "Moves the slot". The target's list is swept, if full, before the sent slot is looked at.
+-- **Send**: "Moves the slot". The target's list is swept, if full, before the sent slot is looked at; where it is
+-- the sender's own, the sweep may free that slot.
 unfoldable pub send : Handle → ℕ → ℕ → SendOptions → State → Outcome (ℕ × State)
 send h l target o s = do
   d ← liveDomain s h  -- 3
@@ -188,7 +191,7 @@ unfoldable pub revokeCapa : Capa → State → Outcome State
 revokeCapa noCapa s = ok s
 revokeCapa (region h) s = do
   i ← liveRegion s h  -- 6
-  revokeUnlessRoot i s  -- 9
+  revokeUnlessRoot i s  -- 9, then 13, 14, 16
 revokeCapa (regionRevoke h) s = if isLive (s .regionPool) (s .regions) h then revokeUnlessRoot (h .slot) s else ok s
 revokeCapa (management h) s = refuse notCarried  -- 10
 revokeCapa (channel h) s = ok s

@@ -41,7 +41,8 @@ abbrev pub freeLocals : List ℕ → LocalList → LocalList
 freeLocals [] l = l
 freeLocals (i ∷ is) l = freeLocals is (freeLocal i l)
 
--- **Sweep** (`free_invalid_capas`): "slots holding None or a dead handle are freed in rising order".
+-- **Sweep** (`free_invalid_capas`): "slots holding None or a dead handle are freed in rising order", so that the highest of them is
+-- given first.
 unfoldable pub freeInvalidCapas : State → LocalList → LocalList
 freeInvalidCapas s l = freeLocals (invalidSlots s 0 (l .held)) l
 
@@ -58,7 +59,7 @@ hasCapacity d s = do
 unfoldable pub capaAt : State → ℕ → ℕ → Outcome Capa
 capaAt s d l = okOr (atSlot (domainAt s d .locals .held) l) noSlot
 
--- The domain's list is "read out, changed and put back as one record".
+-- A capability gets a slot of the domain's list, which is "read out, changed and put back as one record"; 12 where none is free.
 unfoldable pub insertCapa : ℕ → Capa → State → Outcome (ℕ × State)
 insertCapa d c s = do
   (i, l) ← insertLocal c (domainAt s d .locals)

@@ -58,7 +58,7 @@ pub data Answer : Type 0 where
   yes : Value → Answer
   no : Refusal → Answer
 
--- What an exported call returns (Replies.antt of crate frame): document 01's number of an answer, the refusal's and 0 for an accepted call,
+-- What an exported call returns (Replies.antt of crate frame) has document 01's number of the answer: the refusal's, or 0 for an accepted call;
 abbrev pub code : Answer → ℕ
 code (Answer.yes r) = 0
 code (Answer.no r) = Refusals.number r

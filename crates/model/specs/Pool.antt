@@ -30,7 +30,7 @@ free i p = do
 abbrev pub handleOf : Pool → ℕ → Handle
 handleOf p i = record { slot = i; generation = getD (p .gens) i 0 }
 
--- A handle is live when its slot is in use and the generation is the slot's (the negation of 3 and of 6).
+-- A handle is live when its slot is in use and the generation is the slot's (else a call is refused with 3 for a domain, 6 for a region).
 abbrev pub isLive {ℓ} : {A : Type ℓ} → Pool → List (Option A) → Handle → Bool
 isLive p l h = isSome (atSlot l (h .slot)) && eqb (getD (p .gens) (h .slot) 0) (h .generation)
 

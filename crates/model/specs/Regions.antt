@@ -53,7 +53,8 @@ unfoldable pub sendRegion : ℕ → ℕ → State → Outcome State
 sendRegion i new s = let g = regionAt s i in sendRanges (g .owner) new (g .rights) (effectiveRanges s g) (putRegion i (withOwner new g) s)
 
 -- Request 1: "With a flag word given for a region, the flags join the region's rights .. and the hash is stored, or cleared when absent. Without one the
--- stored hash stays." The tracker counts none of the flags that may join.
+-- stored hash stays." The tracker counts none of the flags that may join. HASH among the rights and a stored
+-- hash are two things: neither asks for the other.
 unfoldable pub applyOptions : ℕ → SendOptions → State → State
 applyOptions i o s = elim (o .flags) [ none ↦ s | some f ↦ let g = regionAt s i in putRegion i (withRightsHash (union (g .rights) f) (o .hash) g) s ]
 
@@ -78,8 +79,9 @@ revokeLeaf i s = do
   s₃ ← freeRegion i s₂
   if has (g .rights) CLEANUP then push (cleanup (g .start) (g .end)) s₃ else ok s₃
 
--- **Revoke**: "Children go first, head child by head child, to any depth." n bounds the depth of the recursion: as many as there are live regions at and
--- below i suffice. Calls give the number of all live ones, so that the first equation is never reached (`revoke-all`, crate laws).
+-- **Revoke**: "Children go first, head child by head child, to any depth." n is spent one by one, a child and what is left
+-- of its siblings each get one less: as many as there are live regions at and below i suffice. Calls give the number of all live ones, so that the first
+-- equation is never reached (`revoke-all`, crate laws).
 unfoldable pub revokeRegion : ℕ → ℕ → State → Outcome State
 revokeRegion zero i s = ok s
 revokeRegion (suc n) i s = elim (regionAt s i .children) [

@@ -117,7 +117,7 @@ pub record ManagerSound (domainPool : Pool) (domains : List (Option Domain)) (d 
   pub oneManagement : (e : ℕ) (y : Domain) → In domains e y → countIf (isManagementOf (handleOf domainPool d)) (y .locals .held) ≡ oneIf (names (x .manager) e)
   pub managed : Managed domains d
 
--- "live or older than its slot's generation"
+-- "live or older than its slot's generation". Past the pool's end the generation reads as 0, and nothing is older.
 abbrev pub LiveOrOlder : {A : Type 0} → Pool → List (Option A) → Handle → Type 0
 LiveOrOlder p l h = T (isLive p l h || ltb (h .generation) (getD (p .gens) (h .slot) 0))
 

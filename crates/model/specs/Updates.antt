@@ -22,7 +22,7 @@ abbrev pub isPermissionOf : Handle → Update → Bool
 isPermissionOf h (permission k c) = sameHandle h k
 isPermissionOf h (cleanup a b) = false
 
--- "A change queues the domain with its core map unless it is queued already."
+-- "A change queues the domain with its core map unless it is queued already." It is the core map of that moment: a later one does not reach the queue.
 unfoldable pub pushPermission : ℕ → State → Outcome State
 pushPermission d s = let h = handleOf (s .domainPool) d in if exists (isPermissionOf h) (s .queue .items) then ok s else push (permission h (domainAt s d .cores)) s
 
