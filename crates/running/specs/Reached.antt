@@ -5,7 +5,7 @@ use mathlib.Core.Option.{Option, none, some}
 use mathlib.Core.List.{List}
 use lib.Dec.{T}
 use lib.ListN.{length}
-use Rattle.model.specs.State.{Sizes}
+use Rattle.model.specs.State.{Sizes, noOptions}
 use Rattle.model.specs.Making.{goodSizes}
 use Rattle.model.specs.Layout.{lengthFor}
 use Rattle.model.specs.Perform.{Step, Call, Answer}
