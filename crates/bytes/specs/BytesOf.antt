@@ -2,9 +2,9 @@
 use mathlib.Core.Path.{_≡_, refl, ap, subst, _∙_}
 use Prim.Native.Nat.{ℕ, zero, suc, _+_, _*_, _/_, _%_, _<_, _^_}
 use native.Mathlib.Nat.{mod-lt, mod-add-div, div-lt-iff-lt-mul, zero-lt-suc, pow-suc}
-use mathlib.Core.List.{List, [], _∷_}
+use mathlib.Core.List.{List, [], _∷_, _++_}
 use native.Mathlib.Omega.{arith}
-use Rattle.bytes.specs.Numbers.{number}
+use Rattle.bytes.specs.Numbers.{number, Bytes}
 
 -- n bytes of x
 abbrev pub bytesOf : ℕ → ℕ → List ℕ
@@ -17,5 +17,8 @@ number-bytes (suc n) x h =
     ap (λ k. x % 256 + 256 * k) (number-bytes n (x / 256) (div-lt-iff-lt-mul (zero-lt-suc 255) .1 (subst (λ k. x < k) (pow-suc 256 n) h)))
     ∙ mod-add-div x 256
 
-pub byte-of : (x : ℕ) → x % 256 < 256
-byte-of x = mod-lt x {m = 256} (omega arith)
+-- they are bytes, in front of others
+pub bytes-then : (n x : ℕ) (l : List ℕ) → Bytes l → Bytes (bytesOf n x ++ l)
+bytes-then zero x l h i = h i
+bytes-then (suc n) x l h zero = mod-lt x {m = 256} (omega arith)
+bytes-then (suc n) x l h (suc i) = bytes-then n (x / 256) l h i

@@ -2,7 +2,7 @@
 ghost use mathlib.Core.Path.{_≡_};
 ghost use Prim.Native.Nat.{_+_, _*_, _<_, _^_};
 ghost use lib.ListN.{getD, take, drop};
-ghost use Rattle.bytes.specs.Numbers.{number};
+ghost use Rattle.bytes.specs.Numbers.{number, Bytes};
 
 fn wide(x: u8) -> u64
     ensures { λ r. ⌜ r ≡ x ⌝ }
@@ -37,4 +37,11 @@ pub fn eight(b: &[u8], i: usize) -> u64
     ensures { λ r. ⌜ r ≡ number (take 8 (drop i (now (b .entry)))) ⌝ }
 {
     four(b, i) + 4294967296 * four(b, i + 4)
+}
+
+// Does nothing: for a proof that needs to know of lent bytes that they are bytes.
+pub fn known(b: &[u8])
+    ensures { λ _. ⌜ Bytes (now (b .entry)) ⌝ }
+{
+    byte(b, 0);
 }

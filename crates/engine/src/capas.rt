@@ -1,10 +1,10 @@
 // Capabilities sent and revoked.
 ghost use Rattle.model.specs.State.{noOptions};
 ghost use Rattle.model.specs.Perform.{Call, Step};
-ghost use Rattle.frame.specs.Replies.{handle, withFlags, replyOf, Returns};
+ghost use Rattle.frame.specs.Replies.{handle, hashIn, withFlags, withHash, replyOf, Returns};
 use frame::Reply;
 
-// Without a flag word. The value is the slot in the list of the domain that the target names.
+// Without a flag word and a hash. The value is the slot in the list of the domain that the target names.
 #[no_mangle]
 pub extern "C" fn mityvurno_send(
     t: &mut [u64],
@@ -19,7 +19,7 @@ pub extern "C" fn mityvurno_send(
     lent_capas::send(t, w, domain, generation, local, target)
 }
 
-// With a flag word: the flags join the rights of a region that is sent.
+// With a flag word and no hash: the flags join the rights of a region that is sent, and its stored hash is cleared.
 #[no_mangle]
 pub extern "C" fn mityvurno_send_with_flags(
     t: &mut [u64],
@@ -33,6 +33,23 @@ pub extern "C" fn mityvurno_send_with_flags(
     ensures { λ r. ⌜ Returns replyOf (now (t .entry)) (now (w .entry)) (Call.Do (Step.Send (handle domain generation) local target (withFlags flags))) r (now (t .exit)) (now (w .exit)) ⌝ }
 {
     lent_capas::send_with_flags(t, w, domain, generation, local, target, flags)
+}
+
+// With a flag word and a hash, which is stored of a region that is sent.
+#[no_mangle]
+pub extern "C" fn mityvurno_send_with_hash(
+    t: &mut [u64],
+    w: &mut [u64],
+    domain: u64,
+    generation: u64,
+    local: u64,
+    target: u64,
+    flags: u8,
+    hash: &[u8; 32],
+) -> Reply
+    ensures { λ r. ⌜ Returns replyOf (now (t .entry)) (now (w .entry)) (Call.Do (Step.Send (handle domain generation) local target (withHash flags (hashIn (now (hash .entry)))))) r (now (t .exit)) (now (w .exit)) ⌝ }
+{
+    lent_capas::send_with_hash(t, w, domain, generation, local, target, flags, hash)
 }
 
 #[no_mangle]
