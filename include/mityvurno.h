@@ -10,7 +10,7 @@
  *
  * What a C caller must see to, since C cannot say it of a pointer and a length:
  *   - each pointer is that of so many words as its length says, aligned as its type is;
- *   - tables, work area and run do not overlap, and nobody else writes them during the call;
+ *   - tables, work area, run and hash do not overlap, and nobody else writes them during the call;
  *   - nothing but these functions writes the tables between calls, either. Damage is refused with MITYVURNO_MEMORY, but whoever writes
  *     the words of other sound tables there has made other tables: the test cannot tell a consistent forgery.
  * Where a length is 0, nothing is read or written through its pointer; NULL was tested there.
@@ -128,7 +128,8 @@ typedef struct {
  * opening it answered; `local` is a slot of that domain's capability list.
  *
  * Behind each call stand the refusals that it can give besides MITYVURNO_MEMORY, in the order in which they are tested; no other is
- * possible (theorem `call-refusals`). 13, 14 and 16 come after the others, whichever is met first. */
+ * possible (theorem `call-refusals`, with one list for all sends; 18 and 19 are asked of a flag word alone, `checkOptions` of the model). 13,
+ * 14 and 16 come after the others, whichever is met first. */
 
 #define MITYVURNO_LENT uint64_t *MITYVURNO_APART t, size_t t_words, uint64_t *MITYVURNO_APART w, size_t w_words
 /* A reading does not change the tables. */
@@ -161,8 +162,8 @@ mityvurno_reply mityvurno_alias_region(MITYVURNO_LENT, uint64_t domain, uint64_t
 mityvurno_reply mityvurno_carve_region(MITYVURNO_LENT, uint64_t domain, uint64_t generation, uint64_t local, uint64_t start, uint64_t end,
                                        uint8_t rights);
 
-/* Moves what `local` holds to the domain that the Channel or Management capability in `target` names; value: the slot there.
- * Refusals: 3; of the target 4, 5, 3, 12; of the sent slot 4, 10, 6; 13, 14, 16. */
+/* Moves what `local` holds to the domain that the Channel or Management capability in `target` names; value: the slot there. A region's
+ * rights and its stored hash stay. Refusals: 3; of the target 4, 5, 3, 12; of the sent slot 4, 10, 6; 13, 14, 16. */
 mityvurno_reply mityvurno_send(MITYVURNO_LENT, uint64_t domain, uint64_t generation, uint64_t local, uint64_t target);
 
 /* The same with a flag word, without a hash and with one of 32 bytes, which are read only. Where `local` holds a region, the flags join its
