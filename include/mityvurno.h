@@ -168,7 +168,7 @@ mityvurno_reply mityvurno_send(MITYVURNO_LENT, uint64_t domain, uint64_t generat
 
 /* The same with a flag word, without a hash and with one of 32 bytes, which are read only. Where `local` holds a region, the flags join its
  * rights for good, and its stored hash becomes the one given, or none; flags 0 do that as well. Where it holds anything else, flags and
- * hash are not looked at. mityvurno_send leaves rights and hash as they are. The hash may lie anywhere that is not written in the call.
+ * hash are not looked at. The hash may lie anywhere that is not written in the call.
  * Refusals: 3; of the target 4, 5, 3, 12; of the sent slot 4, 10, 6, 18, and 19 where no hash is given; 13, 14, 16. */
 mityvurno_reply mityvurno_send_with_flags(MITYVURNO_LENT, uint64_t domain, uint64_t generation, uint64_t local, uint64_t target,
                                           uint8_t flags);
