@@ -98,6 +98,26 @@ static void more(mityvurno_domain_reply a, mityvurno_domain_reply b)
     updates();
 }
 
+/* A's frame buffer, an alias of its root, goes to B with a hash and is wiped on return: B's revoke queues the range to be cleaned up. A
+ * flag word may not add READ, and HASH in it asks for a hash. */
+static void frame_buffer(mityvurno_domain_reply a, mityvurno_domain_reply b)
+{
+    static const uint8_t hash[32] = {1, 2, 3};
+    const uint8_t flags = MITYVURNO_HASH | MITYVURNO_CLEANUP;
+    mityvurno_reply buffer = mityvurno_alias_region(LENT, a.slot, a.generation, 1, 8, 12, MITYVURNO_READ | MITYVURNO_WRITE);
+    mityvurno_reply sent;
+
+    call(buffer);
+    call(mityvurno_send_with_flags(LENT, a.slot, a.generation, buffer.value, 0, MITYVURNO_READ));
+    call(mityvurno_send_with_flags(LENT, a.slot, a.generation, buffer.value, 0, flags));
+    sent = mityvurno_send_with_hash(LENT, a.slot, a.generation, buffer.value, 0, flags, hash);
+    call(sent);
+    list(b);
+    call(mityvurno_revoke(LENT, b.slot, b.generation, sent.value));
+    list(b);
+    updates();
+}
+
 int main(void)
 {
     mityvurno_domain_reply a, b;
@@ -108,5 +128,6 @@ int main(void)
     b = opened(mityvurno_open_under(LENT, a.slot, a.generation, 0));
     example(a, b);
     more(a, b);
+    frame_buffer(a, b);
     return 0;
 }

@@ -9,7 +9,7 @@
  *
  * What a C caller must see to, since C cannot say it of a pointer and a length:
  *   - each pointer is that of so many words as its length says, aligned as its type is;
- *   - tables, work area and run do not overlap, and nobody else writes them during the call;
+ *   - tables, work area, run and hash do not overlap, and nobody else writes them during the call;
  *   - nothing but these functions writes the tables between calls, either. Damage is refused with MITYVURNO_MEMORY, but whoever writes
  *     the words of other sound tables there has made other tables: the test cannot tell a consistent forgery.
  * Where a length is 0, nothing is read or written through its pointer; NULL was tested there.
@@ -45,7 +45,7 @@ extern "C" {
 #define MITYVURNO_WORDS(domains, slots, regions, records, updates)                                              \
     ((size_t)7 + (2 + 2 * (size_t)(domains)) + (2 + 2 * (size_t)(regions)) + (2 + 2 * (size_t)(records)) +      \
      (size_t)(domains) * (5 + 3 * (size_t)(slots)) + 8 * (size_t)(regions) + 9 * (size_t)(records) +            \
-     4 * ((size_t)(updates) + 1))
+     4 * ((size_t)(updates) + 1) + 5 * (size_t)(regions))
 
 /* ---- rights: a word of 8 bits */
 
@@ -62,7 +62,7 @@ enum mityvurno_rights {
 
 /* ---- answers */
 
-/* Document 01's refusals, "Memory and who can be refused". */
+/* Document 01's refusals, "Memory and who can be refused", and those of document 02 (docs/02-change-requests.md). */
 enum mityvurno_refusal {
     MITYVURNO_ACCEPTED = 0,
     /* the host that lends */
@@ -85,7 +85,10 @@ enum mityvurno_refusal {
     MITYVURNO_NO_DOMAIN_ROOM = 15, /* no domain free */
     MITYVURNO_SPENT = 16,          /* a generation of 2^64 - 1 would be raised */
     /* a script's author; no exported call gives it */
-    MITYVURNO_BAD_RECORD = 17
+    MITYVURNO_BAD_RECORD = 17,
+    /* a domain's program, again: a send with a flag word */
+    MITYVURNO_BAD_FLAG = 18, /* a flag other than HASH, CLEANUP or VITAL */
+    MITYVURNO_NO_HASH = 19   /* HASH in the flag word without a hash */
 };
 
 /* `refusal` is one of the numbers above. A refusal gives its number and nothing else: the other fields are 0 then. */
@@ -124,7 +127,8 @@ typedef struct {
  * opening it answered; `local` is a slot of that domain's capability list.
  *
  * Behind each call stand the refusals that it can give besides MITYVURNO_MEMORY, in the order in which they are tested; no other is
- * possible (theorem `call-refusals`). 13, 14 and 16 come after the others, whichever is met first. */
+ * possible (theorem `call-refusals`, with one list for all sends; 18 and 19 are asked of a flag word alone, `checkOptions` of the model). 13,
+ * 14 and 16 come after the others, whichever is met first. */
 
 #define MITYVURNO_LENT uint64_t *MITYVURNO_APART t, size_t t_words, uint64_t *MITYVURNO_APART w, size_t w_words
 /* A reading does not change the tables. */
@@ -157,9 +161,19 @@ mityvurno_reply mityvurno_alias_region(MITYVURNO_LENT, uint64_t domain, uint64_t
 mityvurno_reply mityvurno_carve_region(MITYVURNO_LENT, uint64_t domain, uint64_t generation, uint64_t local, uint64_t start, uint64_t end,
                                        uint8_t rights);
 
-/* Moves what `local` holds to the domain that the Channel or Management capability in `target` names; value: the slot there.
- * Refusals: 3; of the target 4, 5, 3, 12; of the sent slot 4, 10, 6; 13, 14, 16. */
+/* Moves what `local` holds to the domain that the Channel or Management capability in `target` names; value: the slot there. A region's
+ * rights and its stored hash stay. Refusals: 3; of the target 4, 5, 3, 12; of the sent slot 4, 10, 6; 13, 14, 16. */
 mityvurno_reply mityvurno_send(MITYVURNO_LENT, uint64_t domain, uint64_t generation, uint64_t local, uint64_t target);
+
+/* The same with a flag word (document 02, request 1): `flags`, any of HASH, CLEANUP and VITAL or none, join the rights of a region that is
+ * sent, for all that comes later: with CLEANUP its ranges are queued to be cleaned up when it is revoked. The second function stores `hash`
+ * with the region, whatever the flags are; the first clears a stored hash, and so HASH needs the second. `hash` is read during the call
+ * alone; the words behind the ring hold it, lowest byte first (docs/TABLES.md). Where `local` holds no region, flags and hash are ignored,
+ * and not even tested. Refusals: 3; of the target 4, 5, 3, 12; of the sent slot 4, 10, 6, 18, 19; 13, 14, 16. */
+mityvurno_reply mityvurno_send_with_flags(MITYVURNO_LENT, uint64_t domain, uint64_t generation, uint64_t local, uint64_t target,
+                                          uint8_t flags);
+mityvurno_reply mityvurno_send_with_hash(MITYVURNO_LENT, uint64_t domain, uint64_t generation, uint64_t local, uint64_t target,
+                                         uint8_t flags, const uint8_t hash[32]);
 
 /* Revokes what `local` holds or names, a region with all below it. Refusals: 3, 4, 10, 6, 9; 13, 14, 16. */
 mityvurno_reply mityvurno_revoke(MITYVURNO_LENT, uint64_t domain, uint64_t generation, uint64_t local);

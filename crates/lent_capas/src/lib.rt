@@ -89,7 +89,8 @@ pub fn send_with_hash(
         slot: domain,
         generation,
     };
-    let options = SendOptions::Hashed(Rights(flags), hash_of(hash));
+    let hash = hash_of(hash);
+    let options = SendOptions::Hashed(Rights(flags), hash);
     frame::run(
         t,
         w,

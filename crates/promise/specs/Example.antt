@@ -9,9 +9,9 @@ use Rattle.model.specs.Checked.Script.{dom}
 use Rattle.frame.specs.declared.replies.Reply.{Reply}
 use Rattle.frame.specs.declared.replies.DomainReply.{DomainReply}
 use Rattle.frame.specs.Replies.{sizes}
-use Rattle.book.specs.Book.{Book, regionOf, managementOf, blank}
+use Rattle.book.specs.Book.{Book, Noted, regionOf, managementOf, blank}
 use Rattle.book.specs.Example.{noting, reg, slots}
-use Rattle.promise.specs.Calls.{Called, make-tables, open-domain, open-under, create-root-region, alias-region, carve-region, send}
+use Rattle.promise.specs.Calls.{Called, make-tables, open-domain, open-under, create-root-region, alias-region, carve-region, send, send-with-flags, send-with-hash}
 use Rattle.promise.specs.Returned.{noteAllReturned}
 use Rattle.promise.specs.Given.{gives}
 
@@ -61,6 +61,21 @@ after-example : bookAfter (blank (sizes 1 1 1 1 1)) example
     }
 unfolding noting
 after-example = refl
+
+-- Sent with CLEANUP, with a hash or without, the carve has rights 33 (document 02, request 1).
+abbrev regionsAfter : Called → List Noted
+regionsAfter x = bookAfter (blank (sizes 1 1 1 1 1)) (began ++ (x ∷ [])) .regions
+
+abbrev withCleanup : List Noted
+withCleanup = reg Root 0 0 16 3 true ∷ reg (Carve 0) 1 4 8 33 true ∷ reg (Alias 0) 0 0 4 3 true ∷ []
+
+after-flags : regionsAfter (send-with-flags 0 0 2 0 32 (ok 0)) ≡ withCleanup
+unfolding noting
+after-flags = refl
+
+after-hash : regionsAfter (send-with-hash 0 0 2 0 32 (record { word0 = 7; word1 = 0; word2 = 0; word3 = 0 }) (ok 0)) ≡ withCleanup
+unfolding noting
+after-hash = refl
 
 -- The root gave domain 0 address 5, and the send gave it domain 1; nobody gave it domain 2, nor 20 any of them.
 abbrev given : ℕ → ℕ → Bool × Bool
