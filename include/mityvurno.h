@@ -128,7 +128,7 @@ typedef struct {
  * opening it answered; `local` is a slot of that domain's capability list.
  *
  * Behind each call stand the refusals that it can give besides MITYVURNO_MEMORY, in the order in which they are tested; no other is
- * possible (theorem `call-refusals`, with one list for all sends; 18 and 19 are asked of a flag word alone, `checkOptions` of the model). 13,
+ * possible (theorem `call-refusals`, with one list for all sends; 18 and 19 are of a flag word alone, by the model's `checkOptions`). 13,
  * 14 and 16 come after the others, whichever is met first. */
 
 #define MITYVURNO_LENT uint64_t *MITYVURNO_APART t, size_t t_words, uint64_t *MITYVURNO_APART w, size_t w_words
