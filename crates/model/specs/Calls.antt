@@ -1,16 +1,16 @@
 -- The calls (document 01, **Order of checks**; `CapaEngine`). Each `do` block has the checks in that order, the refusal's number beside each.
 -- Where room was found first (`roomForRegion`, `hasCapacity`), `newRegion` and `insertCapa` find it too, so that no 11 or 12 stands beside them.
 use Prim.Native.Nat.{ℕ}
-use mathlib.Core.Bool.{not, _||_}
+use mathlib.Core.Bool.{true, false, not, _||_}
 use mathlib.Core.Option.{Option, none, some}
 use mathlib.Core.List.{[]}
 use lib.Dec.{eqb, ltb}
 use lib.ListN.{set}
 use Rattle.model.specs.Lists.{if_then_else_, isSome, isEmpty}
 use Rattle.model.specs.Outcome.{Outcome, ok, refuse, _>>=_, _>>_, require}
-use Rattle.refusals.specs.Refusals.{noDomain, wrongKind, stale, badRange, beyond, isRoot, notCarried, noRegion, noDomainRoom, badFlag, noHash}
+use Rattle.refusals.specs.Refusals.{noDomain, wrongKind, stale, badRange, beyond, isRoot, notCarried, noRegion, noDomainRoom, badFlag, noHash, notAllowed, isFrozen}
 use Rattle.rights.specs.Rights.{has, allowed, HASH}
-use Rattle.model.specs.State.{Handle, Capa, noCapa, region, regionRevoke, management, channel, Access, SendOptions, Kind, Root, Alias, Carve, State, withDomains, withCores, domainAt, regionAt, putDomain}
+use Rattle.model.specs.State.{Handle, Capa, noCapa, region, regionRevoke, management, channel, Access, SendOptions, Kind, Root, Alias, Carve, SEND, ALIAS, CARVE, openInterface, State, withDomains, withCores, withInterface, domainAt, regionAt, putDomain}
 use Rattle.model.specs.Pool.{allocate, handleOf, isLive}
 use Rattle.model.specs.Locals.{freshLocals, hasCapacity, capaAt, insertCapa, removeCapa, emptyCapa}
 use Rattle.model.specs.Tree.{isRootKind, checkAlias, checkCarve, insertChild}
@@ -24,6 +24,13 @@ unfoldable pub liveDomain : State → Handle → Outcome ℕ
 liveDomain s h = do
   require (isLive (s .domainPool) (s .domains) h) noDomain  -- 3
   ok (h .slot)
+
+-- Request 2: "20 for a missing bit, right after the caller's 3". The answer is the caller's slot. No other domain's word is read.
+unfoldable pub callerWith : ℕ → State → Handle → Outcome ℕ
+callerWith bit s h = do
+  d ← liveDomain s h  -- 3
+  require (has (domainAt s d .interface .word) bit) notAllowed  -- 20
+  ok d
 
 -- 6: "region dead". The answer is the region's slot.
 unfoldable pub liveRegion : State → Handle → Outcome ℕ
@@ -64,11 +71,11 @@ roomForRegion d a s = do
 
 -- ---- domains and channels ("Added by us")
 
--- A domain with an empty list and an empty tracker in a slot of its own; 15.
+-- A domain with an empty list and an empty tracker in a slot of its own, whatever its manager's interface; 15.
 unfoldable pub newDomain : Option ℕ → ℕ → State → Outcome (ℕ × State)
 newDomain m cores s = do
   (i, p) ← allocate noDomainRoom (s .domainPool)  -- 15
-  ok (i, withDomains p (set (s .domains) i (some (record { manager = m; cores = cores; locals = freshLocals (s .sizes .slots); tracker = [] }))) s)
+  ok (i, withDomains p (set (s .domains) i (some (record { manager = m; cores = cores; locals = freshLocals (s .sizes .slots); tracker = []; interface = openInterface }))) s)
 
 -- "open a domain (manager or none, 64-bit core map; a manager gets a Management capability; nothing is queued)". The answer is the new domain's handle.
 unfoldable pub openDomain : Option Handle → ℕ → State → Outcome (Handle × State)
@@ -96,6 +103,19 @@ setCoreMap h cores s = do
   d ← liveDomain s h  -- 3
   ok (putDomain d (withCores cores (domainAt s d)) s)
 
+-- Request 2: the word "set by the platform to any value"; "21 for setting a frozen word, right after 3" (`set_domain_permission`)
+unfoldable pub setInterface : Handle → ℕ → State → Outcome State
+setInterface h word s = do
+  d ← liveDomain s h  -- 3
+  require (not (domainAt s d .interface .frozen)) isFrozen  -- 21
+  ok (putDomain d (withInterface (record { word = word; frozen = false }) (domainAt s d)) s)
+
+-- "a freeze that can't be lifted. Freezing twice is accepted" (`freeze_permissions`)
+unfoldable pub freezeInterface : Handle → State → Outcome State
+freezeInterface h s = do
+  d ← liveDomain s h  -- 3
+  ok (putDomain d (withInterface (record { word = domainAt s d .interface .word; frozen = true }) (domainAt s d)) s)
+
 -- ---- regions
 
 -- A root (`create_root_region`): no parent, any range and rights.
@@ -117,7 +137,7 @@ addChild d p k a s = do
 -- **Alias** (`alias_region`): "The new region has the parent's domain, which gains the range." The parent's domain is the caller's.
 unfoldable pub aliasRegion : Handle → ℕ → Access → State → Outcome (ℕ × State)
 aliasRegion h l a s = do
-  d ← liveDomain s h  -- 3
+  d ← callerWith ALIAS s h  -- 3, 20
   p ← regionHeld s d l  -- 4, 5, 6
   s₁ ← roomForRegion d a s  -- 11, 12, 7
   require (checkAlias s₁ (regionAt s₁ p) a) beyond  -- 8
@@ -135,7 +155,7 @@ exchangeRights d old a s = if eqb old (a .rights) then ok s else (do
 -- **Carve** (`carve_region`).
 unfoldable pub carveRegion : Handle → ℕ → Access → State → Outcome (ℕ × State)
 carveRegion h l a s = do
-  d ← liveDomain s h  -- 3
+  d ← callerWith CARVE s h  -- 3, 20
   p ← regionHeld s d l  -- 4, 5, 6
   s₁ ← roomForRegion d a s  -- 11, 12, 7
   require (checkCarve s₁ (regionAt s₁ p) a) beyond  -- 8
@@ -171,7 +191,7 @@ sendCapa (channel h) to o s = ok s
 -- the sender's own, the sweep may free that slot.
 unfoldable pub send : Handle → ℕ → ℕ → SendOptions → State → Outcome (ℕ × State)
 send h l target o s = do
-  d ← liveDomain s h  -- 3
+  d ← callerWith SEND s h  -- 3, 20
   t ← capaAt s d target  -- 4
   k ← asTarget t  -- 5
   to ← liveDomain s k  -- 3

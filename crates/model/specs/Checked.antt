@@ -6,4 +6,5 @@ pub mod OurCases
 pub mod SendFlags
 pub mod SendHash
 pub mod HashAlone
+pub mod Interface
 pub mod Example

@@ -6,7 +6,7 @@ use mathlib.Core.Option.{Option, none, some, Option·getD}
 use mathlib.Core.List.{List, [], _∷_, _++_, map, flatMap}
 use lib.Dec.{eqb}
 use lib.ListN.{length, replicate, getElem?}
-use Rattle.model.specs.Lists.{if_then_else_, exists, atSlot, countUp, firstOf, afterIn}
+use Rattle.model.specs.Lists.{if_then_else_, oneIf, exists, atSlot, countUp, firstOf, afterIn}
 use Rattle.model.specs.State.{Sizes, Pool, Capa, noCapa, region, regionRevoke, management, channel, LocalList, Record, Domain, Kind, Root, Alias, Carve, parentOf, Region, regionIn, Update, permission, cleanup, Queue, State}
 
 -- A link is a slot number + 1, or 0 for none.
@@ -119,9 +119,16 @@ abbrev pub hashWords : Option Region → List ℕ
 hashWords none = replicate 5 0
 hashWords (some g) = elim (g .hash) [ none ↦ replicate 5 0 | some x ↦ 1 ∷ x .word0 ∷ x .word1 ∷ x .word2 ∷ x .word3 ∷ [] ]
 
+-- ---- 10. interfaces, 2 words for each of the D domains (document 02, request 2)
+
+-- the word, and 1 where it is frozen, else 0; two zeros where the slot is free
+abbrev pub interfaceWords : Option Domain → List ℕ
+interfaceWords none = replicate 2 0
+interfaceWords (some x) = x .interface .word ∷ oneIf (x .interface .frozen) ∷ []
+
 -- ---- the whole
 
--- The nine sections.
+-- The ten sections.
 unfoldable pub words : State → List ℕ
 words s =
     headerWords s
@@ -133,9 +140,10 @@ words s =
     ++ flatMap (recordSlotWords (s .domains)) (countUp 0 (s .sizes .records))
     ++ flatMap (placeWords (s .sizes .updates) (s .queue)) (countUp 0 (s .sizes .updates + 1))
     ++ flatMap (λ i. hashWords (atSlot (s .regions) i)) (countUp 0 (s .sizes .regions))
+    ++ flatMap (λ i. interfaceWords (atSlot (s .domains) i)) (countUp 0 (s .sizes .domains))
 
 -- How many words they are (`words-length`, crate laws): what the tables' length must be, and the work area's.
 abbrev pub lengthFor : Sizes → ℕ
 lengthFor z =
     7 + (2 + 2 * z .domains) + (2 + 2 * z .regions) + (2 + 2 * z .records)
-    + z .domains * (5 + 3 * z .slots) + 8 * z .regions + 9 * z .records + 4 * (z .updates + 1) + 5 * z .regions
+    + z .domains * (5 + 3 * z .slots) + 8 * z .regions + 9 * z .records + 4 * (z .updates + 1) + 5 * z .regions + 2 * z .domains

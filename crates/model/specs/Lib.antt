@@ -40,4 +40,5 @@ pub mod Perform
 pub mod CallWords
 pub mod Sound
 pub mod Memory
+pub mod Converting
 pub mod Checked

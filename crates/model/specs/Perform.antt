@@ -9,7 +9,7 @@ use Rattle.refusals.specs.Refusals
 use Rattle.model.specs.State.{State, Sizes, Handle, Access, SendOptions, Update}
 use Rattle.model.specs.Updates.{pop}
 use Rattle.model.specs.Making.{makeIn}
-use Rattle.model.specs.Calls.{openDomain, openChannel, setCoreMap, createRootRegion, aliasRegion, carveRegion, send, revoke, createRevokeCapa}
+use Rattle.model.specs.Calls.{openDomain, openChannel, setCoreMap, setInterface, freezeInterface, createRootRegion, aliasRegion, carveRegion, send, revoke, createRevokeCapa}
 use Rattle.model.specs.Readings.{permissions, getRefcount, holders, coreMap}
 use Rattle.model.specs.Layout.{updateWords, lengthFor}
 
@@ -22,6 +22,8 @@ pub data Step : Type 0 where
   Open : Option Handle → ℕ → Step
   Channel : Handle → Handle → Step
   SetCoreMap : Handle → ℕ → Step
+  SetInterface : Handle → ℕ → Step
+  FreezeInterface : Handle → Step
   Root : Handle → Access → Step
   Alias : Handle → ℕ → Access → Step
   Carve : Handle → ℕ → Access → Step
@@ -88,6 +90,8 @@ unfoldable pub performStep : State → Step → Outcome (Value × State)
 performStep s (Open m cores) = answer domain (openDomain m cores s)
 performStep s (Channel h to) = answer local (openChannel h to s)
 performStep s (SetCoreMap h cores) = silent (setCoreMap h cores s)
+performStep s (SetInterface h word) = silent (setInterface h word s)
+performStep s (FreezeInterface h) = silent (freezeInterface h s)
 performStep s (Root h a) = answer local (createRootRegion h a s)
 performStep s (Alias h l a) = answer local (aliasRegion h l a s)
 performStep s (Carve h l a) = answer local (carveRegion h l a s)

@@ -216,6 +216,7 @@ pub record OutsideSound (s : State) : Type 0 where
   pub managers : (d : ℕ) (x : Domain) → In (s .domains) d x → ManagerSound (s .domainPool) (s .domains) d x
   pub lists : (d : ℕ) (x : Domain) → In (s .domains) d x → ListSound (s .sizes .slots) (s .regionPool) (s .regions) (s .domainPool) (s .domains) (x .locals)
   pub coresWords : (d : ℕ) (x : Domain) → In (s .domains) d x → Word (x .cores)
+  pub interfaceWords : (d : ℕ) (x : Domain) → In (s .domains) d x → Word (x .interface .word)
 
 -- The trackers with their pool.
 pub record TrackersSound (s : State) : Type 0 where

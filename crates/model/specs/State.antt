@@ -1,6 +1,7 @@
 -- What the tables hold (document 01, "Memory and who can be refused"), as plain lists.
 -- Owner, parent, manager and children are slot numbers; capabilities and queued updates hold handles.
-use Prim.Native.Nat.{ℕ, _^_, _<_}
+use Prim.Native.Nat.{ℕ, _+_, _^_, _<_}
+use mathlib.Core.Bool.{Bool, true, false}
 use mathlib.Core.Option.{Option, none, some, Option·getD}
 use mathlib.Core.List.{List, []}
 use lib.ListN.{set}
@@ -57,12 +58,32 @@ pub record Record : Type 0 where
   pub end : ℕ
   pub counts : Counts
 
--- A domain: its manager's slot or none, its core map, its capability list, its tracker in list order (`Domain`).
+-- Document 02, request 2: "each domain has a 64-bit word .. and a freeze that can't be lifted" (`monitor_interface`, `freezed`).
+pub record Interface : Type 0 where
+  pub word : ℕ
+  pub frozen : Bool
+
+-- "with SEND, ALIAS and CARVE at bits 1, 3 and 4" (`monitor_inter_perm`); the other bits are stored and mean nothing
+abbrev pub SEND : ℕ
+SEND = 2
+
+abbrev pub ALIAS : ℕ
+ALIAS = 8
+
+abbrev pub CARVE : ℕ
+CARVE = 16
+
+-- "A domain opens with all three set and unfrozen"
+abbrev pub openInterface : Interface
+openInterface = record { word = SEND + ALIAS + CARVE; frozen = false }
+
+-- A domain: its manager's slot or none, its core map, its capability list, its tracker in list order, its interface (`Domain`).
 pub record Domain : Type 0 where
   pub manager : Option ℕ
   pub cores : ℕ
   pub locals : LocalList
   pub tracker : List Record
+  pub interface : Interface
 
 -- The parent's slot stands in the kind (`RegionKind`).
 pub data Kind : Type 0 where
@@ -147,13 +168,16 @@ abbrev pub withQueue : Queue → State → State
 withQueue q s = record { sizes = s .sizes; domainPool = s .domainPool; regionPool = s .regionPool; recordPool = s .recordPool; domains = s .domains; regions = s .regions; queue = q }
 
 abbrev pub withCores : ℕ → Domain → Domain
-withCores c d = record { manager = d .manager; cores = c; locals = d .locals; tracker = d .tracker }
+withCores c d = record { manager = d .manager; cores = c; locals = d .locals; tracker = d .tracker; interface = d .interface }
 
 abbrev pub withLocals : LocalList → Domain → Domain
-withLocals l d = record { manager = d .manager; cores = d .cores; locals = l; tracker = d .tracker }
+withLocals l d = record { manager = d .manager; cores = d .cores; locals = l; tracker = d .tracker; interface = d .interface }
 
 abbrev pub withTracker : List Record → Domain → Domain
-withTracker t d = record { manager = d .manager; cores = d .cores; locals = d .locals; tracker = t }
+withTracker t d = record { manager = d .manager; cores = d .cores; locals = d .locals; tracker = t; interface = d .interface }
+
+abbrev pub withInterface : Interface → Domain → Domain
+withInterface f d = record { manager = d .manager; cores = d .cores; locals = d .locals; tracker = d .tracker; interface = f }
 
 abbrev pub withOwner : ℕ → Region → Region
 withOwner o r = record { owner = o; kind = r .kind; start = r .start; end = r .end; rights = r .rights; children = r .children; hash = r .hash }
@@ -167,7 +191,7 @@ withChildren c r = record { owner = r .owner; kind = r .kind; start = r .start; 
 -- ---- a domain and a region by slot number; in sound tables the fallbacks are never met
 
 abbrev pub noneDomain : Domain
-noneDomain = record { manager = none; cores = 0; locals = record { held = []; free = [] }; tracker = [] }
+noneDomain = record { manager = none; cores = 0; locals = record { held = []; free = [] }; tracker = []; interface = record { word = 0; frozen = false } }
 
 abbrev pub noneRegion : Region
 noneRegion = record { owner = 0; kind = Root; start = 0; end = 0; rights = 0; children = []; hash = none }

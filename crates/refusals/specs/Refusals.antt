@@ -75,7 +75,15 @@ badFlag = record { 0 = 18 }
 abbrev pub noHash : Refusal
 noHash = record { 0 = 19 }
 
+-- ---- a domain's interface (document 02, request 2)
+
+abbrev pub notAllowed : Refusal
+notAllowed = record { 0 = 20 }
+
+abbrev pub isFrozen : Refusal
+isFrozen = record { 0 = 21 }
+
 -- ---- all of them, in the order of their numbers
 
 abbrev pub all : List Refusal
-all = memory ∷ sizes ∷ noDomain ∷ noSlot ∷ wrongKind ∷ stale ∷ badRange ∷ beyond ∷ isRoot ∷ notCarried ∷ noRegion ∷ noLocal ∷ noTracker ∷ ringFull ∷ noDomainRoom ∷ spent ∷ badRecord ∷ badFlag ∷ noHash ∷ []
+all = memory ∷ sizes ∷ noDomain ∷ noSlot ∷ wrongKind ∷ stale ∷ badRange ∷ beyond ∷ isRoot ∷ notCarried ∷ noRegion ∷ noLocal ∷ noTracker ∷ ringFull ∷ noDomainRoom ∷ spent ∷ badRecord ∷ badFlag ∷ noHash ∷ notAllowed ∷ isFrozen ∷ []

@@ -43,8 +43,12 @@ impl Refusal {
 
     pub const NO_HASH: Refusal = Refusal(19);
 
+    pub const NOT_ALLOWED: Refusal = Refusal(20);
+
+    pub const FROZEN: Refusal = Refusal(21);
+
     // All of them. The contract ties each constant to the specification's name.
-    pub fn all() -> [Refusal; 19]
+    pub fn all() -> [Refusal; 21]
         ensures { λ r. ⌜ r ≡ all ⌝ }
     {
         [
@@ -67,6 +71,8 @@ impl Refusal {
             Refusal::BAD_RECORD,
             Refusal::BAD_FLAG,
             Refusal::NO_HASH,
+            Refusal::NOT_ALLOWED,
+            Refusal::FROZEN,
         ]
     }
 }

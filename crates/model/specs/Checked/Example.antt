@@ -26,8 +26,8 @@ empty-words : words (emptyTables ones)
     ≡ (1 ∷ 1 ∷ 1 ∷ 1 ∷ 1 ∷ 0 ∷ 0 ∷ [])
     -- 2. to 4. pools
     ++ freePool ++ freePool ++ freePool
-    -- 5. domain, 6. region, 7. tracker record, 8. ring, 9. hash
-    ++ replicate 8 0 ++ replicate 8 0 ++ replicate 9 0 ++ replicate 8 0 ++ replicate 5 0
+    -- 5. domain, 6. region, 7. tracker record, 8. ring, 9. hash, 10. interface
+    ++ replicate 8 0 ++ replicate 8 0 ++ replicate 9 0 ++ replicate 8 0 ++ replicate 5 0 ++ replicate 2 0
 unfolding computing
 empty-words = refl
 
@@ -76,6 +76,9 @@ opened-words : words opened
     ++ (0 ∷ 0 ∷ 0 ∷ 0 ∷ [])
     -- 9. hashes: none
     ++ replicate 15 0
+    -- 10. interfaces: domain 0 as it opened; domain 1 is free
+    ++ (26 ∷ 0 ∷ [])
+    ++ (0 ∷ 0 ∷ [])
 unfolding computing
 opened-words = refl
 
@@ -94,9 +97,9 @@ round = refl
 
 -- ---- lengths
 
--- 39,665 words at the largest sizes, and 3,913 for the script's tables
-full-length : lengthFor (record { domains = 32; slots = 128; regions = 1024; records = 1024; updates = 128 }) ≡ 39_665
+-- 39,729 words at the largest sizes, and 3,929 for the script's tables
+full-length : lengthFor (record { domains = 32; slots = 128; regions = 1024; records = 1024; updates = 128 }) ≡ 39_729
 full-length = refl
 
-script-length : lengthFor (record { domains = 8; slots = 16; regions = 128; records = 128; updates = 32 }) ≡ 3_913
+script-length : lengthFor (record { domains = 8; slots = 16; regions = 128; records = 128; updates = 32 }) ≡ 3_929
 script-length = refl

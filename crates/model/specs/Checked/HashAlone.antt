@@ -3,10 +3,10 @@ use mathlib.Core.Path.{_≡_, refl}
 use Prim.Native.Nat.{ℕ}
 use mathlib.Core.Option.{Option, none}
 use Rattle.model.specs.Outcome.{_>>=_}
-use Rattle.model.specs.State.{Handle, Capa, noCapa, region, regionRevoke, management, channel, Hash, SendOptions, noOptions, State}
+use Rattle.model.specs.State.{Handle, Capa, noCapa, region, regionRevoke, management, channel, Hash, SendOptions, SEND, noOptions, State}
 use Rattle.model.specs.Locals.{hasCapacity, capaAt, insertCapa, removeCapa}
 use Rattle.model.specs.Regions.{applyOptions}
-use Rattle.model.specs.Calls.{liveDomain, asTarget, checkOptions, sendCapa, send}
+use Rattle.model.specs.Calls.{liveDomain, callerWith, asTarget, checkOptions, sendCapa, send}
 use Rattle.model.specs.Perform.{Step, Call, performStep, perform}
 
 -- a send's options with a hash alone
@@ -24,7 +24,7 @@ capa-alone (channel h) to x s = refl
 send-alone : (h : Handle) (l target : ℕ) (x : Option Hash) (s : State) → send h l target (alone x) s ≡ send h l target noOptions s
 unfolding send
 send-alone h l target x s = λ j. (do
-  d ← liveDomain s h
+  d ← callerWith SEND s h
   t ← capaAt s d target
   k ← asTarget t
   to ← liveDomain s k

@@ -3,7 +3,7 @@ use mathlib.Core.Path.{_≡_, refl}
 use Prim.Native.Nat.{ℕ, _-_}
 use mathlib.Core.Option.{Option, none, some}
 use mathlib.Core.List.{List, [], _∷_, _++_, map}
-use lib.ListN.{length, replicate, drop}
+use lib.ListN.{length, replicate, take, drop}
 use Rattle.refusals.specs.Refusals.{stale, badFlag, noHash}
 use Rattle.model.specs.State.{Sizes, Hash, regionAt}
 use Rattle.model.specs.Making.{emptyTables}
@@ -118,9 +118,9 @@ hash-stored = refl
 
 -- ---- its words
 
--- the hashes' section after some calls: five words for each of three regions
+-- the hashes' section after some calls: five words for each of three regions; two words of the one domain's interface are behind it
 abbrev section : List Call → List ℕ
-section cs = let t = words (run (emptyTables small) cs .1) in drop (length t - 15) t
+section cs = let t = words (run (emptyTables small) cs .1) in take 15 (drop (length t - 17) t)
 
 -- the alias's hash stands in the second five; zeros differ from no hash; a revoke leaves zeros
 hash-section : section hashed ≡ replicate 5 0 ++ (1 ∷ 7 ∷ 2 ∷ 3 ∷ 4 ∷ []) ++ replicate 5 0

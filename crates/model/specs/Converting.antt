@@ -1,0 +1,39 @@
+-- The converter (document 02, request 2): "older tables carry over that way", from "the last delivery's tables" in separate memory. Its contract cites this.
+use mathlib.Core.Path.{_≡_}
+use Prim.Native.Nat.{ℕ, _-_, _*_}
+use mathlib.Core.List.{List}
+use lib.ListN.{length, take}
+use Rattle.refusals.specs.Refusals.{memory}
+use Rattle.model.specs.Lists.{In}
+use Rattle.model.specs.State.{Sizes, Domain, openInterface, State}
+use Rattle.model.specs.Layout.{words, lengthFor}
+use Rattle.model.specs.Perform.{Value, Answer}
+use Rattle.model.specs.Sound.{Sound}
+use Rattle.model.specs.Memory.{zeroed}
+
+-- The last delivery's tables had all sections but the last, the interfaces: its words of a state are the first of this delivery's.
+abbrev pub formerLength : Sizes → ℕ
+formerLength z = lengthFor z - 2 * z .domains
+
+abbrev pub formerWords : State → List ℕ
+formerWords s = take (formerLength (s .sizes)) (words s)
+
+-- Every domain has the interface that it opens with: the last delivery could store no other.
+abbrev pub AsOpened : State → Type 0
+AsOpened s = (d : ℕ) (x : Domain) → In (s .domains) d x → x .interface ≡ openInterface
+
+-- o are the last delivery's tables of the sound state s, and the new tables t and both work areas v and w have the length of this delivery's.
+pub record Convertible (o t v w : List ℕ) (s : State) : Type 0 where
+  pub sound : Sound s
+  pub opened : AsOpened s
+  pub old : o ≡ formerWords s
+  pub tables : length t ≡ lengthFor (s .sizes)
+  pub work : length v ≡ lengthFor (s .sizes)
+  pub secondWork : length w ≡ lengthFor (s .sizes)
+
+-- `Converted o t v w a t′ v′ w′`: the converter answers a and leaves t′, v′ and w′. The old tables o are only read.
+pub data Converted (o t v w : List ℕ) : Answer → List ℕ → List ℕ → List ℕ → Type 0 where
+  -- "give 1 for wrong lengths or unsound old tables"
+  notConvertible : ((s : State) → ¬ Convertible o t v w s) → Converted o t v w (Answer.no memory) t (zeroed v) (zeroed w)
+  -- "and keep the rest": the old words and the new ones are of one state
+  converted : (s : State) → Convertible o t v w s → Converted o t v w (Answer.yes Value.done) (words s) (zeroed v) (zeroed w)
