@@ -9,6 +9,7 @@ use Rattle.model.specs.State.{Sizes, State, cleanup}
 use Rattle.model.specs.Making.{emptyTables}
 use Rattle.model.specs.Layout.{placeWords, words, lengthFor}
 use Rattle.model.specs.Perform.{Step, Call, run}
+use Rattle.model.specs.Converting.{formerWords}
 use Rattle.model.specs.Checked.Compute.{computing}
 use Rattle.model.specs.Checked.Script.{dom, access}
 
@@ -43,9 +44,11 @@ small = record { domains = 2; slots = 2; regions = 3; records = 3; updates = 1 }
 abbrev opened : State
 opened = run (emptyTables small) (Call.Do (Step.Open none 5) ∷ Call.Do (Step.Root (dom 0) (access 0 16 3)) ∷ Call.Do (Step.Alias (dom 0) 0 (access 4 8 1)) ∷ []) .1
 
-opened-words : words opened
+-- the sections that the last delivery had
+abbrev firstNine : List ℕ
+firstNine =
     -- 1. header: the ring's read place 0, write place 1
-    ≡ (2 ∷ 2 ∷ 3 ∷ 3 ∷ 1 ∷ 0 ∷ 1 ∷ [])
+    (2 ∷ 2 ∷ 3 ∷ 3 ∷ 1 ∷ 0 ∷ 1 ∷ [])
     -- 2. domain pool: slot 1 is free
     ++ (1 ∷ 1 ∷ [])
     ++ (0 ∷ 1 ∷ [])
@@ -76,11 +79,18 @@ opened-words : words opened
     ++ (0 ∷ 0 ∷ 0 ∷ 0 ∷ [])
     -- 9. hashes: none
     ++ replicate 15 0
+
+opened-words : words opened
+    ≡ firstNine
     -- 10. interfaces: domain 0 as it opened; domain 1 is free
     ++ (26 ∷ 0 ∷ [])
     ++ (0 ∷ 0 ∷ [])
 unfolding computing
 opened-words = refl
+
+former-words : formerWords opened ≡ firstNine
+unfolding computing
+former-words = refl
 
 opened-length : length (words opened) ≡ lengthFor small
 unfolding computing

@@ -5,7 +5,7 @@ use mathlib.Core.Bool.{Bool, true, false}
 use mathlib.Core.Option.{none, some}
 use mathlib.Core.List.{List, [], _∷_, _++_, map}
 use lib.ListN.{length, drop}
-use Rattle.refusals.specs.Refusals.{noDomain, noSlot, wrongKind, badFlag, notAllowed, isFrozen}
+use Rattle.refusals.specs.Refusals.{noDomain, noSlot, notAllowed, isFrozen}
 use Rattle.model.specs.State.{Sizes, Handle, Interface, noOptions, domainAt}
 use Rattle.model.specs.Making.{emptyTables}
 use Rattle.model.specs.Layout.{words}
@@ -69,8 +69,10 @@ table =
     ∷ gives small (two ++ (set 0 0 ∷ [])) (sends 2 1) (Answer.no notAllowed)
     ∷ gives small (two ++ (set 0 0 ∷ [])) (sends 2 5) (Answer.no notAllowed)
     ∷ gives small (two ++ (set 0 0 ∷ [])) (Call.Do (Step.Send (dom 0) 2 0 (record { flags = some 255; hash = none }))) (Answer.no notAllowed)
-    -- the caller's word, not the target's
+    -- the caller's word, not the target's, and not another's
     ∷ gives small (two ++ (set 1 0 ∷ [])) (sends 2 0) (passes 0)
+    ∷ gives small (two ++ (set 0 0 ∷ [])) (Call.Do (Step.Alias (dom 1) 0 (access 0 8 3))) (Answer.no noSlot)
+    ∷ gives small (two ++ (set 1 0 ∷ [])) (Call.Do (Step.Alias (dom 1) 0 (access 0 8 3))) (Answer.no notAllowed)
     -- "Revoke needs no bit", nor does a root, a RegionRevoke, a channel or an opening
     ∷ gives small (two ++ (set 0 0 ∷ [])) (revoke 2) done
     ∷ gives small (two ++ (set 0 0 ∷ [])) (rootOf 16 32 3) (passes 3)
