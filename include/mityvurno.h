@@ -10,7 +10,7 @@
  *
  * What a C caller must see to, since C cannot say it of a pointer and a length:
  *   - each pointer is that of so many words as its length says, aligned as its type is;
- *   - tables, work area, run and hash do not overlap, and nobody else writes them during the call;
+ *   - tables, work areas, old tables, run and hash do not overlap, and nobody else writes them during the call;
  *   - nothing but these functions writes the tables between calls, either. Damage is refused with MITYVURNO_MEMORY, but whoever writes
  *     the words of other sound tables there has made other tables: the test cannot tell a consistent forgery.
  * Where a length is 0, nothing is read or written through its pointer; NULL was tested there.
@@ -46,7 +46,11 @@ extern "C" {
 #define MITYVURNO_WORDS(domains, slots, regions, records, updates)                                              \
     ((size_t)7 + (2 + 2 * (size_t)(domains)) + (2 + 2 * (size_t)(regions)) + (2 + 2 * (size_t)(records)) +      \
      (size_t)(domains) * (5 + 3 * (size_t)(slots)) + 8 * (size_t)(regions) + 9 * (size_t)(records) +            \
-     4 * ((size_t)(updates) + 1) + 5 * (size_t)(regions))
+     4 * ((size_t)(updates) + 1) + 5 * (size_t)(regions) + 2 * (size_t)(domains))
+
+/* The number of words that tables of the last delivery have, for mityvurno_convert_tables: without the domains' interfaces. */
+#define MITYVURNO_FORMER_WORDS(domains, slots, regions, records, updates) \
+    (MITYVURNO_WORDS(domains, slots, regions, records, updates) - 2 * (size_t)(domains))
 
 /* ---- rights: a word of 8 bits */
 
@@ -61,9 +65,17 @@ enum mityvurno_rights {
     MITYVURNO_UNCACHEABLE = 128
 };
 
+/* ---- a domain's interface: a word of 64 bits that says which calls its program may make; other bits are kept and mean nothing */
+
+enum mityvurno_interface {
+    MITYVURNO_MAY_SEND = 2,
+    MITYVURNO_MAY_ALIAS = 8,
+    MITYVURNO_MAY_CARVE = 16
+};
+
 /* ---- answers */
 
-/* Document 01's refusals, "Memory and who can be refused", and 18 and 19 of document 02. */
+/* Document 01's refusals, "Memory and who can be refused", and 18 to 21 of document 02. */
 enum mityvurno_refusal {
     MITYVURNO_ACCEPTED = 0,
     /* the host that lends */
@@ -89,7 +101,10 @@ enum mityvurno_refusal {
     MITYVURNO_BAD_RECORD = 17,
     /* the flag word of a send, of a region only */
     MITYVURNO_BAD_FLAG = 18, /* a flag other than HASH, CLEANUP or VITAL */
-    MITYVURNO_NO_HASH = 19   /* HASH in the flag word, and no hash */
+    MITYVURNO_NO_HASH = 19,  /* HASH in the flag word, and no hash */
+    /* a domain's interface */
+    MITYVURNO_NOT_ALLOWED = 20, /* the caller's word lacks the bit of this call */
+    MITYVURNO_FROZEN = 21       /* setting a frozen word */
 };
 
 /* `refusal` is one of the numbers above. A refusal gives its number and nothing else: the other fields are 0 then. */
@@ -139,6 +154,13 @@ typedef struct {
 mityvurno_reply mityvurno_make_tables(MITYVURNO_LENT, uint64_t domains, uint64_t slots, uint64_t regions, uint64_t records,
                                       uint64_t updates);
 
+/* Tables of the last delivery, `old`, become tables of this one in `t`: the same entries and handles, and every domain has the interface that
+ * it opens with. `old` is only read. The lengths: MITYVURNO_FORMER_WORDS of `old`; MITYVURNO_WORDS of `t`, `v` and `w`, by the sizes that
+ * `old` stores. What `t` held before does not matter; `v` and `w` are two work areas, zero afterwards. Wrong lengths and old tables that are
+ * not sound give 1, and `t` is as found. Older tables go through each delivery's converter in turn. Refusals: none but 1. */
+mityvurno_reply mityvurno_convert_tables(const uint64_t *MITYVURNO_APART old, size_t old_words, uint64_t *MITYVURNO_APART t, size_t t_words,
+                                         uint64_t *MITYVURNO_APART v, size_t v_words, uint64_t *MITYVURNO_APART w, size_t w_words);
+
 /* A domain without a manager; `cores` is its core map. Refusals: 15. */
 mityvurno_domain_reply mityvurno_open_domain(MITYVURNO_LENT, uint64_t cores);
 
@@ -151,25 +173,33 @@ mityvurno_reply mityvurno_open_channel(MITYVURNO_LENT, uint64_t domain, uint64_t
 /* The domain's core map. Refusals: 3. */
 mityvurno_reply mityvurno_set_core_map(MITYVURNO_LENT, uint64_t domain, uint64_t generation, uint64_t cores);
 
+/* Platform only. The word of the domain's interface, any 64 bits, in place of the one that stands. A domain opens with MITYVURNO_MAY_SEND,
+ * MITYVURNO_MAY_ALIAS and MITYVURNO_MAY_CARVE, whatever its manager's word. A domain without a bit gets 20 for alias, carve or send; nothing
+ * else asks for one: what a domain holds it can still revoke, and others can send to it. Refusals: 3, 21. */
+mityvurno_reply mityvurno_set_interface(MITYVURNO_LENT, uint64_t domain, uint64_t generation, uint64_t word);
+
+/* Platform only. The word stays as it is from now on: no call but making lifts the freeze. Freezing twice is accepted. Refusals: 3. */
+mityvurno_reply mityvurno_freeze_interface(MITYVURNO_LENT, uint64_t domain, uint64_t generation);
+
 /* A new region, `start` up to but not including `end`; value: its local slot. Refusals: 3, 11, 12, 7; 13, 14, 16. */
 mityvurno_reply mityvurno_create_root_region(MITYVURNO_LENT, uint64_t domain, uint64_t generation, uint64_t start, uint64_t end,
                                              uint8_t rights);
 
 /* A part of the region in `local`, shared with it or cut out of it; value: its local slot.
- * Refusals: 3, 4, 5, 6, 11, 12, 7, 8; 13, 14, 16. */
+ * Refusals: 3, 20, 4, 5, 6, 11, 12, 7, 8; 13, 14, 16. */
 mityvurno_reply mityvurno_alias_region(MITYVURNO_LENT, uint64_t domain, uint64_t generation, uint64_t local, uint64_t start, uint64_t end,
                                        uint8_t rights);
 mityvurno_reply mityvurno_carve_region(MITYVURNO_LENT, uint64_t domain, uint64_t generation, uint64_t local, uint64_t start, uint64_t end,
                                        uint8_t rights);
 
 /* Moves what `local` holds to the domain that the Channel or Management capability in `target` names; value: the slot there. A region's
- * rights and its stored hash stay. Refusals: 3; of the target 4, 5, 3, 12; of the sent slot 4, 10, 6; 13, 14, 16. */
+ * rights and its stored hash stay. Refusals: 3, 20; of the target 4, 5, 3, 12; of the sent slot 4, 10, 6; 13, 14, 16. */
 mityvurno_reply mityvurno_send(MITYVURNO_LENT, uint64_t domain, uint64_t generation, uint64_t local, uint64_t target);
 
 /* The same with a flag word, without a hash and with one of 32 bytes, which are read only. Where `local` holds a region, the flags join its
  * rights for good, and its stored hash becomes the one given, or none; flags 0 do that as well. Where it holds anything else, flags and
  * hash are not looked at. The hash may lie anywhere that is not written in the call.
- * Refusals: 3; of the target 4, 5, 3, 12; of the sent slot 4, 10, 6, 18, and 19 where no hash is given; 13, 14, 16. */
+ * Refusals: 3, 20; of the target 4, 5, 3, 12; of the sent slot 4, 10, 6, 18, and 19 where no hash is given; 13, 14, 16. */
 mityvurno_reply mityvurno_send_with_flags(MITYVURNO_LENT, uint64_t domain, uint64_t generation, uint64_t local, uint64_t target,
                                           uint8_t flags);
 mityvurno_reply mityvurno_send_with_hash(MITYVURNO_LENT, uint64_t domain, uint64_t generation, uint64_t local, uint64_t target,
