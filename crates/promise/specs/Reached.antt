@@ -14,7 +14,7 @@ use Rattle.frame.specs.declared.replies.Reply.{Reply}
 use Rattle.frame.specs.Replies.{replyOf, domainReplyOf, updateReplyOf, Returns}
 use Rattle.book.specs.Book.{Book}
 use Rattle.book.specs.Lent.{ClaimsOf}
-use Rattle.promise.specs.Calls.{Called, Words, Exported, Sequence, make-tables, open-domain, open-under, open-channel, set-core-map, create-root-region, alias-region, carve-region, send, send-with-flags, send-with-hash, revoke, create-revoke-capa, pop}
+use Rattle.promise.specs.Calls.{Called, Words, Exported, Sequence, make-tables, open-domain, open-under, open-channel, set-core-map, set-interface, freeze-interface, create-root-region, alias-region, carve-region, send, send-with-flags, send-with-hash, revoke, create-revoke-capa, pop}
 use Rattle.promise.specs.Returned.{noteAllReturned}
 use Rattle.promise.specs.Everything.{everything}
 
@@ -98,6 +98,8 @@ module _ {t w : List ℕ} {a : Answer} {t₁ w₁ : List ℕ} where
   step-leads (Step.Open (some m) cores) u h = one t w t₁ w₁ (open-under (m .slot) (m .generation) cores (domainReplyOf a)) u (record { answer = a; after = h; reply = refl })
   step-leads (Step.Channel d to) u h = one t w t₁ w₁ (open-channel (d .slot) (d .generation) (to .slot) (to .generation) (replyOf a)) u (record { answer = a; after = h; reply = refl })
   step-leads (Step.SetCoreMap d cores) u h = one t w t₁ w₁ (set-core-map (d .slot) (d .generation) cores (replyOf a)) u (record { answer = a; after = h; reply = refl })
+  step-leads (Step.SetInterface d word) u h = one t w t₁ w₁ (set-interface (d .slot) (d .generation) word (replyOf a)) u (record { answer = a; after = h; reply = refl })
+  step-leads (Step.FreezeInterface d) u h = one t w t₁ w₁ (freeze-interface (d .slot) (d .generation) (replyOf a)) u (record { answer = a; after = h; reply = refl })
   step-leads (Step.Root d x) u h = one t w t₁ w₁ (create-root-region (d .slot) (d .generation) (x .start) (x .end) (x .rights) (replyOf a)) u (record { answer = a; after = h; reply = refl })
   step-leads (Step.Alias d l x) u h = one t w t₁ w₁ (alias-region (d .slot) (d .generation) l (x .start) (x .end) (x .rights) (replyOf a)) u (record { answer = a; after = h; reply = refl })
   step-leads (Step.Carve d l x) u h = one t w t₁ w₁ (carve-region (d .slot) (d .generation) l (x .start) (x .end) (x .rights) (replyOf a)) u (record { answer = a; after = h; reply = refl })
