@@ -62,7 +62,7 @@ names (some q) p = eqb q p
 pub record RegionSound (regions : List (Option Region)) (i : ℕ) (g : Region) : Type 0 where
   -- "each live non-root is in exactly its parent's list": the parent is live, and has it once; no other list, and a root no list, has it
   pub parentLive : (p : ℕ) → parentOf (g .kind) ≡ some p → T (isSome (atSlot regions p))
-  pub listed : (p : ℕ) (h : Region) → In regions p h → countIf (eqb i) (h .children) ≡ oneIf (names (parentOf (g .kind)) p)
+  pub listed : (p : ℕ) (other : Region) → In regions p other → countIf (eqb i) (other .children) ≡ oneIf (names (parentOf (g .kind)) p)
   -- nothing but live regions is in its own list
   pub childrenLive : Each (λ c. T (isSome (atSlot regions c))) (g .children)
   -- "without circles"
@@ -71,11 +71,11 @@ pub record RegionSound (regions : List (Option Region)) (i : ℕ) (g : Region) :
   pub ordered : Ordered (map (λ (c : Region). c .start) (childrenOf regions g))
   -- "ranges nonempty and inside the parent's"
   pub nonempty : g .start < g .end
-  pub inside : (p : ℕ) (h : Region) → parentOf (g .kind) ≡ some p → In regions p h → (h .start ≤ g .start) × (g .end ≤ h .end)
+  pub inside : (p : ℕ) (parent : Region) → parentOf (g .kind) ≡ some p → In regions p parent → (parent .start ≤ g .start) × (g .end ≤ parent .end)
   -- "carves overlap no sibling"
-  pub carvesApart : (j : ℕ) (h : Region) → In regions j h → i ≢ j → T (isCarve (g .kind)) → parentOf (g .kind) ≡ parentOf (h .kind) → T (not (overlaps (accessOf g) h))
+  pub carvesApart : (j : ℕ) (sibling : Region) → In regions j sibling → i ≢ j → T (isCarve (g .kind)) → parentOf (g .kind) ≡ parentOf (sibling .kind) → T (not (overlaps (accessOf g) sibling))
   -- "READ to SUPER and UNCACHEABLE lie in the parent's": the rule that alias and carve check
-  pub rightsInside : (p : ℕ) (h : Region) → parentOf (g .kind) ≡ some p → In regions p h → T (allowed (h .rights) (g .rights))
+  pub rightsInside : (p : ℕ) (parent : Region) → parentOf (g .kind) ≡ some p → In regions p parent → T (allowed (parent .rights) (g .rights))
   -- what is stored are words
   pub startWord : Word (g .start)
   pub endWord : Word (g .end)
