@@ -4,8 +4,8 @@ use Rattle.answers.specs.Answers.{Effect}
 use Rattle.domain_calls.specs.Calls.{openDomain, openUnder, openChannel, setCoreMap}
 use Rattle.region_calls.specs.Calls.{createRootRegion, aliasRegion, carveRegion}
 use Rattle.capa_calls.specs.Calls.{send, revokeLocal, createRevokeCapa}
-use Rattle.calls.specs.declared.Call.{Call}
-use Rattle.calls.specs.declared.Call.the-variants.{Open, OpenUnder, Channel, SetCoreMap, Root, Alias, Carve, Send, Revoke, CreateRevokeCapa}
+use Rattle.call.specs.declared.Call.{Call}
+use Rattle.call.specs.declared.Call.the-variants.{Open, OpenUnder, Channel, SetCoreMap, Root, Alias, Carve, Send, Revoke, CreateRevokeCapa}
 
 abbrev pub stepOf : Call → Tables → Effect
 stepOf (Open cores) s = openDomain cores s

@@ -1,32 +1,9 @@
-// The calls that are one step on the tables, as one type (lib.rs; document 01, **Order of checks**). A refused call may leave the tables half changed.
+// The calls that are one step on the tables, done (lib.rs; document 01, **Order of checks**). A refused call may leave the tables half changed.
 ghost use mathlib.Core.Path.{_≡_};
 ghost use Rattle.tables.specs.View.{view, Sized, Left};
 ghost use Rattle.calls.specs.Steps.{stepOf};
 use answers::Answer;
-use region::AccessRights;
-use segment::SendOptions;
-use tables::Handle;
-
-// A part of the region in `local`, with its range and rights.
-pub struct Child {
-    pub domain: Handle,
-    pub local: usize,
-    pub access: AccessRights,
-}
-
-// The constructors are the model's, in its order; an opening has a manager or none.
-pub enum Call {
-    Open(u64),
-    OpenUnder(Handle, u64),
-    Channel(Handle, Handle),
-    SetCoreMap(Handle, u64),
-    Root(Handle, AccessRights),
-    Alias(Child),
-    Carve(Child),
-    Send(Handle, usize, usize, SendOptions),
-    Revoke(Handle, usize),
-    CreateRevokeCapa(Handle, usize),
-}
+use call::Call;
 
 // What the call does; the answer is a domain's slot, a local slot, or 0.
 pub fn step(t: &mut [u64], call: Call) -> Answer

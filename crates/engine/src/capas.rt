@@ -1,7 +1,8 @@
 // Capabilities sent and revoked.
 ghost use Rattle.model.specs.State.{noOptions};
 ghost use Rattle.model.specs.Perform.{Call, Step};
-ghost use Rattle.frame.specs.Replies.{handle, hashIn, withFlags, withHash, replyOf, Returns};
+ghost use Rattle.call.specs.Arguments.{handle, hashIn, withFlags, withHash};
+ghost use Rattle.frame.specs.Replies.{replyOf, Returns};
 use frame::Reply;
 
 // Without a flag word and a hash. The value is the slot in the list of the domain that the target names.
@@ -16,7 +17,7 @@ pub extern "C" fn mityvurno_send(
 ) -> Reply
     ensures { λ r. ⌜ Returns replyOf (now (t .entry)) (now (w .entry)) (Call.Do (Step.Send (handle domain generation) local target noOptions)) r (now (t .exit)) (now (w .exit)) ⌝ }
 {
-    lent_capas::send(t, w, domain, generation, local, target)
+    frame::run(t, w, call::send(domain, generation, local, target))
 }
 
 // With a flag word and no hash: the flags join the rights of a region that is sent, and its stored hash is cleared.
@@ -32,7 +33,11 @@ pub extern "C" fn mityvurno_send_with_flags(
 ) -> Reply
     ensures { λ r. ⌜ Returns replyOf (now (t .entry)) (now (w .entry)) (Call.Do (Step.Send (handle domain generation) local target (withFlags flags))) r (now (t .exit)) (now (w .exit)) ⌝ }
 {
-    lent_capas::send_with_flags(t, w, domain, generation, local, target, flags)
+    frame::run(
+        t,
+        w,
+        call::send_with_flags(domain, generation, local, target, flags),
+    )
 }
 
 // With a flag word and a hash, which is stored of a region that is sent.
@@ -49,7 +54,11 @@ pub extern "C" fn mityvurno_send_with_hash(
 ) -> Reply
     ensures { λ r. ⌜ Returns replyOf (now (t .entry)) (now (w .entry)) (Call.Do (Step.Send (handle domain generation) local target (withHash flags (hashIn (now (hash .entry)))))) r (now (t .exit)) (now (w .exit)) ⌝ }
 {
-    lent_capas::send_with_hash(t, w, domain, generation, local, target, flags, hash)
+    frame::run(
+        t,
+        w,
+        call::send_with_hash(domain, generation, local, target, flags, hash),
+    )
 }
 
 #[no_mangle]
@@ -62,7 +71,7 @@ pub extern "C" fn mityvurno_revoke(
 ) -> Reply
     ensures { λ r. ⌜ Returns replyOf (now (t .entry)) (now (w .entry)) (Call.Do (Step.Revoke (handle domain generation) local)) r (now (t .exit)) (now (w .exit)) ⌝ }
 {
-    lent_capas::revoke(t, w, domain, generation, local)
+    frame::run(t, w, call::revoke(domain, generation, local))
 }
 
 // The value is the local slot of the RegionRevoke.
@@ -76,5 +85,5 @@ pub extern "C" fn mityvurno_create_revoke_capa(
 ) -> Reply
     ensures { λ r. ⌜ Returns replyOf (now (t .entry)) (now (w .entry)) (Call.Do (Step.CreateRevokeCapa (handle domain generation) local)) r (now (t .exit)) (now (w .exit)) ⌝ }
 {
-    lent_capas::create_revoke_capa(t, w, domain, generation, local)
+    frame::run(t, w, call::create_revoke_capa(domain, generation, local))
 }

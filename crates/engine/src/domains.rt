@@ -1,17 +1,17 @@
 // Domains, channels and core maps.
 ghost use mathlib.Core.Option.{none, some};
 ghost use Rattle.model.specs.Perform.{Call, Step};
-ghost use Rattle.frame.specs.Replies.{handle, replyOf, domainReplyOf, Returns};
+ghost use Rattle.call.specs.Arguments.{handle};
+ghost use Rattle.frame.specs.Replies.{replyOf, domainReplyOf, Returns};
 use frame::DomainReply;
 use frame::Reply;
-use lent_domains::open;
 
 // A domain without a manager.
 #[no_mangle]
 pub extern "C" fn mityvurno_open_domain(t: &mut [u64], w: &mut [u64], cores: u64) -> DomainReply
     ensures { λ r. ⌜ Returns domainReplyOf (now (t .entry)) (now (w .entry)) (Call.Do (Step.Open none cores)) r (now (t .exit)) (now (w .exit)) ⌝ }
 {
-    open::open_domain(t, w, cores)
+    lent_domains::open_domain(t, w, cores)
 }
 
 // A domain whose manager gets a Management capability.
@@ -25,7 +25,7 @@ pub extern "C" fn mityvurno_open_under(
 ) -> DomainReply
     ensures { λ r. ⌜ Returns domainReplyOf (now (t .entry)) (now (w .entry)) (Call.Do (Step.Open (some (handle manager generation)) cores)) r (now (t .exit)) (now (w .exit)) ⌝ }
 {
-    open::open_under(t, w, manager, generation, cores)
+    lent_domains::open_under(t, w, manager, generation, cores)
 }
 
 // A Channel capability to a domain in another's list, or in its own; the value is its local slot.
@@ -40,7 +40,7 @@ pub extern "C" fn mityvurno_open_channel(
 ) -> Reply
     ensures { λ r. ⌜ Returns replyOf (now (t .entry)) (now (w .entry)) (Call.Do (Step.Channel (handle domain generation) (handle to «to_generation»))) r (now (t .exit)) (now (w .exit)) ⌝ }
 {
-    lent_domains::open_channel(t, w, domain, generation, to, to_generation)
+    frame::run(t, w, call::channel(domain, generation, to, to_generation))
 }
 
 #[no_mangle]
@@ -53,5 +53,5 @@ pub extern "C" fn mityvurno_set_core_map(
 ) -> Reply
     ensures { λ r. ⌜ Returns replyOf (now (t .entry)) (now (w .entry)) (Call.Do (Step.SetCoreMap (handle domain generation) cores)) r (now (t .exit)) (now (w .exit)) ⌝ }
 {
-    lent_domains::set_core_map(t, w, domain, generation, cores)
+    frame::run(t, w, call::set_core_map(domain, generation, cores))
 }

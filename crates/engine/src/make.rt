@@ -1,6 +1,7 @@
 // Making empty tables.
 ghost use Rattle.model.specs.Perform.{Call};
-ghost use Rattle.frame.specs.Replies.{sizes, replyOf, Returns};
+ghost use Rattle.call.specs.Arguments.{sizes};
+ghost use Rattle.frame.specs.Replies.{replyOf, Returns};
 use frame::Reply;
 
 #[no_mangle]

@@ -1,6 +1,7 @@
 // The readings (document 01, **Reading**). The tables are lent to be read only.
 ghost use Rattle.model.specs.Perform.{Call, Reading};
-ghost use Rattle.frame.specs.Replies.{handle, replyOf, Returns, ListsPermissions, ListsHolders};
+ghost use Rattle.call.specs.Arguments.{handle};
+ghost use Rattle.frame.specs.Replies.{replyOf, Returns, ListsPermissions, ListsHolders};
 use frame::Reply;
 use readings::Permission;
 

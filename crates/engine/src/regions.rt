@@ -1,6 +1,7 @@
 // Regions: roots, aliases and carves; the value is the local slot.
 ghost use Rattle.model.specs.Perform.{Call, Step};
-ghost use Rattle.frame.specs.Replies.{handle, access, replyOf, Returns};
+ghost use Rattle.call.specs.Arguments.{handle, access};
+ghost use Rattle.frame.specs.Replies.{replyOf, Returns};
 use frame::Reply;
 
 #[no_mangle]
@@ -15,7 +16,7 @@ pub extern "C" fn mityvurno_create_root_region(
 ) -> Reply
     ensures { λ r. ⌜ Returns replyOf (now (t .entry)) (now (w .entry)) (Call.Do (Step.Root (handle domain generation) (access start end rights))) r (now (t .exit)) (now (w .exit)) ⌝ }
 {
-    lent_regions::create_root_region(t, w, domain, generation, start, end, rights)
+    frame::run(t, w, call::root(domain, generation, start, end, rights))
 }
 
 #[no_mangle]
@@ -31,7 +32,11 @@ pub extern "C" fn mityvurno_alias_region(
 ) -> Reply
     ensures { λ r. ⌜ Returns replyOf (now (t .entry)) (now (w .entry)) (Call.Do (Step.Alias (handle domain generation) local (access start end rights))) r (now (t .exit)) (now (w .exit)) ⌝ }
 {
-    lent_regions::alias_region(t, w, domain, generation, local, start, end, rights)
+    frame::run(
+        t,
+        w,
+        call::alias(domain, generation, local, start, end, rights),
+    )
 }
 
 #[no_mangle]
@@ -47,5 +52,9 @@ pub extern "C" fn mityvurno_carve_region(
 ) -> Reply
     ensures { λ r. ⌜ Returns replyOf (now (t .entry)) (now (w .entry)) (Call.Do (Step.Carve (handle domain generation) local (access start end rights))) r (now (t .exit)) (now (w .exit)) ⌝ }
 {
-    lent_regions::carve_region(t, w, domain, generation, local, start, end, rights)
+    frame::run(
+        t,
+        w,
+        call::carve(domain, generation, local, start, end, rights),
+    )
 }

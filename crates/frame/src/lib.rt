@@ -3,9 +3,9 @@ ghost use mathlib.Core.Path.{_≡_};
 ghost use Rattle.model.specs.Perform.{Call};
 ghost use Rattle.model.specs.CallWords.{StepWords};
 ghost use Rattle.model.specs.Memory.{zeroed};
+ghost use Rattle.call.specs.Steps.{stepNamed};
 ghost use Rattle.frame.specs.Finish.{admitted, kept, finished, replyFor};
 ghost use Rattle.frame.specs.Replies.{replyOf, Returns};
-ghost use Rattle.frame.specs.Steps.{stepNamed};
 use answers::Answer;
 use refusals::Refusal;
 
@@ -55,7 +55,7 @@ pub fn finish(t: &mut [u64], w: &mut [u64], a: Answer) -> Reply
 }
 
 // A call that is one step, on lent memory: all that the exported functions of such calls do.
-pub fn run(t: &mut [u64], w: &mut [u64], call: calls::Call) -> Reply
+pub fn run(t: &mut [u64], w: &mut [u64], call: call::Call) -> Reply
     requires { ⌜ StepWords (stepNamed call) ⌝ }
     ensures { λ r. ⌜ Returns replyOf (now (t .entry)) (now (w .entry)) (Call.Do (stepNamed call)) r (now (t .exit)) (now (w .exit)) ⌝ }
 {

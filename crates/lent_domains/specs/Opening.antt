@@ -76,15 +76,15 @@ opened-after t w t₂ w₂ m cores c a e k (performed d s q l) =
     ap (λ v. openedFor v (replyOf (step s d .0))) see ∙ opens-as s m cores d e
 opened-after t w t₂ w₂ m cores c a e k (After.held x s l y z) = let v : _≡_ {A = ℕ} 0 1 = cc in absurd (omega arith)
 
--- ---- as the exported functions cite it
+-- ---- as the exported functions cite it: d is the step of the call that was run
 
-module _ (t w : List ℕ) (m : Option state.Handle) (cores : ℕ) (k : StepWords (Step.Open m cores)) (r : replies.Reply) (t₂ w₂ : List ℕ) (y : Returns replyOf t w (Call.Do (Step.Open m cores)) r t₂ w₂) where
+module _ (t w : List ℕ) (m : Option state.Handle) (cores : ℕ) (d : Step) (same : d ≡ Step.Open m cores) (k : StepWords d) (r : replies.Reply) (t₂ w₂ : List ℕ) (y : Returns replyOf t w (Call.Do d) r t₂ w₂) where
   pub opened-sized : r .refusal ≡ 0 → Sized t₂
-  opened-sized e = sized-after t w t₂ w₂ (Call.Do (Step.Open m cores)) (y .answer) tt k (ap (λ (x : replies.Reply). x .refusal) (sym (y .reply)) ∙ e) (y .after)
+  opened-sized e = sized-after t w t₂ w₂ (Call.Do d) (y .answer) tt k (ap (λ (x : replies.Reply). x .refusal) (sym (y .reply)) ∙ e) (y .after)
 
   pub open-returns : (x : DomainReply) → x ≡ openedFor (view t₂) r → Returns domainReplyOf t w (Call.Do (Step.Open m cores)) x t₂ w₂
   open-returns x e = record {
     answer = y .answer;
-    after = y .after;
-    reply = e ∙ ap (openedFor (view t₂)) (y .reply) ∙ opened-after t w t₂ w₂ m cores (Call.Do (Step.Open m cores)) (y .answer) refl k (y .after);
+    after = subst (λ (b : Step). After t w (Call.Do b) (y .answer) t₂ w₂) same (y .after);
+    reply = e ∙ ap (openedFor (view t₂)) (y .reply) ∙ opened-after t w t₂ w₂ m cores (Call.Do d) (y .answer) (ap Call.Do same) k (y .after);
   }

@@ -1,39 +1,48 @@
-// Domains: channels and core maps; openings in open.rt.
+// Openings on lent memory: the step, and the generation of the slot that it answers.
+ghost use mathlib.Core.Path.{_≡_};
+ghost use mathlib.Core.Option.{none, some};
 ghost use Rattle.model.specs.Perform.{Call, Step};
-ghost use Rattle.frame.specs.Replies.{handle, replyOf, Returns};
+ghost use Rattle.tables.specs.View.{view, Sized};
+ghost use Rattle.call.specs.Arguments.{handle};
+ghost use Rattle.frame.specs.Replies.{domainReplyOf, Returns};
+ghost use Rattle.frame.specs.Finish.{openedFor};
+use frame::DomainReply;
 use frame::Reply;
-use tables::Handle;
+use frame::replies;
 
-pub mod open;
-
-// A Channel capability to a domain in another's list, or in its own; the value is its local slot.
-pub fn open_channel(
-    t: &mut [u64],
-    w: &mut [u64],
-    domain: u64,
-    generation: u64,
-    to: u64,
-    to_generation: u64,
-) -> Reply
-    ensures { λ r. ⌜ Returns replyOf (now (t .entry)) (now (w .entry)) (Call.Do (Step.Channel (handle domain generation) (handle to «to_generation»))) r (now (t .exit)) (now (w .exit)) ⌝ }
+// An accepted opening's slot, with the generation that it has.
+fn opened(t: &[u64], r: Reply) -> DomainReply
+    requires { ⌜ (r .refusal ≡ 0 → Sized (now t)) ⌝ }
+    ensures { λ x. ⌜ x ≡ openedFor (view (now (t .entry))) r ⌝ }
 {
-    let domain = Handle {
-        slot: domain,
-        generation,
-    };
-    let to = Handle {
-        slot: to,
-        generation: to_generation,
-    };
-    frame::run(t, w, calls::Call::Channel(domain, to))
+    if r.refusal == 0 {
+        return DomainReply {
+            refusal: 0,
+            slot: r.value,
+            generation: pools::domain_generation(t, r.value as usize),
+        };
+    }
+    replies::no_domain(r.refusal)
 }
 
-pub fn set_core_map(t: &mut [u64], w: &mut [u64], domain: u64, generation: u64, cores: u64) -> Reply
-    ensures { λ r. ⌜ Returns replyOf (now (t .entry)) (now (w .entry)) (Call.Do (Step.SetCoreMap (handle domain generation) cores)) r (now (t .exit)) (now (w .exit)) ⌝ }
+// A domain without a manager.
+pub fn open_domain(t: &mut [u64], w: &mut [u64], cores: u64) -> DomainReply
+    ensures { λ r. ⌜ Returns domainReplyOf (now (t .entry)) (now (w .entry)) (Call.Do (Step.Open none cores)) r (now (t .exit)) (now (w .exit)) ⌝ }
 {
-    let domain = Handle {
-        slot: domain,
-        generation,
-    };
-    frame::run(t, w, calls::Call::SetCoreMap(domain, cores))
+    let r = frame::run(t, w, call::open(cores));
+    opened(t, r)
+}
+
+// A domain whose manager gets a Management capability.
+pub fn open_under(
+    t: &mut [u64],
+    w: &mut [u64],
+    manager: u64,
+    generation: u64,
+    cores: u64,
+) -> DomainReply
+    ensures { λ r. ⌜ Returns domainReplyOf (now (t .entry)) (now (w .entry)) (Call.Do (Step.Open (some (handle manager generation)) cores)) r (now (t .exit)) (now (w .exit)) ⌝ }
+{
+    let r = frame::run(t, w, call::open_under(manager, generation, cores));
+    opened(t, r)
 }

@@ -1,6 +1,7 @@
 // Making empty tables: the sizes are tested first, then the lengths alone.
 ghost use Rattle.model.specs.Perform.{Call};
-ghost use Rattle.frame.specs.Replies.{sizes, replyOf, Returns};
+ghost use Rattle.call.specs.Arguments.{sizes};
+ghost use Rattle.frame.specs.Replies.{replyOf, Returns};
 use frame::Reply;
 use frame::replies;
 use refusals::Refusal;

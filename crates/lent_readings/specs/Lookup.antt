@@ -28,7 +28,7 @@ use Rattle.decoded.specs.Tables.{tablesOf}
 use Rattle.decoded.specs.Words.{words-held}
 use Rattle.refine.specs.Agrees.{Agrees}
 use Rattle.refine.specs.Calls.Checks.{live-domain-refines}
-use Rattle.frame.specs.Replies.{handle}
+use Rattle.call.specs.Arguments.{handle}
 use Rattle.frame.specs.Finish.{admitted}
 use Rattle.frame.specs.Law.{lent, not-admitted, admitted-sized}
 

@@ -25,7 +25,8 @@ use Rattle.refine.specs.Agrees.{bind-assoc}
 use Rattle.refine.specs.Calls.Readings.{permissionIn, permissions-are, fill-same, fill-map}
 use Rattle.frame.specs.declared.replies.Reply as replies
 use Rattle.lent_readings.specs.declared.Listing.{Listing}
-use Rattle.frame.specs.Replies.{handle, accessOf, ListsPermissions}
+use Rattle.call.specs.Arguments.{handle}
+use Rattle.frame.specs.Replies.{accessOf, ListsPermissions}
 use Rattle.frame.specs.Finish.{replyFor}
 use Rattle.lent_readings.specs.Lookup.{domainRead, Reads, Live, Refuses, live-after, read-sized}
 use Rattle.lent_readings.specs.Readings.{is-live, is-refused}

@@ -2,7 +2,8 @@
 ghost use mathlib.Core.Path.{_≡_};
 ghost use Rattle.model.specs.Memory.{zeroed};
 ghost use Rattle.model.specs.Perform.{Call, Reading};
-ghost use Rattle.frame.specs.Replies.{handle, replyOf, Returns, ListsHolders};
+ghost use Rattle.call.specs.Arguments.{handle};
+ghost use Rattle.frame.specs.Replies.{replyOf, Returns, ListsHolders};
 ghost use Rattle.lent_readings.specs.Lookup.{domainRead};
 ghost use Rattle.lent_readings.specs.Permissions.{Plans};
 use answers::Answer;

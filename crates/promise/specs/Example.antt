@@ -8,7 +8,7 @@ use Rattle.model.specs.State.{Root, Alias, Carve}
 use Rattle.model.specs.Checked.Script.{dom}
 use Rattle.frame.specs.declared.replies.Reply.{Reply}
 use Rattle.frame.specs.declared.replies.DomainReply.{DomainReply}
-use Rattle.frame.specs.Replies.{sizes}
+use Rattle.call.specs.Arguments.{sizes}
 use Rattle.book.specs.Book.{Book, Noted, regionOf, managementOf, blank}
 use Rattle.book.specs.Example.{noting, reg, slots}
 use Rattle.promise.specs.Calls.{Called, make-tables, open-domain, open-under, create-root-region, alias-region, carve-region, send, send-with-flags, send-with-hash}

@@ -8,7 +8,7 @@ use lib.ListN.{length}
 use Rattle.bytes.specs.Numbers.{Bytes, eight-fits}
 use Rattle.bytes.specs.BytesOf.{bytesOf, number-bytes, bytes-then}
 use Rattle.model.specs.State.{Hash, HashWords}
-use Rattle.frame.specs.Replies.{hashIn}
+use Rattle.call.specs.Arguments.{hashIn}
 
 pub hash-fits : (b : List ℕ) → Bytes b → HashWords (some (hashIn b))
 hash-fits b h = (eight-fits b h 0, eight-fits b h 8, eight-fits b h 16, eight-fits b h 24)

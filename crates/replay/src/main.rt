@@ -2,8 +2,8 @@
 // for each (oracle/README.md, "Replay"). A call is eleven 64-bit words, little-endian: its kind, and its arguments.
 ghost use Rattle.tables.specs.View.{Sized};
 use answers::Answer;
-use calls::Call;
-use calls::Child;
+use call::Call;
+use call::Child;
 use region::AccessRights;
 use rights::Rights;
 use segment::SendOptions;

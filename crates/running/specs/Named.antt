@@ -1,4 +1,4 @@
--- A record's call as crate calls has it, by the record's kind (document 01, "The script program").
+-- A record's call as crate call has it, by the record's kind (document 01, "The script program").
 use mathlib.Core.Path.{_≡_, sym, ap, subst, _∙_}
 use Prim.Native.Nat.{ℕ, _-_, _^_, _<_}
 use mathlib.Core.Option.{none, some}
@@ -7,10 +7,10 @@ use borrow.Author.Tests.{eq-eqb, ne-eqb}
 use Rattle.model.specs.Perform.{Step, Call}
 use Rattle.model.specs.CallWords.{StepWords}
 use Rattle.region.specs.declared.AccessRights.{AccessRights}
-use Rattle.calls.specs.declared.Call as calls
+use Rattle.call.specs.declared.Call as code
 use Rattle.frame.specs.declared.replies.Reply.{Reply}
 use Rattle.frame.specs.Replies.{replyOf, Returns}
-use Rattle.frame.specs.Steps.{stepNamed}
+use Rattle.call.specs.Steps.{stepNamed}
 use Rattle.script_records.specs.declared.Record.{Record}
 use Rattle.script_records.specs.Script.{kindOf, handle, managerOf}
 use Rattle.script_records.specs.Parsed.{rightsFor, rightsIn, callFor, callIn}
@@ -20,7 +20,7 @@ abbrev pub accessNamed : ℕ → ℕ → ℕ → AccessRights
 accessNamed start end rights = record { start = start; end = end; ops = record { 0 = rights } }
 
 -- The call x is what the record names, and its arguments are words.
-pub record Names (r : Record) (x : calls.Call) : Type 0 where
+pub record Names (r : Record) (x : code.Call) : Type 0 where
   pub call : Call.Do (stepNamed x) ≡ callIn r
   pub words : StepWords (stepNamed x)
 
@@ -32,7 +32,7 @@ module _ (k : ℕ) (r : Record) (e : r .kind ≡ k) where
   rights-at g = subst (λ (n : ℕ). rightsFor (kindOf n) r < 256) e (g .rights)
 
   -- the call that kind k names is the record's
-  pub names-at : (x : calls.Call) → Call.Do (stepNamed x) ≡ callFor (kindOf k) r → StepWords (stepNamed x) → Names r x
+  pub names-at : (x : code.Call) → Call.Do (stepNamed x) ≡ callFor (kindOf k) r → StepWords (stepNamed x) → Names r x
   unfolding callIn
   names-at x h w = record { call = h ∙ ap (λ (n : ℕ). callFor (kindOf n) r) (sym e); words = w }
 
@@ -44,5 +44,5 @@ pub under-is : (slot gen cores : ℕ) → (slot ≡ 2 ^ 64 - 1 → ⊥) → Step
 under-is slot gen cores n = rw (ne-eqb slot (2 ^ 64 - 1) n)
 
 -- what the call named returns, the record's call returns
-pub names-returns : (r : Record) (x : calls.Call) → Names r x → (t w : List ℕ) (y : Reply) (t₂ w₂ : List ℕ) → Returns replyOf t w (Call.Do (stepNamed x)) y t₂ w₂ → Returns replyOf t w (callIn r) y t₂ w₂
+pub names-returns : (r : Record) (x : code.Call) → Names r x → (t w : List ℕ) (y : Reply) (t₂ w₂ : List ℕ) → Returns replyOf t w (Call.Do (stepNamed x)) y t₂ w₂ → Returns replyOf t w (callIn r) y t₂ w₂
 names-returns r x n t w y t₂ w₂ h = subst (λ (c : Call). Returns replyOf t w c y t₂ w₂) (n .call) h

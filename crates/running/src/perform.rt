@@ -4,7 +4,7 @@ ghost use Prim.Native.Nat.{_<_};
 ghost use Rattle.model.specs.Perform.{Step, Call};
 ghost use Rattle.model.specs.CallWords.{StepWords};
 ghost use Rattle.frame.specs.Replies.{replyOf, Returns};
-ghost use Rattle.frame.specs.Steps.{stepNamed};
+ghost use Rattle.call.specs.Steps.{stepNamed};
 ghost use Rattle.script_records.specs.Script.{managerOf};
 ghost use Rattle.script_records.specs.Parsed.{callIn};
 ghost use Rattle.running.specs.Given.{Given};
@@ -29,21 +29,21 @@ fn access(start: u64, end: u64, rights: u64) -> AccessRights
 }
 
 // Kind 1: open.
-fn opening(r: Record) -> calls::Call
+fn opening(r: Record) -> call::Call
     ensures { λ x. ⌜ (stepNamed x ≡ Step.Open (managerOf (r .a) (r .b)) (r .c)) × StepWords (stepNamed x) ⌝ }
 {
     if r.a == NO_MANAGER {
-        return calls::Call::Open(r.c);
+        return call::Call::Open(r.c);
     }
     let manager = Handle {
         slot: r.a,
         generation: r.b,
     };
-    calls::Call::OpenUnder(manager, r.c)
+    call::Call::OpenUnder(manager, r.c)
 }
 
 // Root, alias, carve, send, revoke and RegionRevoke are kinds 2 to 7.
-fn call_of(r: Record) -> calls::Call
+fn call_of(r: Record) -> call::Call
     requires { ⌜ Given r ⌝ }
     ensures { λ x. ⌜ Names r x ⌝ }
 {
@@ -55,20 +55,20 @@ fn call_of(r: Record) -> calls::Call
     let kind = r.kind;
     match kind {
         1 => opening(r),
-        2 => calls::Call::Root(domain, access(r.c, r.d, r.e)),
-        3 => calls::Call::Alias(calls::Child {
+        2 => call::Call::Root(domain, access(r.c, r.d, r.e)),
+        3 => call::Call::Alias(call::Child {
             domain,
             local,
             access: access(r.d, r.e, r.f),
         }),
-        4 => calls::Call::Carve(calls::Child {
+        4 => call::Call::Carve(call::Child {
             domain,
             local,
             access: access(r.d, r.e, r.f),
         }),
-        5 => calls::Call::Send(domain, local, r.d as usize, SendOptions::None),
-        6 => calls::Call::Revoke(domain, local),
-        _ => calls::Call::CreateRevokeCapa(domain, local),
+        5 => call::Call::Send(domain, local, r.d as usize, SendOptions::None),
+        6 => call::Call::Revoke(domain, local),
+        _ => call::Call::CreateRevokeCapa(domain, local),
     }
 }
 

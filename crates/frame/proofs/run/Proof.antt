@@ -3,7 +3,8 @@ use denote.Ref.{now}
 use Rattle.frame.specs.Replies.{replyOf}
 use Rattle.frame.specs.Finish.{each-word}
 use Rattle.frame.specs.Law.{call-returns, memory-returns, admitted-sized}
-use Rattle.frame.specs.Steps.{stepNamed, ran-step}
+use Rattle.frame.specs.Steps.{ran-step}
+use Rattle.call.specs.Steps.{stepNamed}
 use Rattle.model.specs.Perform.{Call}
 use borrow.Author.Needs.{needs}
 use Rattle.frame.proofs.run.Statement.{statement}

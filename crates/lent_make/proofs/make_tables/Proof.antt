@@ -3,7 +3,7 @@ use mathlib.Core.Path.{sym, _∙_}
 use denote.Ref.{now}
 use borrow.Author.Tests.{not-false, eqb-true}
 use Rattle.sizes.specs.Limits.{limits-true}
-use Rattle.frame.specs.Replies.{sizes}
+use Rattle.call.specs.Arguments.{sizes}
 use Rattle.lent_make.specs.Made.{sizes-refused, lengths-refused, tables-made}
 use borrow.Author.Needs.{needs}
 use Rattle.lent_make.proofs.make_tables.Statement.{statement}

@@ -40,7 +40,8 @@ use denote.Signature.{plain}
 use Rattle.readings.specs.declared.Permission.{Permission}
 use Rattle.readings.proofs.Permission as T
 use Rattle.frame.specs.declared.replies.Reply.{Reply}
-use Rattle.frame.specs.Replies.{handle, ListsPermissions}
+use Rattle.call.specs.Arguments.{handle}
+use Rattle.frame.specs.Replies.{ListsPermissions}
 use Rattle.frame.proofs.replies.Reply as R
 use Rattle.frame.proofs.replies.Reply.Laws as R′
 use Rattle.engine.proofs.read.mityvurno_permissions as callee

@@ -49,7 +49,7 @@ use Rattle.readings.proofs.found_at.Symbol as found-at-def
 use Rattle.readings.proofs.found_at.Symbol.{name as #found-at}
 use Rattle.readings.proofs.found_at.Met as found-at-thm
 use Rattle.lent_readings.specs.declared.Listing.{Listing}
-use Rattle.frame.specs.Replies.{handle}
+use Rattle.call.specs.Arguments.{handle}
 use Rattle.lent_readings.specs.Permissions.{Plans}
 use Rattle.frame.proofs.replies.Reply.Laws as R′
 use Rattle.lent_readings.proofs.Listing as P

@@ -53,7 +53,7 @@ use Rattle.readings.proofs.Found.Laws as F′
 use Rattle.readings.proofs.found_at as found-at
 use Rattle.readings.proofs.found_at.Symbol.{name as #found-at}
 use Rattle.lent_readings.specs.declared.Listing.{Listing}
-use Rattle.frame.specs.Replies.{handle}
+use Rattle.call.specs.Arguments.{handle}
 use Rattle.lent_readings.specs.Permissions.{Plans}
 use Rattle.frame.proofs.replies.Reply as R
 use Rattle.frame.proofs.replies.Reply.Laws as R′
