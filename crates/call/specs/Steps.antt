@@ -8,7 +8,7 @@ use Rattle.region.specs.declared.AccessRights.{AccessRights}
 use Rattle.segment.specs.declared.SendOptions.{SendOptions}
 use Rattle.segment.specs.declared.SendOptions.the-variants as options
 use Rattle.call.specs.declared.Call.{Call}
-use Rattle.call.specs.declared.Call.the-variants.{Open, OpenUnder, Channel, SetCoreMap, Root, Alias, Carve, Send, Revoke, CreateRevokeCapa}
+use Rattle.call.specs.declared.Call.the-variants.{Open, OpenUnder, Channel, SetCoreMap, SetInterface, FreezeInterface, Root, Alias, Carve, Send, Revoke, CreateRevokeCapa}
 
 abbrev handleFrom : Handle → state.Handle
 handleFrom h = record { slot = h .slot; generation = h .generation }
@@ -29,6 +29,8 @@ stepNamed (Open cores) = model.Open none cores
 stepNamed (OpenUnder h cores) = model.Open (some (handleFrom h)) cores
 stepNamed (Channel h to) = model.Channel (handleFrom h) (handleFrom to)
 stepNamed (SetCoreMap h cores) = model.SetCoreMap (handleFrom h) cores
+stepNamed (SetInterface h word) = model.SetInterface (handleFrom h) word
+stepNamed (FreezeInterface h) = model.FreezeInterface (handleFrom h)
 stepNamed (Root h a) = model.Root (handleFrom h) (accessIn a)
 stepNamed (Alias x) = model.Alias (handleFrom (x .domain)) (x .local) (accessIn (x .access))
 stepNamed (Carve x) = model.Carve (handleFrom (x .domain)) (x .local) (accessIn (x .access))

@@ -26,6 +26,8 @@ pub enum Call {
     OpenUnder(Handle, u64),
     Channel(Handle, Handle),
     SetCoreMap(Handle, u64),
+    SetInterface(Handle, u64),
+    FreezeInterface(Handle),
     Root(Handle, AccessRights),
     Alias(Child),
     Carve(Child),
@@ -76,6 +78,28 @@ pub fn set_core_map(domain: u64, generation: u64, cores: u64) -> Call
         generation,
     };
     Call::SetCoreMap(domain, cores)
+}
+
+pub fn set_interface(domain: u64, generation: u64, word: u64) -> Call
+    ensures { λ r. ⌜ stepNamed r ≡ Step.SetInterface (handle domain generation) word ⌝ }
+    ensures { λ r. ⌜ StepWords (stepNamed r) ⌝ }
+{
+    let domain = Handle {
+        slot: domain,
+        generation,
+    };
+    Call::SetInterface(domain, word)
+}
+
+pub fn freeze_interface(domain: u64, generation: u64) -> Call
+    ensures { λ r. ⌜ stepNamed r ≡ Step.FreezeInterface (handle domain generation) ⌝ }
+    ensures { λ r. ⌜ StepWords (stepNamed r) ⌝ }
+{
+    let domain = Handle {
+        slot: domain,
+        generation,
+    };
+    Call::FreezeInterface(domain)
 }
 
 pub fn root(domain: u64, generation: u64, start: u64, end: u64, rights: u8) -> Call

@@ -1,4 +1,4 @@
-// Domains, channels and core maps.
+// Domains, channels, core maps and interfaces.
 ghost use mathlib.Core.Option.{none, some};
 ghost use Rattle.model.specs.Perform.{Call, Step};
 ghost use Rattle.call.specs.Arguments.{handle};
@@ -54,4 +54,31 @@ pub extern "C" fn mityvurno_set_core_map(
     ensures { λ r. ⌜ Returns replyOf (now (t .entry)) (now (w .entry)) (Call.Do (Step.SetCoreMap (handle domain generation) cores)) r (now (t .exit)) (now (w .exit)) ⌝ }
 {
     frame::run(t, w, call::set_core_map(domain, generation, cores))
+}
+
+// The word of the domain's interface, in place of the one that stands.
+#[no_mangle]
+pub extern "C" fn mityvurno_set_interface(
+    t: &mut [u64],
+    w: &mut [u64],
+    domain: u64,
+    generation: u64,
+    word: u64,
+) -> Reply
+    ensures { λ r. ⌜ Returns replyOf (now (t .entry)) (now (w .entry)) (Call.Do (Step.SetInterface (handle domain generation) word)) r (now (t .exit)) (now (w .exit)) ⌝ }
+{
+    frame::run(t, w, call::set_interface(domain, generation, word))
+}
+
+// The word stays as it is from now on.
+#[no_mangle]
+pub extern "C" fn mityvurno_freeze_interface(
+    t: &mut [u64],
+    w: &mut [u64],
+    domain: u64,
+    generation: u64,
+) -> Reply
+    ensures { λ r. ⌜ Returns replyOf (now (t .entry)) (now (w .entry)) (Call.Do (Step.FreezeInterface (handle domain generation))) r (now (t .exit)) (now (w .exit)) ⌝ }
+{
+    frame::run(t, w, call::freeze_interface(domain, generation))
 }
