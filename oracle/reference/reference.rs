@@ -57,6 +57,7 @@ impl Engine {
             Call::Open { manager, cores } => self.open(manager, cores),
             Call::Channel { domain, to } => self.channel(domain, to),
             Call::SetCores { domain, cores } => self.set_cores(domain, cores),
+            Call::SetInterface { .. } | Call::FreezeInterface { .. } => unimplemented!("document 02, request 2"),
             Call::Root { domain, access } => self.root(domain, access),
             Call::Alias { domain, local, access } => self.alias(domain, local, access),
             Call::Carve { domain, local, access } => self.carve(domain, local, access),

@@ -173,6 +173,7 @@ fn kind_of(call: &Call) -> usize {
         Call::Open { .. } => 0,
         Call::Channel { .. } => 1,
         Call::SetCores { .. } => 2,
+        Call::SetInterface { .. } | Call::FreezeInterface { .. } => unimplemented!("document 02, request 2"),
         Call::Root { .. } => 3,
         Call::Alias { .. } => 4,
         Call::Carve { .. } => 5,
