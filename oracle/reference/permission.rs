@@ -1,6 +1,7 @@
 //! Document 02's request 2: "20 for a missing bit, right after the caller's 3". Send needs SEND, alias ALIAS, carve CARVE; no other call
 //! needs a bit.
 
+use crate::flags::odd;
 use crate::interface::{ALIAS, ALL, CARVE, SEND};
 use crate::seen::Branch;
 use crate::{Engine, Fault};
@@ -89,8 +90,7 @@ impl Engine {
         let Ok(d) = self.live_domain(caller) else { return };
         let lacks = self.domain(d).interface.word & SEND == 0;
         let fits = matches!(self.held(d, target), Ok(Capa::Channel(_) | Capa::Management(_)));
-        let odd = extras.flags.is_some_and(|flags| flags & 0x8f != 0 || flags & 16 != 0 && extras.hash.is_none());
         self.seen.note_if(lacks && !fits, Branch::MissingBitNoTarget);
-        self.seen.note_if(lacks && fits && odd, Branch::MissingBitFlags);
+        self.seen.note_if(lacks && fits && odd(extras), Branch::MissingBitFlags);
     }
 }
