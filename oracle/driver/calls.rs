@@ -1,4 +1,4 @@
-//! Calls and answers of document 01, and how they are printed (oracle/README.md). `lists` reads them.
+//! Calls and answers of documents 01 and 02, and how they are printed (oracle/README.md). `lists` reads them.
 
 use std::fmt;
 
@@ -68,6 +68,10 @@ pub enum Call {
     /// A Channel capability to `to`, put in `domain`'s list.
     Channel { domain: Handle, to: Handle },
     SetCores { domain: Handle, cores: u64 },
+    /// Document 02, request 2: the domain's word, SEND 2, ALIAS 8 and CARVE 16 among its bits.
+    SetInterface { domain: Handle, word: u64 },
+    /// Document 02, request 2: from here the word stands.
+    FreezeInterface { domain: Handle },
     Root { domain: Handle, access: Access },
     Alias { domain: Handle, local: u64, access: Access },
     Carve { domain: Handle, local: u64, access: Access },
@@ -100,7 +104,7 @@ pub enum Reply {
     Holders(Vec<u64>),
 }
 
-/// A reply, or document 01's refusal number.
+/// A reply, or a refusal's number.
 pub type Answer = Result<Reply, u8>;
 
 // ---- printing
@@ -169,6 +173,8 @@ impl fmt::Display for Call {
             Call::Open { manager: Some(m), cores } => write!(f, "open {m} {cores}"),
             Call::Channel { domain, to } => write!(f, "channel {domain} {to}"),
             Call::SetCores { domain, cores } => write!(f, "cores {domain} {cores}"),
+            Call::SetInterface { domain, word } => write!(f, "interface {domain} {word}"),
+            Call::FreezeInterface { domain } => write!(f, "freeze {domain}"),
             Call::Root { domain, access } => write!(f, "root {domain} {access}"),
             Call::Alias { domain, local, access } => write!(f, "alias {domain} {local} {access}"),
             Call::Carve { domain, local, access } => write!(f, "carve {domain} {local} {access}"),

@@ -8,14 +8,32 @@ pub const LIMITS: [u64; 5] = [32, 128, 1024, 1024, 128];
 
 /// How many words tables of these sizes have.
 pub fn total(z: &Sizes) -> usize {
-    let pools = (2 + 2 * z.domains) + (2 + 2 * z.regions) + (2 + 2 * z.records);
-    7 + pools + z.domains * (5 + 3 * z.slots) + 8 * z.regions + 9 * z.records + 4 * (z.updates + 1) + 5 * z.regions
+    former_total(z) + 2 * z.domains
 }
 
-/// The same words with no hash in any row of the hashes, which stand last; none where they have no sizes or another length.
+/// How many words the last delivery's tables of these sizes have: all sections but the interfaces, which stand last.
+pub fn former_total(z: &Sizes) -> usize {
+    hashes_at(z) + 5 * z.regions
+}
+
+/// Where the hashes begin.
+fn hashes_at(z: &Sizes) -> usize {
+    let pools = (2 + 2 * z.domains) + (2 + 2 * z.regions) + (2 + 2 * z.records);
+    7 + pools + z.domains * (5 + 3 * z.slots) + 8 * z.regions + 9 * z.records + 4 * (z.updates + 1)
+}
+
+/// The same words with all zeroes in the interfaces; none where they have no sizes or another length.
+pub fn without_interfaces(words: &[u64]) -> Option<Vec<u64>> {
+    sizes(words).map(|z| zeroed_from(words, former_total(&z)))
+}
+
+/// The same words with all zeroes in the hashes and the interfaces; none where they have no sizes or another length.
 pub fn without_hashes(words: &[u64]) -> Option<Vec<u64>> {
-    let rows = words.len() - 5 * sizes(words)?.regions;
-    Some(words.iter().enumerate().map(|(k, &word)| if k < rows { word } else { 0 }).collect())
+    sizes(words).map(|z| zeroed_from(words, hashes_at(&z)))
+}
+
+fn zeroed_from(words: &[u64], place: usize) -> Vec<u64> {
+    words.iter().enumerate().map(|(k, &word)| if k < place { word } else { 0 }).collect()
 }
 
 /// The tables whose words these are; none where a size is outside its limits, the length is another, or a word means nothing there.
@@ -24,13 +42,17 @@ pub fn decode(words: &[u64]) -> Option<Tables> {
     let mut w = Words(words.get(5..)?);
     let (read, write) = (w.one(), w.one());
     let (domain_pool, region_pool, record_pool) = (w.pool(sizes.domains), w.pool(sizes.regions), w.pool(sizes.records));
-    let domains = entries(&domain_pool, w.take(sizes.domains * (5 + 3 * sizes.slots)), 5 + 3 * sizes.slots, domain)?;
+    let mut domains = entries(&domain_pool, w.take(sizes.domains * (5 + 3 * sizes.slots)), 5 + 3 * sizes.slots, domain)?;
     let mut regions = entries(&region_pool, w.take(sizes.regions * 8), 8, region)?;
     let records = entries(&record_pool, w.take(sizes.records * 9), 9, record)?;
     let places = w.take((sizes.updates + 1) * 4).chunks(4).map(place).collect::<Option<Vec<_>>>()?;
-    for (region, row) in regions.iter_mut().zip(w.0.chunks(5)) {
+    for (region, row) in regions.iter_mut().zip(w.take(sizes.regions * 5).chunks(5)) {
         let hash = hash(row)?;
         region.iter_mut().for_each(|r| r.hash = hash);
+    }
+    for (domain, row) in domains.iter_mut().zip(w.take(sizes.domains * 2).chunks(2)) {
+        let frozen = flag(row[1])?;
+        domain.iter_mut().for_each(|d| (d.interface, d.frozen) = (row[0], frozen));
     }
     let tables = Tables { sizes, domain_pool, region_pool, record_pool, domains, regions, records, read, write, places };
     // What is not settled above must be 0: the words of a free entry, of an empty place, of a hash that is not there, and the like.
@@ -82,7 +104,7 @@ fn domain(w: &[u64]) -> Option<Domain> {
     let slots = w[5..].chunks(3).map(slot).collect::<Option<Vec<_>>>()?;
     let (held, links) = slots.into_iter().unzip();
     let list = Pool { head: w[3], count: w[4], links, gens: Vec::new() };
-    Some(Domain { manager: link(w[0]), cores: w[1], tracker: link(w[2]), list, held })
+    Some(Domain { manager: link(w[0]), cores: w[1], interface: 0, frozen: false, tracker: link(w[2]), list, held })
 }
 
 /// What the slot holds, and its free link.
@@ -116,6 +138,15 @@ fn hash(w: &[u64]) -> Option<Option<RegionHash>> {
     match w[0] {
         0 => Some(None),
         1 => Some(Some(RegionHash::of_words([w[1], w[2], w[3], w[4]]))),
+        _ => None,
+    }
+}
+
+/// 0 or 1.
+fn flag(word: u64) -> Option<bool> {
+    match word {
+        0 => Some(false),
+        1 => Some(true),
         _ => None,
     }
 }

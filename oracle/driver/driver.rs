@@ -14,4 +14,6 @@ pub mod script;
 pub mod scripts;
 
 mod drawn;
+mod interfaces;
+mod outside_interfaces;
 mod outside_flags;

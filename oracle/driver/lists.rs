@@ -7,7 +7,8 @@ use crate::calls::{Access, Call, Extras, Handle, PoolName, RegionHash};
 /// The calls that a script has, too.
 const SCRIPT: [&str; 7] = ["open", "root", "alias", "carve", "send", "revoke", "region-revoke"];
 
-const OTHERS: [&str; 8] = ["channel", "cores", "pop", "core-map", "permissions", "refcount", "holders", "generation"];
+const OTHERS: [&str; 10] =
+    ["channel", "cores", "interface", "freeze", "pop", "core-map", "permissions", "refcount", "holders", "generation"];
 
 const HANDLE: &str = "a handle as 0.0 (slot, generation)";
 
@@ -137,6 +138,8 @@ fn call(name: &str, mut w: Words) -> Result<Call, String> {
         "open" => Call::Open { manager: w.manager()?, cores: w.number("cores")? },
         "channel" => Call::Channel { domain: w.handle("domain")?, to: w.handle("to")? },
         "cores" => Call::SetCores { domain: w.handle("domain")?, cores: w.number("cores")? },
+        "interface" => Call::SetInterface { domain: w.handle("domain")?, word: w.number("word")? },
+        "freeze" => Call::FreezeInterface { domain: w.handle("domain")? },
         "root" => Call::Root { domain: w.handle("domain")?, access: w.access()? },
         "alias" => Call::Alias { domain: w.handle("domain")?, local: w.number("local")?, access: w.access()? },
         "carve" => Call::Carve { domain: w.handle("domain")?, local: w.number("local")?, access: w.access()? },

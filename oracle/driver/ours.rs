@@ -42,6 +42,8 @@ fn words(call: &Call, sizes: &Sizes) -> Words {
         Call::Permissions { domain: d } => put(12, &[d.slot, d.gen]),
         Call::Refcount { domain: d, start, end } => put(13, &[d.slot, d.gen, start, end]),
         Call::Holders { address } => put(14, &[address]),
+        Call::SetInterface { domain: d, word } => put(17, &[d.slot, d.gen, word]),
+        Call::FreezeInterface { domain: d } => put(18, &[d.slot, d.gen]),
         Call::Generation { pool, slot, gen } => put(15, &[generations_at(pool, sizes) + slot, gen]),
     }
     out

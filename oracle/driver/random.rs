@@ -4,6 +4,8 @@
 use shared::calls::{Access, Call, Extras, Handle, PoolName, RegionHash, Sizes};
 use shared::tables::{Capa, Kind, Region, Tables};
 
+use crate::interfaces;
+
 /// SplitMix64.
 #[derive(Clone)]
 pub struct Random(pub u64);
@@ -36,8 +38,8 @@ impl Random {
 pub struct Style {
     base: u64,
     span: u64,
-    /// Weights of open, channel, cores, root, alias, carve, send, revoke, region-revoke, pop, readings.
-    weights: [u64; 11],
+    /// Weights of open, channel, cores, root, alias, carve, send, revoke, region-revoke, pop, readings, interface and freeze.
+    weights: [u64; 12],
     /// Rights words that roots get; `None`: any byte.
     plain_rights: bool,
     /// Once in so many times something absurd is named.
@@ -46,13 +48,13 @@ pub struct Style {
     domains: usize,
 }
 
-const WEIGHTS: [[u64; 11]; 6] = [
-    [2, 3, 1, 3, 8, 8, 8, 8, 3, 3, 2],
-    [2, 4, 1, 3, 3, 3, 16, 4, 4, 0, 1],
-    [1, 2, 1, 6, 12, 12, 2, 14, 2, 6, 1],
-    [1, 2, 1, 8, 16, 4, 2, 1, 1, 1, 1],
-    [1, 1, 0, 2, 4, 16, 2, 3, 2, 2, 1],
-    [2, 2, 2, 4, 5, 5, 5, 5, 5, 0, 1],
+const WEIGHTS: [[u64; 12]; 6] = [
+    [2, 3, 1, 3, 8, 8, 8, 8, 3, 3, 2, 3],
+    [2, 4, 1, 3, 3, 3, 16, 4, 4, 0, 1, 2],
+    [1, 2, 1, 6, 12, 12, 2, 14, 2, 6, 1, 1],
+    [1, 2, 1, 8, 16, 4, 2, 1, 1, 1, 1, 1],
+    [1, 1, 0, 2, 4, 16, 2, 3, 2, 2, 1, 1],
+    [2, 2, 2, 4, 5, 5, 5, 5, 5, 0, 1, 2],
 ];
 
 impl Style {
@@ -76,7 +78,7 @@ impl Style {
     /// Roots and aliases in ever more domains, hardly any revoked: regions or records run out.
     pub fn filling(random: &mut Random) -> Style {
         let span = random.pick(&[4, 4, 1000, 100_000]);
-        Style { base: 0, span, weights: [2, 0, 0, 16, 8, 1, 0, 0, 0, 0, 0], plain_rights: span == 4, absurd: 400, domains: usize::MAX }
+        Style { base: 0, span, weights: [2, 0, 0, 16, 8, 1, 0, 0, 0, 0, 0, 0], plain_rights: span == 4, absurd: 400, domains: usize::MAX }
     }
 
     fn address(&self, random: &mut Random) -> u64 {
@@ -152,7 +154,8 @@ pub fn call(random: &mut Random, style: &Style, tables: &Tables) -> Call {
         7 => Call::Revoke { domain, local: any_local(random, style, tables, domain, |c| revocable(tables, c)) },
         8 => Call::RegionRevoke { domain, local: any_local(random, style, tables, domain, |c| needed(kind, c)) },
         9 => Call::Pop,
-        _ => reading(random, style, domain),
+        10 => reading(random, style, domain),
+        _ => interfaces::call(random, tables, domain),
     }
 }
 

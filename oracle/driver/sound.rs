@@ -1,7 +1,7 @@
 //! Document 01's paragraph **Sound**, tested on tables clause by clause, in plain loops.
 
 use crate::calls::{Handle, Update};
-use crate::decode::{decode, without_hashes};
+use crate::decode::{decode, without_hashes, without_interfaces};
 use crate::tables::{Capa, Domain, Kind, Pool, Region, Tables};
 
 /// The first clause that the tables break, if any.
@@ -11,8 +11,10 @@ pub fn broken_clause(t: &Tables) -> Option<&'static str> {
 
 /// The same of words, whatever they are.
 pub fn fault(words: &[u64]) -> Option<&'static str> {
+    let but_for = |zeroed: Option<Vec<u64>>| zeroed.is_some_and(|w| decode(&w).is_some());
     match decode(words) {
-        None if without_hashes(words).is_some_and(|w| decode(&w).is_some()) => Some(HASHES),
+        None if but_for(without_interfaces(words)) => Some(INTERFACES),
+        None if but_for(without_hashes(words)) => Some(HASHES),
         None => Some(WORDS),
         Some(tables) => broken_clause(&tables),
     }
@@ -20,10 +22,11 @@ pub fn fault(words: &[u64]) -> Option<&'static str> {
 
 /// What `fault` can name.
 pub fn clauses() -> impl Iterator<Item = &'static str> {
-    CLAUSES.iter().map(|(name, _)| *name).chain([HASHES, WORDS])
+    CLAUSES.iter().map(|(name, _)| *name).chain([INTERFACES, HASHES, WORDS])
 }
 
-/// They are the words of tables but for their rows of hashes.
+/// They are the words of tables but for their rows of interfaces; but for those and their rows of hashes.
+const INTERFACES: &str = "a row of the interfaces has a word, and 1 or 0; zeroes where no domain is";
 const HASHES: &str = "a row of the hashes has 1 and four words, or zeroes; zeroes where no region is";
 const WORDS: &str = "they are the words of tables";
 

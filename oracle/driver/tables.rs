@@ -27,6 +27,9 @@ pub struct Domain {
     /// The manager's slot.
     pub manager: Option<u64>,
     pub cores: u64,
+    /// Document 02, request 2: the word, and whether it is frozen.
+    pub interface: u64,
+    pub frozen: bool,
     /// The first tracker record's slot.
     pub tracker: Option<u64>,
     /// The free list of the domain's slots; `gens` is empty.
@@ -122,6 +125,11 @@ fn hash_words(hash: Option<RegionHash>) -> [u64; 5] {
     [1, a, b, c, d]
 }
 
+/// The word, and whether it is frozen.
+fn interface_words(domain: &Domain) -> [u64; 2] {
+    [domain.interface, u64::from(domain.frozen)]
+}
+
 fn record_words(record: &Record) -> [u64; 9] {
     let c = record.counts;
     [record.start, record.end, c[0], c[1], c[2], c[3], c[4], c[5], link(record.next)]
@@ -153,6 +161,7 @@ impl Tables {
         out.extend(self.records.iter().flat_map(|r| r.as_ref().map_or([0; 9], record_words)));
         out.extend(self.places.iter().flat_map(|u| u.as_ref().map_or([0; 4], update_words)));
         out.extend(self.regions.iter().flat_map(|r| hash_words(r.as_ref().and_then(|r| r.hash))));
+        out.extend(self.domains.iter().flat_map(|d| d.as_ref().map_or([0; 2], interface_words)));
         out
     }
 
@@ -170,6 +179,7 @@ impl Tables {
         for (i, d) in self.domains.iter().enumerate() {
             let Some(d) = d else { continue };
             out.push(format!("domain {i}: manager {:?} cores {} tracker {:?}", d.manager, d.cores, d.tracker));
+            out.push(format!("domain {i} interface: {}{}", d.interface, if d.frozen { " frozen" } else { "" }));
             out.push(format!("domain {i} list: head {} count {} free {:?}", d.list.head, d.list.count, d.list.free()));
             let held = d.held.iter().enumerate().filter_map(|(l, c)| c.map(|c| (l, c)));
             out.extend(held.map(|(l, c)| format!("domain {i} local {l}: {c:?}")));

@@ -1,7 +1,10 @@
-//! Calls that document 01 adds (**Added by us**): no update is queued, and the engine's own functions do the work.
+//! Calls that document 01 adds (**Added by us**): no update is queued, and the engine's own functions do the work. Document 02's request 2
+//! says with which word a domain opens; the Rust's is 0.
 
 use crate::capa::Capa;
 use crate::domain::{has_capacity_for, insert_capa};
+use crate::permission::monitor_inter_perm::{ALIAS, CARVE, SEND};
+use crate::permission::PermissionIndex;
 use crate::{CapaEngine, CapaError, Domain, Handle, LocalCapa};
 
 /// Opens a domain; a manager gets a Management capability. 15 is `None` of `allocate`, which is answered as `InvalidValue`.
@@ -13,6 +16,7 @@ pub fn open(engine: &mut CapaEngine, manager: Option<Handle<Domain>>, cores: u64
         insert_capa(m, Capa::management(handle), &mut engine.regions, &mut engine.domains)?;
     }
     set_cores(engine, handle, cores);
+    engine.set_domain_permission(handle, PermissionIndex::MonitorInterface, SEND | ALIAS | CARVE)?;
     Ok(handle)
 }
 

@@ -17,7 +17,7 @@ use shared::tables::{self, Tables};
 use crate::config::{NB_CAPAS_PER_DOMAIN, NB_DOMAINS, NB_REGIONS, NB_TRACKER, NB_UPDATES};
 use crate::cores::CoreList;
 use crate::gen_arena::GenArena;
-use crate::permission::Permissions;
+use crate::permission::{PermissionIndex, Permissions};
 use crate::region::Region;
 use crate::segment::{HandleIterator, RegionCapa, RegionHash, RegionKind};
 use crate::update::UpdateBuffer;
@@ -246,6 +246,8 @@ fn domain_of(d: &DomainMirror) -> tables::Domain {
     tables::Domain {
         manager: d.manager.map(slot),
         cores: d.cores,
+        interface: d.permissions.perm[PermissionIndex::MonitorInterface as usize],
+        frozen: d.permissions.freezed,
         tracker: d.regions.head.map(slot),
         list: pool_of(&d.free_list, &[]),
         held: (0..NB_CAPAS_PER_DOMAIN).map(held).collect(),
@@ -326,7 +328,9 @@ fn domain_agrees(engine: &CapaEngine, t: &Tables, i: usize, d: &tables::Domain) 
         here && record.is_some_and(|q| (q.start, q.end) == (r.get_start() as u64, r.get_end() as u64))
     });
     let manager = domain.get_manager().map(numbers).is_none_or(|m| is_live_domain(engine, m));
-    list && tracker && next.is_none() && manager && domain.get_manager().map(slot) == d.manager && domain.cores() == d.cores
+    let interface = domain.monitor_interface() == d.interface && domain.is_frozen_permissions() == d.frozen;
+    let own = domain.get_manager().map(slot) == d.manager && domain.cores() == d.cores && interface;
+    list && tracker && next.is_none() && manager && own
 }
 
 fn region_agrees(engine: &CapaEngine, t: &Tables, i: usize, r: &tables::Region) -> bool {

@@ -65,6 +65,8 @@ exported! {
     mityvurno_open_under(manager: u64, generation: u64, cores: u64) -> DomainReply;
     mityvurno_open_channel(domain: u64, generation: u64, to: u64, to_generation: u64) -> Reply;
     mityvurno_set_core_map(domain: u64, generation: u64, cores: u64) -> Reply;
+    mityvurno_set_interface(domain: u64, generation: u64, word: u64) -> Reply;
+    mityvurno_freeze_interface(domain: u64, generation: u64) -> Reply;
     mityvurno_create_root_region(domain: u64, generation: u64, start: u64, end: u64, rights: u8) -> Reply;
     mityvurno_alias_region(domain: u64, generation: u64, local: u64, start: u64, end: u64, rights: u8) -> Reply;
     mityvurno_carve_region(domain: u64, generation: u64, local: u64, start: u64, end: u64, rights: u8) -> Reply;
@@ -103,6 +105,8 @@ pub fn perform(t: &mut [u64], w: &mut [u64], call: &Call, run: &mut [u64]) -> Nu
         Call::Open { manager: Some(m), cores } => call!(mityvurno_open_under, t, w, m.slot, m.gen, cores),
         Call::Channel { domain: d, to } => call!(mityvurno_open_channel, t, w, d.slot, d.gen, to.slot, to.gen),
         Call::SetCores { domain: d, cores } => call!(mityvurno_set_core_map, t, w, d.slot, d.gen, cores),
+        Call::SetInterface { domain: d, word } => call!(mityvurno_set_interface, t, w, d.slot, d.gen, word),
+        Call::FreezeInterface { domain: d } => call!(mityvurno_freeze_interface, t, w, d.slot, d.gen),
         Call::Root { domain: d, access: a } => call!(mityvurno_create_root_region, t, w, d.slot, d.gen, a.start, a.end, a.rights),
         Call::Alias { domain: d, local, access: a } => call!(mityvurno_alias_region, t, w, d.slot, d.gen, local, a.start, a.end, a.rights),
         Call::Carve { domain: d, local, access: a } => call!(mityvurno_carve_region, t, w, d.slot, d.gen, local, a.start, a.end, a.rights),
