@@ -21,6 +21,8 @@ driver ours PROGRAM SEED CALLS LENGTH  random lists, the Rust beside the proved 
 driver ours PROGRAM FILE               a sample
 driver linked SEED CALLS LENGTH        random lists, the Rust beside the exported functions of libengine.a
 driver damage SEED SHAPES LENGTH WORDS sound tables by lists of up to LENGTH calls, damaged, lent to the exported functions
+driver convert SEED SHAPES LENGTH WORDS  the last delivery's tables, sound and damaged, lent to the converter
+driver convert FILE                    the last delivery's tables as it wrote them, and the lists that made them
 driver script < SCRIPT                 what the script program is to print
 driver scripts PROGRAM SEED COUNT      random scripts, the Rust beside the script program
 driver outside                         what the Rust does outside the domain of equality
@@ -72,8 +74,12 @@ fn command(words: &[&str]) -> Result<bool, String> {
         ["linked", seed, calls, l] => Ok(linked::compare(number(seed)?, number(calls)?, length(l)?)),
         #[cfg(linked)]
         ["damage", seed, shapes, l, words] => Ok(linked::damage(number(seed)?, number(shapes)?, length(l)?, length(words)?)),
+        #[cfg(linked)]
+        ["convert", seed, shapes, l, words] => Ok(linked::convert(number(seed)?, number(shapes)?, length(l)?, length(words)?)),
+        #[cfg(linked)]
+        ["convert", file] => linked::kept(file),
         #[cfg(not(linked))]
-        ["linked" | "damage", ..] => Err("built without target/staticlib/libengine.a: run `rt staticlib engine` and oracle/build".to_string()),
+        ["linked" | "damage" | "convert", ..] => Err("built without target/staticlib/libengine.a: run `rt staticlib engine` and oracle/build".to_string()),
         ["script"] => script::print(),
         ["scripts", program, seed, count] => scripts::compare(program, number(seed)?, number(count)?),
         ["outside"] => Ok(outside::check()),
