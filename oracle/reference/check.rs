@@ -1,4 +1,7 @@
-//! Tests the reference: document 01's example and marked cases, and a list for each fault.
+//! Tests the reference: document 01's example and marked cases, lists with answers from the documents, conversions, and a list for each fault.
+
+mod check_answers;
+mod check_convert;
 
 use reference::{Engine, Fault};
 use shared::calls::{show, Answer, Call, Handle, Reply, Sizes, Update};
@@ -19,6 +22,8 @@ fn main() {
     counts();
     ring_of_128();
     facts();
+    check_answers::answers();
+    check_convert::conversions();
     faults();
     println!("the reference passes document 01's example and cases");
 }
@@ -137,14 +142,19 @@ fn facts() {
 
 // ---- faults.txt and flags.txt
 
+/// The five numbers of a line of sizes.
+fn sizes(line: &str) -> Sizes {
+    let numbers: Vec<usize> = line.split_whitespace().map(|word| word.parse().expect("a size")).collect();
+    let [domains, slots, regions, records, updates] = numbers[..] else { panic!("five sizes: {line}") };
+    Sizes { domains, slots, regions, records, updates }
+}
+
 /// The sizes line, the calls and the name in the first comment of one part of these.
 fn part(text: &str) -> (String, Sizes, Vec<Call>) {
     let name = text.lines().next().unwrap_or("").trim().to_string();
     let rest = text.lines().skip(1).collect::<Vec<_>>().join("\n");
     let line = rest.lines().find_map(|line| line.strip_prefix("sizes ")).expect("a line of sizes");
-    let numbers: Vec<usize> = line.split_whitespace().map(|word| word.parse().expect("a size")).collect();
-    let [domains, slots, regions, records, updates] = numbers[..] else { panic!("five sizes: {line}") };
-    (name, Sizes { domains, slots, regions, records, updates }, calls(&rest))
+    (name, sizes(line), calls(&rest))
 }
 
 /// Does the port with the fault differ from the one without?

@@ -74,8 +74,8 @@ fn domain_entry(domain: &Domain) -> tables::Domain {
     tables::Domain {
         manager: domain.manager.map(|m| m as u64),
         cores: domain.cores,
-        interface: 26,
-        frozen: false,
+        interface: domain.interface.word,
+        frozen: domain.interface.frozen,
         tracker: domain.tracker.first().map(|r| r.slot as u64),
         list: tables::Pool::of_stack(domain.held.len(), &next_first(&domain.free), Vec::new()),
         held: domain.held.clone(),

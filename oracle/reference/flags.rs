@@ -13,6 +13,11 @@ fn others(flags: u8) -> u8 {
     flags & !(HASH | CLEANUP | VITAL)
 }
 
+/// Would a region's send refuse these, with 18 or 19?
+pub fn odd(extras: Extras) -> bool {
+    extras.flags.is_some_and(|flags| others(flags) != 0 || flags & HASH != 0 && extras.hash.is_none())
+}
+
 impl Engine {
     /// 18 for a flag other than HASH, CLEANUP or VITAL, then 19 for HASH without a hash; without a flag word neither.
     pub fn flags_fit(&mut self, capa: Capa, extras: Extras) -> Result<(), u8> {
@@ -83,7 +88,6 @@ impl Engine {
 
     /// For other capabilities both are ignored.
     pub fn note_ignored(&mut self, capa: Capa, extras: Extras) {
-        let odd = extras.flags.is_some_and(|flags| others(flags) != 0 || flags & HASH != 0 && extras.hash.is_none());
-        self.seen.note_if(odd && !matches!(capa, Capa::Region(_)), Branch::FlagsIgnored);
+        self.seen.note_if(odd(extras) && !matches!(capa, Capa::Region(_)), Branch::FlagsIgnored);
     }
 }

@@ -1,5 +1,6 @@
 //! The plain lists that stand for document 01's tables.
 
+use crate::interface::Interface;
 use shared::calls::{Access, RegionHash, Sizes, Update};
 use shared::tables::{Capa, Kind};
 use std::collections::{BTreeMap, VecDeque};
@@ -26,6 +27,8 @@ pub struct Pool {
 pub struct Domain {
     pub manager: Option<usize>,
     pub cores: u64,
+    /// Document 02, request 2.
+    pub interface: Interface,
     /// By local number; `None` is a free slot.
     pub held: Vec<Option<Capa>>,
     /// The free slots; the last is given next.

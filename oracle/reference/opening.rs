@@ -1,16 +1,20 @@
 //! The calls added by document 01 that open domains and channels and set core maps.
 
+use crate::interface::{ALL, SEND};
 use crate::lists::{fresh, Domain, Pool};
 use crate::seen::Branch;
-use crate::Engine;
+use crate::{Engine, Fault};
 use shared::calls::{Answer, Handle, PoolName, Reply};
 use shared::tables::Capa;
 use std::sync::Arc;
 
 impl Engine {
-    /// Opening: 3 (given a manager), 15, 12. A manager gets a Management capability; nothing is queued.
+    /// Opening: 3 (given a manager), 15, 12. A manager gets a Management capability; nothing is queued. It needs no bit.
     pub fn open(&mut self, manager: Option<Handle>, cores: u64) -> Answer {
         let manager = manager.map(|handle| self.live_domain(handle)).transpose()?;
+        if let Some(m) = manager {
+            self.asks_wrongly(Fault::OpeningAsksSend, m, SEND)?;
+        }
         if self.lists.domain_pool.free.is_empty() {
             return Err(15);
         }
@@ -21,7 +25,8 @@ impl Engine {
         self.seen.note_if(self.lists.domain_pool.free.is_empty(), Branch::DomainsOut);
         let handle = Handle { slot: d as u64, gen: self.lists.domain_pool.gens[d] };
         let slots = self.sizes.slots;
-        let domain = Domain { manager, cores, held: vec![None; slots], free: fresh(slots), tracker: Vec::new() };
+        let interface = self.first_interface(manager);
+        let domain = Domain { manager, cores, interface, held: vec![None; slots], free: fresh(slots), tracker: Vec::new() };
         self.lists.domains[d] = Some(Arc::new(domain));
         if let Some(m) = manager {
             self.give_slot(m, Capa::Management(handle));
@@ -29,11 +34,13 @@ impl Engine {
         Ok(Reply::Domain(handle))
     }
 
-    /// Channel: 3 for either, 12.
+    /// Channel: 3 for either, 12. It needs no bit.
     pub fn channel(&mut self, domain: Handle, to: Handle) -> Answer {
         let d = self.live_domain(domain)?;
         self.live_domain(to)?;
+        self.asks_wrongly(Fault::ChannelAsksSend, d, SEND)?;
         self.make_room(d)?;
+        self.seen.note_if(self.domain(d).interface.word & ALL == 0, Branch::ChannelWithout);
         Ok(Reply::Local(self.give_slot(d, Capa::Channel(to))))
     }
 
@@ -42,6 +49,9 @@ impl Engine {
         let d = self.live_domain(domain)?;
         let queued_with_other = self.queued(domain).is_some_and(|queued| queued != cores);
         self.seen.note_if(queued_with_other, Branch::CoresWhileQueued);
+        if self.wrong(Fault::FreezeStopsCores) && self.domain(d).interface.frozen {
+            return Err(21);
+        }
         self.domain_mut(d).cores = cores;
         Ok(Reply::Done)
     }

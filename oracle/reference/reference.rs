@@ -1,10 +1,14 @@
-//! Document 01's calls over plain lists and stacks, and the flags and hashes at send of document 02's request 1. A wrong port can be put in as a fault.
+//! Document 01's calls over plain lists and stacks, and document 02's requests 1 (flags and hashes at send) and 2 (each domain's word). A wrong port
+//! can be put in as a fault.
 
+mod convert;
 mod entries;
 mod faults;
 mod flags;
+mod interface;
 mod lists;
 mod opening;
+mod permission;
 mod queue;
 mod readings;
 mod regions;
@@ -14,6 +18,7 @@ mod send;
 mod slots;
 mod tracker;
 
+pub use convert::{convert, Lent};
 pub use faults::Fault;
 pub use seen::Seen;
 
@@ -57,7 +62,8 @@ impl Engine {
             Call::Open { manager, cores } => self.open(manager, cores),
             Call::Channel { domain, to } => self.channel(domain, to),
             Call::SetCores { domain, cores } => self.set_cores(domain, cores),
-            Call::SetInterface { .. } | Call::FreezeInterface { .. } => unimplemented!("document 02, request 2"),
+            Call::SetInterface { domain, word } => self.set_interface(domain, word),
+            Call::FreezeInterface { domain } => self.freeze_interface(domain),
             Call::Root { domain, access } => self.root(domain, access),
             Call::Alias { domain, local, access } => self.alias(domain, local, access),
             Call::Carve { domain, local, access } => self.carve(domain, local, access),

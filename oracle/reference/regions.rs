@@ -1,5 +1,6 @@
 //! Root, alias, carve and RegionRevoke making.
 
+use crate::interface::{ALIAS, ALL, CARVE};
 use crate::lists::{Region, CLEANUP, HASH, VITAL};
 use crate::seen::Branch;
 use crate::{Engine, Fault};
@@ -8,9 +9,10 @@ use shared::tables::{Capa, Kind};
 use std::sync::Arc;
 
 impl Engine {
-    /// Root: 3, 11, 12, 7.
+    /// Root: 3, 11, 12, 7. It needs no bit.
     pub fn root(&mut self, domain: Handle, access: Access) -> Answer {
         let d = self.live_domain(domain)?;
+        self.asks_wrongly(Fault::RootAsksCarve, d, CARVE)?;
         self.room_for_region(d)?;
         nonempty(access)?;
         let local = self.new_region(d, Kind::Root, access);
@@ -20,7 +22,7 @@ impl Engine {
 
     /// Alias: the new region has the parent's domain, which gains the range.
     pub fn alias(&mut self, domain: Handle, local: u64, access: Access) -> Answer {
-        let (d, parent) = self.parent(domain, local, access)?;
+        let (d, parent) = self.parent(domain, ALIAS, local, access)?;
         self.lies_in(parent, access)?;
         self.overlaps_no(parent, access, |kind| matches!(kind, Kind::Carve(_)))?;
         let local = self.new_region(d, Kind::Alias(parent as u64), access);
@@ -30,7 +32,7 @@ impl Engine {
 
     /// Carve: as alias, but it overlaps no child of either kind.
     pub fn carve(&mut self, domain: Handle, local: u64, access: Access) -> Answer {
-        let (d, parent) = self.parent(domain, local, access)?;
+        let (d, parent) = self.parent(domain, CARVE, local, access)?;
         self.lies_in(parent, access)?;
         self.overlaps_no(parent, access, |_| true)?;
         let local = self.new_region(d, Kind::Carve(parent as u64), access);
@@ -41,21 +43,25 @@ impl Engine {
         Ok(Reply::Local(local))
     }
 
-    /// RegionRevoke making: 3, 4, 5, 6, 9, 12.
+    /// RegionRevoke making: 3, 4, 5, 6, 9, 12. It needs no bit.
     pub fn make_region_revoke(&mut self, domain: Handle, local: u64) -> Answer {
         let d = self.live_domain(domain)?;
+        self.asks_wrongly(Fault::RegionRevokeAsksAlias, d, ALIAS)?;
         let handle = self.held_region(d, local)?;
         if self.region(handle.slot as usize).kind == Kind::Root {
             return Err(9);
         }
         self.make_room(d)?;
+        self.seen.note_if(self.domain(d).interface.word & ALL == 0, Branch::RegionRevokeWithout);
         Ok(Reply::Local(self.give_slot(d, Capa::RegionRevoke(handle))))
     }
 
-    /// Alias and carve up to the range: 3, 4, 5, 6, 11, 12, 7. Answers the domain and the parent.
-    fn parent(&mut self, domain: Handle, local: u64, access: Access) -> Result<(usize, usize), u8> {
-        let d = self.live_domain(domain)?;
+    /// Alias and carve up to the range: 3, 20 for their bit, 4, 5, 6, 11, 12, 7. Answers the domain and the parent.
+    fn parent(&mut self, domain: Handle, bit: u64, local: u64, access: Access) -> Result<(usize, usize), u8> {
+        self.note_slot(domain, bit, local);
+        let d = self.caller_with(domain, bit)?;
         let handle = self.held_region(d, local)?;
+        self.asked_after_slot(d, bit)?;
         self.room_for_region(d)?;
         nonempty(access)?;
         Ok((d, handle.slot as usize))

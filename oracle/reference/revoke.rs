@@ -1,5 +1,6 @@
 //! Revoke.
 
+use crate::interface::{ALL, SEND};
 use crate::lists::CLEANUP;
 use crate::seen::Branch;
 use crate::{Engine, Fault};
@@ -7,9 +8,11 @@ use shared::calls::{Access, Answer, Handle, Reply, Update};
 use shared::tables::{Capa, Kind};
 
 impl Engine {
-    /// Revoke: 3, 4, 10, 6, 9. The caller's slot becomes None, still in use until a sweep.
+    /// Revoke: 3, 4, 10, 6, 9; "Revoke needs no bit." The caller's slot becomes None, still in use until a sweep.
     pub fn revoke(&mut self, domain: Handle, local: u64) -> Answer {
         let d = self.live_domain(domain)?;
+        self.asks_wrongly(Fault::RevokeAsksSend, d, SEND)?;
+        self.seen.note_if(self.domain(d).interface.word & ALL == 0, Branch::RevokedWithout);
         match self.held(d, local)? {
             Capa::Management(_) => return Err(10),
             Capa::Region(handle) => {

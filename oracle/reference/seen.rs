@@ -68,11 +68,28 @@ pub enum Branch {
     ZeroHash,
     FlagsIgnored,
     FlagAndHash,
+    OpenedUnderLess,
+    ChannelWithout,
+    RegionRevokeWithout,
+    RevokedWithout,
+    SentToNone,
+    BitAlone,
+    CallerFrozen,
+    OthersSet,
+    StrangeBitsOnly,
+    DeadWithoutBit,
+    MissingBitNoSlot,
+    MissingBitNoTarget,
+    MissingBitFlags,
+    DeadFrozen,
+    FrozenSameWord,
+    FrozenTwice,
+    SetAgain,
 }
 
 use Branch::*;
 
-const BRANCHES: usize = 63;
+const BRANCHES: usize = 80;
 
 /// Each branch with its name, in the order of the enum.
 const NAMES: [(Branch, &str); BRANCHES] = [
@@ -139,6 +156,23 @@ const NAMES: [(Branch, &str); BRANCHES] = [
     (ZeroHash, "send: an all-zero hash"),
     (FlagsIgnored, "send: flags of another capability that a region's send would refuse"),
     (FlagAndHash, "send: 18 and 19 together"),
+    (OpenedUnderLess, "open: under a manager that lacks a bit"),
+    (ChannelWithout, "channel: into a domain with none of the three bits"),
+    (RegionRevokeWithout, "region-revoke: with none of the three bits"),
+    (RevokedWithout, "revoke: with none of the three bits"),
+    (SentToNone, "send: to a domain with none of the three bits"),
+    (BitAlone, "the bit needed alone of the three"),
+    (CallerFrozen, "the bit needed, and the word frozen"),
+    (OthersSet, "20: the other two bits set"),
+    (StrangeBitsOnly, "20: bits set, none of the three"),
+    (DeadWithoutBit, "3: another generation, the slot's domain lacks the bit"),
+    (MissingBitNoSlot, "20: the local slot is free, too"),
+    (MissingBitNoTarget, "20: the target slot is wrong, too"),
+    (MissingBitFlags, "20: 18 or 19, too"),
+    (DeadFrozen, "3: another generation, the slot's word is frozen"),
+    (FrozenSameWord, "21: the word that it has"),
+    (FrozenTwice, "freeze: frozen already"),
+    (SetAgain, "interface: a word in another's place"),
 ];
 
 const _: () = {
@@ -149,15 +183,17 @@ const _: () = {
     }
 };
 
-/// Each call's word and the refusals that it can give, as document 01's order of checks has them; 18 and 19 are document 02's.
-const REFUSALS: [(&str, &[u8]); 15] = [
+const CALLS: usize = 17;
+
+/// Each call's word and the refusals that it can give, as document 01's order of checks has them; 18 to 21 are document 02's.
+const REFUSALS: [(&str, &[u8]); CALLS] = [
     ("open", &[3, 15, 12]),
     ("channel", &[3, 12]),
     ("cores", &[3]),
     ("root", &[3, 11, 12, 7, 13, 14, 16]),
-    ("alias", &[3, 4, 5, 6, 11, 12, 7, 8, 13, 16]),
-    ("carve", &[3, 4, 5, 6, 11, 12, 7, 8, 13, 14, 16]),
-    ("send", &[3, 4, 5, 12, 10, 6, 18, 19, 13, 14, 16]),
+    ("alias", &[3, 20, 4, 5, 6, 11, 12, 7, 8, 13, 16]),
+    ("carve", &[3, 20, 4, 5, 6, 11, 12, 7, 8, 13, 14, 16]),
+    ("send", &[3, 20, 4, 5, 12, 10, 6, 18, 19, 13, 14, 16]),
     ("revoke", &[3, 4, 10, 6, 9, 13, 14, 16]),
     ("region-revoke", &[3, 4, 5, 6, 9, 12]),
     ("pop", &[]),
@@ -166,6 +202,8 @@ const REFUSALS: [(&str, &[u8]); 15] = [
     ("refcount", &[3]),
     ("holders", &[]),
     ("generation", &[]),
+    ("interface", &[3, 21]),
+    ("freeze", &[3]),
 ];
 
 fn kind_of(call: &Call) -> usize {
@@ -173,7 +211,6 @@ fn kind_of(call: &Call) -> usize {
         Call::Open { .. } => 0,
         Call::Channel { .. } => 1,
         Call::SetCores { .. } => 2,
-        Call::SetInterface { .. } | Call::FreezeInterface { .. } => unimplemented!("document 02, request 2"),
         Call::Root { .. } => 3,
         Call::Alias { .. } => 4,
         Call::Carve { .. } => 5,
@@ -186,37 +223,44 @@ fn kind_of(call: &Call) -> usize {
         Call::Refcount { .. } => 12,
         Call::Holders { .. } => 13,
         Call::Generation { .. } => 14,
+        Call::SetInterface { .. } => 15,
+        Call::FreezeInterface { .. } => 16,
     }
 }
 
 /// Whether a branch counts in a refused call: the refusal is what was met there.
 const fn of_refusal(branch: Branch) -> bool {
-    matches!(branch, MergeSpent | SelfSendFull | SweptSent | DeadRegionMet | FlagAndHash)
+    matches!(
+        branch,
+        MergeSpent | SelfSendFull | SweptSent | DeadRegionMet | FlagAndHash
+            | OthersSet | StrangeBitsOnly | DeadWithoutBit | MissingBitNoSlot | MissingBitNoTarget | MissingBitFlags
+            | DeadFrozen | FrozenSameWord
+    )
 }
 
-/// Accepted, and refused with 1 to 19.
-const ANSWERS: usize = 20;
+/// Accepted, and refused with 1 to 21.
+const ANSWERS: usize = 22;
 
 /// Numbers of calls: accepted (place 0) and refused by number, and those that met each branch.
 #[derive(Clone)]
 pub struct Seen {
-    answers: [[u64; ANSWERS]; 15],
+    answers: [[u64; ANSWERS]; CALLS],
     branches: [u64; BRANCHES],
     /// The branches of the call that runs, one bit for each.
-    now: u64,
+    now: u128,
 }
 
 impl Seen {
     pub fn new() -> Seen {
-        Seen { answers: [[0; ANSWERS]; 15], branches: [0; BRANCHES], now: 0 }
+        Seen { answers: [[0; ANSWERS]; CALLS], branches: [0; BRANCHES], now: 0 }
     }
 
     pub fn note(&mut self, branch: Branch) {
-        self.now |= 1 << branch as u64;
+        self.now |= 1 << branch as u32;
     }
 
     pub fn note_if(&mut self, met: bool, branch: Branch) {
-        self.now |= u64::from(met) << branch as u64;
+        self.now |= u128::from(met) << branch as u32;
     }
 
     /// Counts a call's answer and the branches that it met; a refused call undid the other branches.
@@ -244,7 +288,7 @@ impl Seen {
     /// Every name with its count, 0 where it was not met: `no 13`, `root ok`, `root 13` and the branches.
     pub fn counts(&self) -> Vec<(String, u64)> {
         let total = |number: usize| self.answers.iter().map(|row| row[number]).sum();
-        let mut out: Vec<(String, u64)> = (3..=16).chain(18..=19).map(|n| (format!("no {n}"), total(n))).collect();
+        let mut out: Vec<(String, u64)> = (3..=16).chain(18..=21).map(|n| (format!("no {n}"), total(n))).collect();
         for ((word, numbers), row) in REFUSALS.iter().zip(&self.answers) {
             out.push((format!("{word} ok"), row[0]));
             for number in 1..row.len() {

@@ -1,15 +1,19 @@
 //! Send.
 
+use crate::interface::{ALL, SEND};
 use crate::seen::Branch;
 use crate::{Engine, Fault};
 use shared::calls::{Access, Answer, Extras, Handle, Reply};
 use shared::tables::{Capa, Kind};
 
 impl Engine {
-    /// Send: 3, the target slot 4, 5, 3, then 12 there, then the sent slot as it is after that sweep: 4, 10, 6, and for a region 18, 19.
+    /// Send: 3, 20, the target slot 4, 5, 3, then 12 there, then the sent slot as it is after that sweep: 4, 10, 6, and for a region 18, 19.
     pub fn send(&mut self, domain: Handle, local: u64, target: u64, extras: Extras) -> Answer {
-        let from = self.live_domain(domain)?;
+        self.note_slot(domain, SEND, local);
+        self.note_send_refused(domain, target, extras);
+        let from = self.caller_with(domain, SEND)?;
         let to = self.target(from, target)?;
+        self.asked_after_target(from, local, to)?;
         let looked = if self.wrong(Fault::SendLooksFirst) { Some(self.sendable_with(from, local, extras)?) } else { None };
         self.room_to_send(from, local, to)?;
         let capa = match looked {
@@ -136,6 +140,7 @@ impl Engine {
 
     fn note_send(&mut self, from: usize, to: usize, capa: Capa, same_slot: bool) {
         self.seen.note_if(same_slot, Branch::SentIsTarget);
+        self.seen.note_if(self.domain(to).interface.word & ALL == 0, Branch::SentToNone);
         match capa {
             Capa::None => self.seen.note(Branch::SentNone),
             Capa::Region(_) => self.seen.note_if(from == to, Branch::SelfSend),

@@ -1,0 +1,121 @@
+//! Tests the converter of request 2: docs/TABLES.md's small example, changed in one place after another, with answers from the documents.
+
+use reference::{convert, Lent};
+use shared::tables::Tables;
+
+/// The small example of docs/TABLES.md, as the last delivery had it.
+#[rustfmt::skip]
+const OLD: [u64; 125] = [
+    2, 2, 3, 3, 1, 0, 1,
+    1, 1, 0, 1, 0, 0,
+    1, 1, 0, 3, 1, 0, 0, 0,
+    1, 1, 0, 3, 1, 0, 0, 0,
+    0, 5, 1, 1, 1, 2, 0, 0, 1, 0, 0,
+    0, 0, 0, 0, 0, 0, 0, 0, 0, 0, 0,
+    1, 1, 0, 0, 16, 3, 0, 0,
+    0, 0, 0, 0, 0, 0, 0, 0,
+    0, 0, 0, 0, 0, 0, 0, 0,
+    0, 16, 1, 1, 1, 0, 0, 0, 0,
+    0, 0, 0, 0, 0, 0, 0, 0, 0,
+    0, 0, 0, 0, 0, 0, 0, 0, 0,
+    1, 0, 0, 5,
+    0, 0, 0, 0,
+    0, 0, 0, 0, 0,
+    0, 0, 0, 0, 0,
+    0, 0, 0, 0, 0,
+];
+
+/// What is put behind: domain 0 with all three bits, unfrozen; slot 1 is free.
+const ROWS: [u64; 4] = [26, 0, 0, 0];
+
+/// The new tables' length.
+const NEW: usize = 129;
+
+/// The example with some words changed.
+fn changed(words: &[(usize, u64)]) -> Vec<u64> {
+    let mut old = OLD.to_vec();
+    words.iter().for_each(|&(place, word)| old[place] = word);
+    old
+}
+
+fn accepted(old: &[u64]) {
+    assert_eq!(convert(old, Lent::of(NEW)), Ok([old, &ROWS].concat()));
+}
+
+pub fn conversions() {
+    accepted(&OLD);
+    kept();
+    lengths();
+    unsound();
+    println!("the converter passes its cases");
+}
+
+/// "keep the rest": what sound tables may hold in the example's place goes over as it is.
+fn kept() {
+    accepted(&changed(&[(30, u64::MAX)])); // the core map, while the domain is queued with another
+    accepted(&changed(&[(12, 9)])); // a free domain slot's generation
+    accepted(&changed(&[(11, 9), (104, 9)])); // the live domain's, queued with that
+    accepted(&changed(&[(110, 1), (111, u64::MAX), (114, 7)])); // a hash
+    accepted(&changed(&[(6, 0), (102, 0), (105, 0)])); // the ring is empty
+    accepted(&changed(&[(56, 67)])); // VITAL: no count knows it
+}
+
+/// "1 for wrong lengths".
+fn lengths() {
+    let refused = |old: &[u64], lent: Lent| assert_eq!(convert(old, lent), Err(1));
+    refused(&[], Lent::of(NEW));
+    refused(&[], Lent::of(0));
+    refused(&OLD[..4], Lent::of(NEW));
+    refused(&OLD[..5], Lent::of(NEW));
+    refused(&OLD[..124], Lent::of(NEW));
+    refused(&OLD[..110], Lent::of(NEW)); // without the hashes: the delivery before
+    refused(&[&OLD[..], &[0]].concat(), Lent::of(NEW));
+    refused(&[&OLD[..], &ROWS].concat(), Lent::of(NEW)); // converted already
+    refused(&[&OLD[..], &ROWS].concat(), Lent::of(NEW + 4));
+    for wrong in [0, OLD.len(), NEW - 1, NEW + 1] {
+        refused(&OLD, Lent { tables: wrong, ..Lent::of(NEW) });
+        refused(&OLD, Lent { work: wrong, ..Lent::of(NEW) });
+        refused(&OLD, Lent { other_work: wrong, ..Lent::of(NEW) });
+        refused(&OLD, Lent::of(wrong));
+    }
+}
+
+/// "1 for .. unsound old tables": each change breaks one thing that document 01 asks, or a word of docs/TABLES.md.
+fn unsound() {
+    let unsound: [&[(usize, u64)]; 22] = [
+        &[(0, 0)], // a stored size outside its limits
+        &[(0, 33)],
+        &[(4, 129)],
+        &[(0, u64::MAX)],
+        &[(0, 1)], // another length
+        &[(5, 2)], // the ring's read place outside it
+        &[(6, 0)], // an update in a place that is not queued
+        &[(7, 0)], // the domain pool's head in use
+        &[(8, 2)], // its count
+        &[(9, 1)], // the live domain free
+        &[(10, 0)], // the free one neither free nor a domain
+        &[(29, 1)], // its own manager
+        &[(34, 3)], // the region has no Region slot
+        &[(36, 1)], // a handle newer than its slot
+        &[(40, 7)], // a free domain's words
+        &[(55, 0)], // an empty range
+        &[(56, 1)], // counts that are not the regions'
+        &[(76, 17)], // a record that is too long
+        &[(103, 1)], // a queued domain that is not live
+        &[(106, 1)], // a queued place behind the write place
+        &[(110, 2)], // no row of the hashes
+        &[(115, 1)], // a hash of no region
+    ];
+    for words in unsound {
+        assert_eq!(convert(&changed(words), Lent::of(NEW)), Err(1), "{words:?}");
+    }
+}
+
+/// The tables without their words carry over: the rows are those of domains as they open, whatever they were.
+pub fn carries_over(tables: &Tables, place: &str) {
+    let mut opened = tables.clone();
+    opened.domains.iter_mut().flatten().for_each(|d| (d.interface, d.frozen) = (26, false));
+    let words = tables.words();
+    let old = &words[..words.len() - 2 * tables.sizes.domains];
+    assert_eq!(convert(old, Lent::of(words.len())), Ok(opened.words()), "{place}");
+}
