@@ -12,10 +12,10 @@ use super::damage::{named, sizes};
 use super::edits::{self, Tester as _};
 use super::exported;
 use super::fill;
-use super::former::{self, Kept};
 use super::lent::{self, Lent};
 use super::shapes::{Edits, Shape};
 use super::Both;
+use driver::former::{self, Kept};
 use driver::random::Random;
 
 const SOUND: &str = "none: they are sound";

@@ -5,7 +5,6 @@ mod conversions;
 mod damage;
 mod edits;
 mod exported;
-mod former;
 mod lent;
 mod runs;
 mod shapes;

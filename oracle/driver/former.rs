@@ -1,8 +1,10 @@
 //! Tables of the last delivery: what this delivery's are to be, and files that hold such tables (oracle/README.md, "The converter").
 
-use shared::calls::Call;
+use shared::calls::{show, Call};
 use shared::decode::{former_total, stored_sizes};
 use shared::lists::parse;
+
+use crate::judge::Judge;
 
 /// SEND, ALIAS and CARVE: every domain's word as it opens.
 const OPENED: u64 = 26;
@@ -42,6 +44,29 @@ pub fn read(file: &str) -> Result<Vec<Kept>, String> {
         }
     }
     Ok(lists)
+}
+
+/// What is wrong with kept tables: the judge must answer the list as it stands, and come to what these tables are to be.
+fn wrong(kept: &Kept) -> Option<String> {
+    let mut judge = Judge::new();
+    for (k, (call, stored)) in kept.calls.iter().enumerate() {
+        let answer = show(&judge.perform(call));
+        if answer != *stored {
+            return Some(format!("call {}, {call} -> {stored}: the Rust answers {answer}", k + 1));
+        }
+    }
+    (carried(&kept.words) != Some(judge.tables().words())).then(|| "the Rust comes to other words".to_string())
+}
+
+/// The kept tables of a file that have this build's sizes, beside the Rust's of the same lists.
+pub fn check(file: &str) -> Result<bool, String> {
+    let kept = read(file)?;
+    if let Some((k, wrong)) = kept.iter().enumerate().find_map(|(k, kept)| wrong(kept).map(|w| (k, w))) {
+        println!("{file}: tables {}: {wrong}", k + 1);
+        return Ok(false);
+    }
+    println!("{} tables of {file} are the Rust's of their lists, but for the interfaces", kept.len());
+    Ok(!kept.is_empty())
 }
 
 /// Hex numbers; `0*9` is nine zeroes.
