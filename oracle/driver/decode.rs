@@ -60,13 +60,17 @@ pub fn decode(words: &[u64]) -> Option<Tables> {
 }
 
 fn sizes(words: &[u64]) -> Option<Sizes> {
+    stored_sizes(words).filter(|z| total(z) == words.len())
+}
+
+/// The five sizes that stand first; none where one is outside its limits.
+pub fn stored_sizes(words: &[u64]) -> Option<Sizes> {
     let stored = words.get(..5)?;
     if !stored.iter().zip(LIMITS).all(|(&n, limit)| 1 <= n && n <= limit) {
         return None;
     }
     let n = |k: usize| stored[k] as usize;
-    let sizes = Sizes { domains: n(0), slots: n(1), regions: n(2), records: n(3), updates: n(4) };
-    (total(&sizes) == words.len()).then_some(sizes)
+    Some(Sizes { domains: n(0), slots: n(1), regions: n(2), records: n(3), updates: n(4) })
 }
 
 /// The words that are not read yet; there are enough of them.

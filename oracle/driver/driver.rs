@@ -3,6 +3,7 @@
 
 pub mod compare;
 pub mod fixed;
+pub mod former;
 pub mod judge;
 pub mod leftovers;
 pub mod met;

@@ -7,12 +7,16 @@ use shared::tables::Tables;
 use crate::compare::differs;
 use crate::judge::Judge;
 
-/// A call as it stands in a file, with its line there.
+/// A call as it stands in a file, with its line there, and what is said of entries behind it or below it.
 pub struct Stored<'a> {
     line: usize,
     text: &'a str,
     pub call: Call,
+    entries: Vec<Entry<'a>>,
 }
+
+/// `region` or `domain`, a slot, and what the entry there has after the call.
+type Entry<'a> = (&'a str, &'a str, &'a str);
 
 impl Stored<'_> {
     /// What stands between `->` and a comment.
@@ -20,11 +24,13 @@ impl Stored<'_> {
         let (_, answer) = self.text.split_once("->")?;
         Some(answer.split('#').next().unwrap_or("").trim())
     }
+}
 
-    /// What stands behind `# region`: a slot, `has`, and what the region there has after the call.
-    fn region(&self) -> Option<&str> {
-        self.text.split_once("# region ").map(|(_, region)| region)
-    }
+/// The entry that a comment is about, as `# region 0 has 19 -` or `# domain 0 has 26 frozen`.
+fn entry(text: &str) -> Option<Entry<'_>> {
+    let (kind, rest) = text.split_once("# ")?.1.split_once(' ')?;
+    let (slot, said) = rest.split_once(" has ")?;
+    (matches!(kind, "region" | "domain") && slot.parse::<usize>().is_ok()).then_some((kind, slot, said))
 }
 
 /// The lists of a text that have this build's sizes.
@@ -34,22 +40,25 @@ pub fn lists(text: &str) -> Result<Vec<Vec<Stored<'_>>>, String> {
     for (k, text) in text.lines().enumerate() {
         if text.starts_with("sizes ") {
             wanted = text == own;
-            lists.extend(wanted.then(Vec::new));
-        } else if let (true, Some(call)) = (wanted, parse(text).map_err(|e| format!("line {}: {e}", k + 1))?) {
-            lists.last_mut().expect("a list has begun").push(Stored { line: k + 1, text, call });
+            lists.extend(wanted.then(Vec::<Stored>::new));
         }
+        let Some(list) = lists.last_mut().filter(|_| wanted) else { continue };
+        if let Some(call) = parse(text).map_err(|e| format!("line {}: {e}", k + 1))? {
+            list.push(Stored { line: k + 1, text, call, entries: Vec::new() });
+        }
+        list.iter_mut().last().into_iter().for_each(|stored| stored.entries.extend(entry(text)));
     }
     Ok(lists)
 }
 
-/// A region's rights and hash, as `Stored::region` has them; a free slot has none.
-fn region(tables: &Tables, said: &str) -> String {
-    let slot = said.split(' ').next().unwrap_or("");
-    let region = slot.parse().ok().and_then(|slot: usize| tables.regions.get(slot)?.as_ref());
-    match region {
-        Some(region) => format!("{slot} has {} {}", region.rights, hash_word(region.hash)),
-        None => format!("{slot} has none"),
-    }
+/// What an entry has: a region its rights and hash, a domain its word and whether it is frozen.
+fn found(tables: &Tables, (kind, slot, _): Entry) -> String {
+    let slot: usize = slot.parse().expect("a number, by `entry`");
+    let found = match kind {
+        "region" => tables.regions.get(slot).and_then(|r| r.as_ref()).map(|r| format!("{} {}", r.rights, hash_word(r.hash))),
+        _ => tables.domains.get(slot).and_then(|d| d.as_ref()).map(|d| format!("{}{}", d.interface, if d.frozen { " frozen" } else { "" })),
+    };
+    found.unwrap_or("none".to_string())
 }
 
 /// The first line that differs from what the Rust answers or has, or where the reference differs from the Rust.
@@ -61,10 +70,10 @@ fn wrong(list: &[Stored]) -> Option<String> {
     let mut judge = Judge::new();
     list.iter().find_map(|stored| {
         let answer = show(&judge.perform(&stored.call));
-        let region = stored.region().map(|said| region(&judge.tables(), said));
-        let as_said = stored.answer() == Some(&answer) && region.as_deref() == stored.region();
-        let region = region.map_or(String::new(), |r| format!(" # region {r}"));
-        (!as_said).then(|| format!("{}: {}\nfound {answer}{region}", stored.line, stored.text))
+        let mut wrong = stored.entries.iter().map(|entry| (entry, found(&judge.tables(), *entry))).filter(|(entry, found)| entry.2 != found);
+        let entry = wrong.next().map(|((kind, slot, _), found)| format!("{kind} {slot} has {found}"));
+        let said = stored.answer() == Some(&answer) && entry.is_none();
+        (!said).then(|| format!("{}: {}\nfound {answer}; {}", stored.line, stored.text, entry.unwrap_or_default()))
     })
 }
 

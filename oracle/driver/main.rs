@@ -8,7 +8,7 @@ use shared::lists::parse;
 use shared::tables::Tables;
 
 use driver::judge::{self, Judge};
-use driver::{compare, fixed, leftovers, ours, outside, sample, script, scripts};
+use driver::{compare, fixed, former, leftovers, ours, outside, sample, script, scripts};
 
 const USAGE: &str = "driver run [tables|words]              answers to the calls on standard input; then every entry, or every word, of the tables
 driver compare SEED CALLS LENGTH       random lists, the Rust beside the reference
@@ -21,6 +21,9 @@ driver ours PROGRAM SEED CALLS LENGTH  random lists, the Rust beside the proved 
 driver ours PROGRAM FILE               a sample
 driver linked SEED CALLS LENGTH        random lists, the Rust beside the exported functions of libengine.a
 driver damage SEED SHAPES LENGTH WORDS sound tables by lists of up to LENGTH calls, damaged, lent to the exported functions
+driver convert SEED SHAPES LENGTH WORDS  the last delivery's tables, sound and damaged, lent to the converter
+driver convert FILE                    the last delivery's tables as it wrote them, and the lists that made them
+driver former FILE                     the same tables and lists beside the Rust
 driver script < SCRIPT                 what the script program is to print
 driver scripts PROGRAM SEED COUNT      random scripts, the Rust beside the script program
 driver outside                         what the Rust does outside the domain of equality
@@ -63,6 +66,7 @@ fn command(words: &[&str]) -> Result<bool, String> {
             missed.iter().for_each(|name| println!("NOT told apart: {name}"));
             Ok(missed.is_empty())
         }
+        ["former", file] => former::check(file),
         ["mirror", seed, lists] => Ok(sample::mirror(number(seed)?, number(lists)?)),
         ["sample", seed, lists, l] => Ok(sample::print(number(seed)?, number(lists)?, length(l)?)),
         ["replay", file] => sample::replay(file),
@@ -72,8 +76,12 @@ fn command(words: &[&str]) -> Result<bool, String> {
         ["linked", seed, calls, l] => Ok(linked::compare(number(seed)?, number(calls)?, length(l)?)),
         #[cfg(linked)]
         ["damage", seed, shapes, l, words] => Ok(linked::damage(number(seed)?, number(shapes)?, length(l)?, length(words)?)),
+        #[cfg(linked)]
+        ["convert", seed, shapes, l, words] => Ok(linked::convert(number(seed)?, number(shapes)?, length(l)?, length(words)?)),
+        #[cfg(linked)]
+        ["convert", file] => linked::kept(file),
         #[cfg(not(linked))]
-        ["linked" | "damage", ..] => Err("built without target/staticlib/libengine.a: run `rt staticlib engine` and oracle/build".to_string()),
+        ["linked" | "damage" | "convert", ..] => Err("built without target/staticlib/libengine.a: run `rt staticlib engine` and oracle/build".to_string()),
         ["script"] => script::print(),
         ["scripts", program, seed, count] => scripts::compare(program, number(seed)?, number(count)?),
         ["outside"] => Ok(outside::check()),

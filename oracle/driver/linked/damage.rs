@@ -11,9 +11,8 @@ use shared::sound::{clauses, fault};
 use super::exported::{self, Numbers};
 use super::fill;
 use super::lent::{self, Lent};
+use super::edits::{self, Tester as _};
 use super::shapes::{self, Edits, Shape};
-use super::twists;
-use driver::compare::shorten;
 use driver::random::Random;
 
 const SOUND: &str = "none: they are sound";
@@ -85,69 +84,43 @@ fn agrees(clause: Option<&str>, got: Numbers, before: &[u64], after: &[u64], wor
     work.iter().all(|w| *w == 0).then_some(()).ok_or(format!("answered {got:?}, and the work area is not zero"))
 }
 
-// ---- edits of sound tables
+impl edits::Tester for Tester {
+    fn random(&mut self) -> &mut Random {
+        &mut self.random
+    }
 
-fn with_edits(tester: &mut Tester, shape: &Shape, edits: Edits) -> Result<(), String> {
-    let call = tester.call(&shape.tables());
-    let words = shape.edited(&edits);
-    tester.test(&words, words.len(), &call).map_err(|what| smallest(&shape.list, edits, &call, what))
+    fn with_edits(&mut self, shape: &Shape, edits: Edits) -> Result<(), String> {
+        let call = self.call(&shape.tables());
+        let words = shape.edited(&edits);
+        self.test(&words, words.len(), &call).map_err(|what| smallest(&shape.list, edits, &call, what))
+    }
 }
 
-/// Cuts the list that made the tables and the edits down, while any disagreement remains.
-fn smallest(list: &[Call], mut edits: Edits, call: &Call, what: String) -> String {
+/// The disagreement with the smallest list and edits that show one.
+fn smallest(list: &[Call], edits: Edits, call: &Call, what: String) -> String {
     let differs = |list: &[Call], edits: &Edits| {
         let words = Shape::of(list).edited(edits);
         Tester::new(1).test(&words, words.len(), call).err()
     };
-    let list = shorten(list.to_vec(), |l| differs(l, &edits).map(|_| l.len()));
-    edits = shorten(edits, |e| differs(&list, &e.to_vec()).map(|_| e.len()));
-    let shape = Shape::of(&list);
-    let mut out = format!("{what}\ncut down:\nsizes {}\n", engine::utils::mirror::sizes());
-    list.iter().for_each(|call| out += &format!("{call}\n"));
-    edits.iter().for_each(|&(k, value)| out += &format!("word {k}, {}, becomes {value}\n", shape.words[k]));
-    out + &format!("then `{call}`: {}", differs(&list, &edits).unwrap_or_default())
-}
-
-/// The k-th word of a sample: the header, and then mostly words that are not 0, since most words of large tables are.
-fn sampled(random: &mut Random, words: &[u64], k: usize) -> usize {
-    let mut at = k;
-    while k >= 7 && (at == k || words[at] == 0 && !random.one_in(40)) {
-        at = random.below(words.len() as u64) as usize;
-    }
-    at
-}
-
-/// Single words, `words` of them or all, with several values each; and for each word four edits of several words, four twists and a row of
-/// the hashes.
-fn edits(tester: &mut Tester, shape: &Shape, words: usize) -> Result<(), String> {
-    let n = shape.words.len();
-    let all = words >= n;
-    for k in 0..words.min(n) {
-        let k = if all { k } else { sampled(&mut tester.random, &shape.words, k) };
-        for value in shapes::values(&mut tester.random, &shape.words, k) {
-            with_edits(tester, shape, vec![(k, value)])?;
-        }
-        for _ in 0..4 {
-            let edits = [shapes::several(&mut tester.random, &shape.words), twists::twist(&mut tester.random, shape)];
-            edits.into_iter().try_for_each(|edits| with_edits(tester, shape, edits))?;
-        }
-        let row = shapes::hash_row(&mut tester.random, shape);
-        with_edits(tester, shape, row)?;
-    }
-    Ok(())
+    format!("{what}\n{}\nby `{call}`", edits::smallest(list, edits, differs))
 }
 
 // ---- lengths and contents
 
 /// Sizes within the limits, mostly small.
-fn sizes(random: &mut Random) -> [u64; 5] {
+pub fn sizes(random: &mut Random) -> [u64; 5] {
     let most = random.pick(&[2, 3, 5, 12, 1024]);
     LIMITS.map(|limit| 1 + random.below(limit.min(most)))
 }
 
+/// The same by name.
+pub fn named([domains, slots, regions, records, updates]: [u64; 5]) -> Sizes {
+    let n = |size: u64| size as usize;
+    Sizes { domains: n(domains), slots: n(slots), regions: n(regions), records: n(records), updates: n(updates) }
+}
+
 fn total_of(z: [u64; 5]) -> usize {
-    let [domains, slots, regions, records, updates] = z.map(|n| n as usize);
-    total(&Sizes { domains, slots, regions, records, updates })
+    total(&named(z))
 }
 
 /// The tables cut off or with more words behind them, and work areas of other lengths.
@@ -202,8 +175,8 @@ fn any_words(tester: &mut Tester, shape: &Shape) -> Result<(), String> {
 fn one_shape(tester: &mut Tester, length: usize, words: usize) -> Result<(), String> {
     let shape = Shape::random(&mut tester.random, length);
     tester.turn_memory(shape.words.len(), shape.words.len());
-    with_edits(tester, &shape, Vec::new())?;
-    edits(tester, &shape, words)?;
+    tester.with_edits(&shape, Vec::new())?;
+    edits::each(tester, &shape, words)?;
     lengths(tester, &shape)?;
     for _ in 0..20 {
         stored_sizes(tester, &shape)?;

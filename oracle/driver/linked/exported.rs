@@ -82,6 +82,15 @@ exported! {
     mityvurno_permissions(domain: u64, generation: u64, run: *mut u64, places: usize) -> Reply;
 }
 
+mod converter {
+    use super::Reply;
+    extern "C" {
+        pub fn mityvurno_convert_tables(
+            old: *const u64, old_words: usize, t: *mut u64, n: usize, v: *mut u64, k: usize, w: *mut u64, m: usize,
+        ) -> Reply;
+    }
+}
+
 /// Where a slice starts. An empty one is passed as null, as C may do.
 fn start(s: &mut [u64]) -> *mut u64 {
     if s.is_empty() { ptr::null_mut() } else { s.as_mut_ptr() }
@@ -96,6 +105,13 @@ macro_rules! call {
 pub fn make(t: &mut [u64], w: &mut [u64], sizes: [u64; 5]) -> Numbers {
     let [domains, slots, regions, records, updates] = sizes;
     call!(mityvurno_make_tables, t, w, domains, slots, regions, records, updates)
+}
+
+/// Tables of the last delivery become tables of this one; `first` and `second` are work areas.
+pub fn convert(old: &[u64], tables: &mut [u64], first: &mut [u64], second: &mut [u64]) -> Numbers {
+    let from = if old.is_empty() { ptr::null() } else { old.as_ptr() };
+    let (t, v, w) = (start(tables), start(first), start(second));
+    unsafe { converter::mityvurno_convert_tables(from, old.len(), t, tables.len(), v, first.len(), w, second.len()) }.into()
 }
 
 /// The exported function for a call. A reading's list goes into `run`: three words for each permission, one for each holder.

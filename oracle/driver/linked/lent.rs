@@ -18,7 +18,8 @@ mod libc {
 }
 
 const PAGE: usize = 4096;
-/// PROT_READ | PROT_WRITE, and MAP_PRIVATE | MAP_ANONYMOUS, on Linux.
+/// PROT_READ, PROT_READ | PROT_WRITE, and MAP_PRIVATE | MAP_ANONYMOUS, on Linux.
+const READ: i32 = 1;
 const READ_WRITE: i32 = 3;
 const ANONYMOUS: i32 = 0x22;
 
@@ -37,11 +38,25 @@ impl Lent {
         let map = unsafe { libc::mmap(ptr::null_mut(), bytes, 0, ANONYMOUS, -1, 0) };
         assert!(map as isize != -1, "no memory to map");
         let first = unsafe { map.add(PAGE) };
-        if inner > 0 {
-            assert!(unsafe { libc::mprotect(first, inner, READ_WRITE) } == 0, "no memory to use");
-        }
         let start = unsafe { first.add(if at_end { inner - 8 * length } else { 0 }) };
-        Lent { map, bytes, start: start as *mut u64, length }
+        let lent = Lent { map, bytes, start: start as *mut u64, length };
+        lent.protect(READ_WRITE);
+        lent
+    }
+
+    /// While `f` runs, the words may be read only: one that is written ends the program.
+    pub fn read_only<T>(&self, f: impl FnOnce(&[u64]) -> T) -> T {
+        self.protect(READ);
+        let out = f(self);
+        self.protect(READ_WRITE);
+        out
+    }
+
+    fn protect(&self, protection: i32) {
+        let inner = self.bytes - 2 * PAGE;
+        if inner > 0 {
+            assert!(unsafe { libc::mprotect(self.map.add(PAGE), inner, protection) } == 0, "no memory to protect");
+        }
     }
 }
 

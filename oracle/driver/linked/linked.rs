@@ -1,13 +1,16 @@
 //! The exported functions in this process, beside the judge: every answer, every word of the tables after each call, and a work area that
 //! is dirty before each call and all zero behind it.
 
+mod conversions;
 mod damage;
+mod edits;
 mod exported;
 mod lent;
 mod runs;
 mod shapes;
 mod twists;
 
+pub use conversions::{convert, kept};
 pub use damage::damage;
 
 use shared::calls::{show, Answer, Call};

@@ -77,13 +77,20 @@ pub fn several(random: &mut Random, words: &[u64]) -> Edits {
     pairs.flat_map(|(i, j)| [(i, words[j]), (j, words[i])]).collect()
 }
 
-/// A row of the hashes, which stand last: a hash, none, and rows that are neither. A free slot's has to be zero.
+/// A row of the hashes, which stand before the interfaces: a hash, none, and rows that are neither. A free slot's has to be zero.
 pub fn hash_row(random: &mut Random, shape: &Shape) -> Edits {
-    let regions = engine::utils::mirror::sizes().regions as u64;
-    let row = shape.words.len() - 5 * (1 + random.below(regions) as usize);
+    let sizes = engine::utils::mirror::sizes();
+    let row = shape.words.len() - 2 * sizes.domains - 5 * (1 + random.below(sizes.regions as u64) as usize);
     let [given, word] = random.pick(&[[0, 0], [1, 0], [1, 9], [0, 9], [2, 0], [2, 9], [u64::MAX, 9]]);
     let set = 1 + random.below(4) as usize;
     [(row, given)].into_iter().chain((1..5).map(|k| (row + k, if k == set { word } else { 0 }))).collect()
+}
+
+/// A row of the interfaces, which stand last: any word, frozen or not, and rows that are neither. A free slot's has to be zero.
+pub fn interface_row(random: &mut Random, shape: &Shape) -> Edits {
+    let row = shape.words.len() - 2 * (1 + random.below(engine::utils::mirror::sizes().domains as u64) as usize);
+    let word = random.pick(&[0, 26, 1, u64::MAX]);
+    vec![(row, word), (row + 1, random.pick(&[0, 1, 2, 26, u64::MAX]))]
 }
 
 /// The exported calls in turn, on a domain that is live, if any is.
@@ -95,7 +102,7 @@ pub fn turn(random: &mut Random, number: u64, tables: &Tables) -> Call {
     let access = Access { start: random.below(8), end: random.below(20), rights: random.pick(&[1, 3, 33]) };
     let flags = Some(random.pick(&[0, 16, 32, 64, 3]));
     let send = |extras| Call::Send { domain, local, target, extras };
-    match number % 17 {
+    match number % 19 {
         0 => Call::Pop,
         1 => Call::Open { manager: None, cores: 1 },
         2 => Call::Open { manager: Some(domain), cores: 2 },
@@ -111,7 +118,9 @@ pub fn turn(random: &mut Random, number: u64, tables: &Tables) -> Call {
         12 => Call::Permissions { domain },
         13 => Call::Refcount { domain, start: access.start, end: access.end },
         14 => Call::Holders { address: access.start },
-        15 => send(Extras { flags, hash: None }),
+        15 => Call::SetInterface { domain, word: access.end },
+        16 => Call::FreezeInterface { domain },
+        17 => send(Extras { flags, hash: None }),
         _ => send(Extras { flags, hash: Some(RegionHash([7; 32])) }),
     }
 }
