@@ -17,7 +17,10 @@ pub mod output;
 
 pub const MAKE: u64 = 16;
 
-pub const END: u64 = 17;
+// The first of the kinds behind making, both of them steps.
+pub const SET_INTERFACE: u64 = 17;
+
+pub const END: u64 = 19;
 
 // A call as it is read: its kind and its arguments, the last four of them a send's hash.
 pub struct Request {
@@ -67,7 +70,7 @@ fn child(domain: Handle, c: Request) -> Child {
     }
 }
 
-// The calls that are one step on the tables, by their kinds 0 to 9.
+// The calls that are one step on the tables, by their kinds 0 to 9, 17 and 18.
 fn call_of(c: Request) -> Call {
     let h = handle(c.a, c.b);
     let kind = c.kind;
@@ -81,6 +84,8 @@ fn call_of(c: Request) -> Call {
         6 => Call::Revoke(h, c.c as usize),
         7 => Call::CreateRevokeCapa(h, c.c as usize),
         8 => Call::Channel(h, handle(c.c, c.d)),
+        17 => Call::SetInterface(h, c.c),
+        18 => Call::FreezeInterface(h),
         _ => Call::SetCoreMap(h, c.c),
     }
 }
@@ -182,7 +187,7 @@ fn raise(t: &mut [u64], i: usize, v: u64) {
 fn run(t: &mut [u64], w: &mut [u64], c: Request)
     requires { ⌜ Sized (now t) ⌝ }
 {
-    if c.kind <= 9 {
+    if c.kind <= 9 || SET_INTERFACE <= c.kind {
         run_change(t, w, c);
     } else if c.kind == 10 {
         run_pop(t);
