@@ -10,9 +10,11 @@ mod timing;
 
 use std::hint::black_box;
 
+use engine::permission::PermissionIndex::MonitorInterface;
 use engine::utils::{calls, mirror};
 use engine::{CapaEngine, LocalCapa, MemOps};
 use shared::calls::{Access, Call, Extras, Handle};
+use shared::decode::former_total;
 
 use full::{aliased, carved, domain, in_use, own_channel, read_write, room, roots};
 use table::{timed, words};
@@ -38,6 +40,13 @@ impl Rows {
         println!("| {name} | {smallest:.1} | {:.0} | {:.0} | {median:.1} to {largest:.0} |", a.smallest / self.copy, b.smallest);
     }
 
+    /// The converter, which the Rust has not: the last delivery's tables are these but for the interfaces, which it adds.
+    fn converted(&self, name: &str, state: fn(&mut CapaEngine), w: &mut [u64]) {
+        let (old, mut first, mut tables) = (former_total(&mirror::sizes()), w.to_vec(), w.to_vec());
+        let ours = |t: &mut [u64]| assert!(exported::convert(&t[..old], &mut tables, &mut first, w) == [0; 5]);
+        self.row(&format!("convert the last delivery's tables; {name}"), state, ours, |_| ());
+    }
+
     /// The test and nothing else.
     fn tested(&self, name: &str, state: fn(&mut CapaEngine), w: &mut [u64]) {
         self.row(&format!("pop, nothing queued; {name}"), state, |t| _ = lent(t, w, &Call::Pop, 0), |e| assert!(e.pop_update().is_none()));
@@ -52,6 +61,9 @@ impl Rows {
         let core_map = Call::CoreMap { domain: FIRST };
         self.row("core map; roots", roots, |t| _ = lent(t, w, &core_map, 0), |e| assert!(e.get_domain_cores(d) == Ok(3)));
         self.row("set a core map; roots", roots, |t| _ = lent(t, w, &cores, 0), |e| calls::set_cores(e, d, 3));
+        let word = Call::SetInterface { domain: FIRST, word: 26 };
+        let set = |e: &mut CapaEngine| e.set_domain_permission(d, MonitorInterface, 26).unwrap();
+        self.row("set an interface; roots", roots, |t| _ = lent(t, w, &word, 0), set);
         let wide = Call::Alias { domain: FIRST, local: 0, access: Access { end: whole.end + 1, ..whole } };
         let beyond = read_write(start, start + 9);
         self.row("alias, refused with 8; roots", room, |t| _ = lent(t, w, &wide, 8), |e| assert!(e.alias_region(d, root, beyond).is_err()));
@@ -92,6 +104,8 @@ fn main() {
     rows.tested("carved", carved, w);
     rows.tested("aliased", aliased, w);
     rows.worked(w);
+    rows.converted("roots", roots, w);
+    rows.converted("carved", carved, w);
     let made = [z.domains, z.slots, z.regions, z.records, z.updates].map(|n| n as u64);
     rows.row("make empty tables", roots, |t| assert!(exported::make(t, w, made) == [0; 5]), |e| *e = CapaEngine::new());
 }

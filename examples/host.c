@@ -115,6 +115,16 @@ static void hand_over(mityvurno_domain_reply a)
     updates();
 }
 
+/* B, a supplier's domain, may send no more, and the platform makes that final. What B holds it can still give up: revoke needs no bit. */
+static void withdraw(mityvurno_domain_reply b)
+{
+    call(mityvurno_set_interface(LENT, b.slot, b.generation, MITYVURNO_MAY_ALIAS | MITYVURNO_MAY_CARVE));
+    call(mityvurno_send(LENT, b.slot, b.generation, 1, 1));
+    call(mityvurno_freeze_interface(LENT, b.slot, b.generation));
+    call(mityvurno_set_interface(LENT, b.slot, b.generation, MITYVURNO_MAY_SEND));
+    call(mityvurno_revoke(LENT, b.slot, b.generation, 1));
+}
+
 int main(void)
 {
     mityvurno_domain_reply a, b;
@@ -126,5 +136,6 @@ int main(void)
     example(a, b);
     more(a, b);
     hand_over(a);
+    withdraw(b);
     return 0;
 }
