@@ -16,6 +16,8 @@ pub fn step(t: &mut [u64], call: Call) -> Answer
         Call::OpenUnder(h, cores) => domain_calls::open_under(t, h, cores),
         Call::Channel(h, to) => domain_calls::open_channel(t, h, to),
         Call::SetCoreMap(h, cores) => domain_calls::set_core_map(t, h, cores),
+        Call::SetInterface(h, word) => domain_calls::set_interface(t, h, word),
+        Call::FreezeInterface(h) => domain_calls::freeze_interface(t, h),
         Call::Root(h, a) => region_calls::create_root_region(t, h, a),
         Call::Alias(x) => region_calls::alias_region(t, x.domain, x.local, x.access),
         Call::Carve(x) => region_calls::carve_region(t, x.domain, x.local, x.access),

@@ -8,7 +8,7 @@ use Rattle.answers.specs.declared.Answer.{Answer}
 use Rattle.answers.specs.Answers.{Effect}
 use Rattle.segment.specs.declared.SendOptions.the-variants as options
 use Rattle.call.specs.declared.Call.{Call}
-use Rattle.call.specs.declared.Call.the-variants.{Open, OpenUnder, Channel, SetCoreMap, Root, Alias, Carve, Send, Revoke, CreateRevokeCapa}
+use Rattle.call.specs.declared.Call.the-variants.{Open, OpenUnder, Channel, SetCoreMap, SetInterface, FreezeInterface, Root, Alias, Carve, Send, Revoke, CreateRevokeCapa}
 use Rattle.call.specs.Steps.{stepNamed}
 use Rattle.calls.specs.Steps.{stepOf}
 use Rattle.refine.specs.Calls.Perform.{stepFor}
@@ -18,6 +18,8 @@ same-step (Open cores) v = refl
 same-step (OpenUnder h cores) v = refl
 same-step (Channel h to) v = refl
 same-step (SetCoreMap h cores) v = refl
+same-step (SetInterface h word) v = refl
+same-step (FreezeInterface h) v = refl
 same-step (Root h a) v = refl
 same-step (Alias x) v = refl
 same-step (Carve x) v = refl
