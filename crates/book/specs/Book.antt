@@ -265,6 +265,9 @@ accept b (Call.Do (Step.Revoke h l)) y = emptySlot (h .slot) l (revoked (heldAt 
 accept b (Call.Do (Step.SetCoreMap h cores)) y = b
 accept b Call.Pop y = b
 accept b (Call.Read r) y = b
+-- "A call that a change request adds .. leaves the book as it is."
+accept b (Call.Do (Step.SetInterface h word)) y = b
+accept b (Call.Do (Step.FreezeInterface h)) y = b
 
 -- What a call and its answer add to the book: "Refused calls .. change nothing."
 unfoldable pub note : Book → Call → Answer → Book

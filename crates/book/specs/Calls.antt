@@ -10,6 +10,7 @@ use Rattle.book.specs.Book.{Book, accept, note}
 use Rattle.book.specs.Matches.{Matches}
 use Rattle.book.specs.Channel.{channel-match}
 use Rattle.book.specs.SetCoreMap.{cores-match}
+use Rattle.book.specs.Interface.{set-interface-match, freeze-interface-match}
 use Rattle.book.specs.Open.{open-match}
 use Rattle.book.specs.CreateRevokeCapa.{make-revoke-match}
 use Rattle.book.specs.Root.{root-match}
@@ -28,6 +29,8 @@ perform-match b s (Call.Do (Step.Open none c)) o g = bind (open-match b s none c
 perform-match b s (Call.Do (Step.Open (some m) c)) o g = bind (open-match b s (some m) c o g) (λ x q. accepted q)
 perform-match b s (Call.Do (Step.Channel h to)) o g = bind (channel-match b s h to g) (λ x q. accepted q)
 perform-match b s (Call.Do (Step.SetCoreMap h c)) o g = bind (cores-match b s h c g) (λ x q. accepted q)
+perform-match b s (Call.Do (Step.SetInterface h w)) o g = bind (set-interface-match b s h g w) (λ x q. accepted q)
+perform-match b s (Call.Do (Step.FreezeInterface h)) o g = bind (freeze-interface-match b s h g) (λ x q. accepted q)
 perform-match b s (Call.Do (Step.Root h a)) o g = bind (root-match b s h a o g) (λ x q. accepted q)
 perform-match b s (Call.Do (Step.Alias h l a)) o g = bind (alias-match b s h l a o g) (λ x q. accepted q)
 perform-match b s (Call.Do (Step.Carve h l a)) o g = bind (carve-match b s h l a o g) (λ x q. accepted q)

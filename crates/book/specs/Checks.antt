@@ -8,14 +8,16 @@ use lib.Dec.{eqb, ltb}
 use lib.ListN.{getD}
 use borrow.Author.Tests.{le-ltb, lt-ltb, eq-eqb}
 use Rattle.base.specs.Cases.{lt, ge, cmp}
+use Rattle.base.specs.Tests.{is-true}
 use Rattle.model.specs.Lists.{isSome, atSlot, countIf, oneIf}
 use Rattle.model.specs.Outcome.{Outcome, ok, _>>=_, _>>_, require}
 use Rattle.refusals.specs.declared.Refusal.{Refusal}
 use Rattle.model.specs.State.{State, Pool, Handle}
 use Rattle.model.specs.Pool.{isLive, allocate}
-use Rattle.model.specs.Calls.{liveDomain, liveRegion}
+use Rattle.model.specs.Calls.{liveDomain, callerWith, liveRegion}
 use Rattle.model.specs.Sound.{OnceEach}
-use Rattle.laws.specs.Accepted.{All, refused}
+use Rattle.laws.specs.Accepted.{All, accepted, refused, bind, checked}
+use Rattle.laws.specs.Caller.{caller}
 use Rattle.book.specs.Tests.{and-left}
 
 pub on-check : {B : Type 0} {Q : B → Type 0} (b : Bool) (r : Refusal) (i : ℕ) (f : ℕ → Outcome B) → (b ≡ true → All Q (f i)) → All Q ((require b r >> ok i) >>= f)
@@ -26,6 +28,11 @@ on-check false r i f h = refused
 pub on-domain : {B : Type 0} {Q : B → Type 0} (s : State) (h : Handle) (f : ℕ → Outcome B) → (isLive (s .domainPool) (s .domains) h ≡ true → All Q (f (h .slot))) → All Q (liveDomain s h >>= f)
 unfolding liveDomain
 on-domain s h f k = on-check _ _ (h .slot) f k
+
+-- the caller of alias, carve and send, which needs a bit besides
+pub on-caller : {B : Type 0} {Q : B → Type 0} (bit : ℕ) (s : State) (h : Handle) (f : ℕ → Outcome B) → (isLive (s .domainPool) (s .domains) h ≡ true → All Q (f (h .slot))) → All Q (callerWith bit s h >>= f)
+unfolding liveDomain
+on-caller {Q = Q} bit s h f k = bind (caller {P = λ d. All Q (f d)} bit s h (checked _ _ (λ t. accepted (k (is-true t))))) (λ d q. q)
 
 pub on-allocate : {B : Type 0} {Q : B → Type 0} (r : Refusal) (gs fs : List ℕ) (f : ℕ × Pool → Outcome B) → ((i : ℕ) (is : List ℕ) → fs ≡ i ∷ is → All Q (f (i, record { gens = gs; free = is }))) → All Q (allocate r (record { gens = gs; free = fs }) >>= f)
 unfolding allocate _>>=_

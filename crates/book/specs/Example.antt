@@ -1,11 +1,11 @@
--- Books written out: after document 01's worked example, after a send with a flag word, after revokes, one of a region with others below it, after a sweep, and after making anew.
+-- Books written out: after document 01's worked example, after a send with a flag word, after a domain lost its SEND, after revokes, one of a region with others below it, after a sweep, and after making anew.
 use mathlib.Core.Path.{_≡_, refl}
 use Prim.Native.Nat.{ℕ}
 use mathlib.Core.Bool.{Bool, true, false}
 use mathlib.Core.Option.{Option, none, some}
 use mathlib.Core.List.{List, [], _∷_, _++_}
 use Rattle.model.specs.Fields.{Field}
-use Rattle.model.specs.State.{Sizes, Kind, Root, Alias, Carve}
+use Rattle.model.specs.State.{Sizes, Kind, Root, Alias, Carve, noOptions, ALIAS}
 use Rattle.model.specs.Making.{emptyTables}
 use Rattle.model.specs.Perform.{Step, Call, run}
 use Rattle.model.specs.Checked.Compute.{computing}
@@ -33,12 +33,14 @@ abbrev pub slots : List (Option Held) → List ℕ → Option Slots
 slots h f = some (record { held = h; free = f })
 
 -- A holds B's Management in slot 0, the root in 1 and the alias in 3; the carve is B's, in slot 0; the last call was refused.
-after-example : bookAfter (sizes 2 4) example
-    ≡ record {
-      sizes = sizes 2 4;
-      regions = reg Root 0 0 16 3 true ∷ reg (Carve 0) 1 4 8 1 true ∷ reg (Alias 0) 0 0 4 3 true ∷ [];
-      lists = slots (some (managementOf (dom 1)) ∷ some (regionOf 0) ∷ none ∷ some (regionOf 2) ∷ []) (2 ∷ []) ∷ slots (some (regionOf 1) ∷ none ∷ none ∷ none ∷ []) (1 ∷ 2 ∷ 3 ∷ []) ∷ [];
-    }
+abbrev exampleBook : Book
+exampleBook = record {
+  sizes = sizes 2 4;
+  regions = reg Root 0 0 16 3 true ∷ reg (Carve 0) 1 4 8 1 true ∷ reg (Alias 0) 0 0 4 3 true ∷ [];
+  lists = slots (some (managementOf (dom 1)) ∷ some (regionOf 0) ∷ none ∷ some (regionOf 2) ∷ []) (2 ∷ []) ∷ slots (some (regionOf 1) ∷ none ∷ none ∷ none ∷ []) (1 ∷ 2 ∷ 3 ∷ []) ∷ [];
+}
+
+after-example : bookAfter (sizes 2 4) example ≡ exampleBook
 unfolding noting
 after-example = refl
 
@@ -61,6 +63,11 @@ after-flags : bookAfter (sizes 2 4) (example ++ (Call.Do (Step.Send (dom 0) 3 0 
     }
 unfolding noting
 after-flags = refl
+
+-- A's interface is set to ALIAS alone and frozen, and its send is refused: the book is the one after the example.
+after-interface : bookAfter (sizes 2 4) (example ++ (Call.Do (Step.SetInterface (dom 0) ALIAS) ∷ Call.Do (Step.FreezeInterface (dom 0)) ∷ Call.Do (Step.Send (dom 0) 3 0 noOptions) ∷ [])) ≡ exampleBook
+unfolding noting
+after-interface = refl
 
 -- A root, an alias of it, a carve of that, an alias of the carve; A holds them in slots 0 to 3.
 abbrev nested : List Call

@@ -13,6 +13,7 @@ pub mod Make
 pub mod Open
 pub mod Channel
 pub mod SetCoreMap
+pub mod Interface
 pub mod Root
 pub mod Alias
 pub mod Carve

@@ -29,7 +29,7 @@ use Rattle.book.specs.Demand3.{SameRegion}
 use Rattle.book.specs.Tests.{and-left, some-is, some-below}
 use Rattle.book.specs.Matches.{both-map, SameHeld, sameFree, sameEmptied, sameRegion, sameRevoke, sameManagement, sameChannel, same-map, AtPlace, LiveDomain, Regions, MatchesAt, list-map, Matches, matches}
 use Rattle.book.specs.Slots.{OnlyDomains, only-domains-then, slots-of, capacity-match, insert-match, put-match, put-only-domains, free-same}
-use Rattle.book.specs.Checks.{on-domain, live-opens, on-region}
+use Rattle.book.specs.Checks.{on-domain, on-caller, live-opens, on-region}
 use Rattle.book.specs.Trackers.{activate-match, deactivate-match}
 use Rattle.book.specs.Held.{held-same}
 
@@ -215,7 +215,7 @@ sent-is b s d l n to o g = g
 pub send-match : (b : Book) (s : State) (h : Handle) (l target : ℕ) (o : SendOptions) → Sound s → Matches b s → All (λ x. Matches (sent (h .slot) l (domainIn (heldAt b (h .slot) target)) (x .0) o b) (x .1)) (send h l target o s)
 unfolding send capaAt
 send-match b s h l target o sound g =
-    on-domain s h _ (λ v.
+    on-caller _ s h _ (λ v.
     on-target s (AtPlace (b .regions) (g .at)) _ _ _ (held-same b s _ _ (g .fits) (h .slot) target) (λ k w e.
     bind (capacity-match b s _ _ (g .fits) (k .slot)) (λ s₁ q.
     weaken (send-held (makeRoom (k .slot) b) s₁ _ _ (q .0) (h .slot) l (k .slot) o (q .1 .opens (k .slot) (live-opens s k w)) (owned-after s s₁ (q .1) (owned s sound)) _ _ (held-same (makeRoom (k .slot) b) s₁ _ _ (q .0) (h .slot) l)) (λ x r.

@@ -1,4 +1,4 @@
--- Which refusals a call can meet, whatever the tables: those that document 01's **Order of checks** lists for it. One rule for each step that
+-- Which refusals a call can meet, whatever the tables: those that the documents list for it (document 01, **Order of checks**). One rule for each step that
 -- says what it can be refused with; a call is its steps one after another.
 use mathlib.Core.Path.{_≡_}
 use mathlib.Core.Logic.{inl, inr}
@@ -12,28 +12,30 @@ use Rattle.model.specs.Lists.{exists}
 use Rattle.model.specs.Outcome.{Outcome, refuse, _>>=_, _>>_, okOr}
 use Rattle.rights.specs.Rights.{allowed}
 use Rattle.refusals.specs.declared.Refusal.{Refusal}
-use Rattle.refusals.specs.Refusals.{number, memory, sizes, noDomain, noSlot, wrongKind, stale, badRange, beyond, isRoot, notCarried, noRegion, noLocal, noTracker, ringFull, noDomainRoom, spent, badFlag, noHash}
+use Rattle.refusals.specs.Refusals.{number, memory, sizes, noDomain, noSlot, wrongKind, stale, badRange, beyond, isRoot, notCarried, noRegion, noLocal, noTracker, ringFull, noDomainRoom, spent, badFlag, noHash, notAllowed, isFrozen}
 use Rattle.model.specs.State.{State, Sizes, Handle, Access, Kind, SendOptions, Capa, noCapa, region, regionRevoke, management, channel, domainAt}
 use Rattle.model.specs.Pool.{isLive}
 use Rattle.model.specs.Locals.{insertLocal, insertCapa, hasCapacity, capaAt}
 use Rattle.model.specs.Regions.{newRegion}
 use Rattle.model.specs.Making.{makeTables, makeIn}
-use Rattle.model.specs.Calls.{liveDomain, liveRegion, asRegion, asTarget, regionHeld, roomForRegion, newDomain, openDomain, openChannel, setCoreMap, createRootRegion, addChild, aliasRegion, carveRegion, sendCapa, send, revokeUnlessRoot, revokeCapa, revoke, createRevokeCapa, checkOptions}
+use Rattle.model.specs.Calls.{liveDomain, callerWith, liveRegion, asRegion, asTarget, regionHeld, roomForRegion, newDomain, openDomain, openChannel, setCoreMap, setInterface, freezeInterface, createRootRegion, addChild, aliasRegion, carveRegion, sendCapa, send, revokeUnlessRoot, revokeCapa, revoke, createRevokeCapa, checkOptions}
 use Rattle.model.specs.Readings.{permissions, getRefcount, coreMap}
-use Rattle.model.specs.Perform.{Step, Open, Channel, SetCoreMap, Root, Alias, Carve, Send, Revoke, CreateRevokeCapa, Reading, Permissions, Refcount, CoreMap, Holders, Call, Make, Do, Pop, Read, performStep, readTables, perform}
+use Rattle.model.specs.Perform.{Step, Open, Channel, SetCoreMap, SetInterface, FreezeInterface, Root, Alias, Carve, Send, Revoke, CreateRevokeCapa, Reading, Permissions, Refcount, CoreMap, Holders, Call, Make, Do, Pop, Read, performStep, readTables, perform}
 use Rattle.laws.specs.Answers.{Gives, gives, refuses, gives-then, gives-branch, gives-checked, gives-checked-both, refusal}
 use Rattle.laws.specs.Keep.Refusals.{MayStop, activate-stops, exchange-stops, send-stops, revoke-stops, allocate-stops, new-stops}
 
--- Document 01's refusals for each call, in its order of checks, those of the steps afterwards last. Bad memory (1) is refused before
+-- The documents' refusals for each call, in the order of checks, those of the steps afterwards last. Bad memory (1) is refused before
 -- `perform`, save for a making with another length.
 abbrev pub stepRefusals : Step → List Refusal
 stepRefusals (Open m cores) = noDomain ∷ noDomainRoom ∷ noLocal ∷ []
 stepRefusals (Channel h to) = noDomain ∷ noLocal ∷ []
 stepRefusals (SetCoreMap h cores) = noDomain ∷ []
+stepRefusals (SetInterface h word) = noDomain ∷ isFrozen ∷ []
+stepRefusals (FreezeInterface h) = noDomain ∷ []
 stepRefusals (Root h a) = noDomain ∷ noRegion ∷ noLocal ∷ badRange ∷ noTracker ∷ ringFull ∷ spent ∷ []
-stepRefusals (Alias h l a) = noDomain ∷ noSlot ∷ wrongKind ∷ stale ∷ noRegion ∷ noLocal ∷ badRange ∷ beyond ∷ noTracker ∷ ringFull ∷ spent ∷ []
-stepRefusals (Carve h l a) = noDomain ∷ noSlot ∷ wrongKind ∷ stale ∷ noRegion ∷ noLocal ∷ badRange ∷ beyond ∷ noTracker ∷ ringFull ∷ spent ∷ []
-stepRefusals (Send h l target o) = noDomain ∷ noSlot ∷ wrongKind ∷ noLocal ∷ notCarried ∷ stale ∷ badFlag ∷ noHash ∷ noTracker ∷ ringFull ∷ spent ∷ []
+stepRefusals (Alias h l a) = noDomain ∷ notAllowed ∷ noSlot ∷ wrongKind ∷ stale ∷ noRegion ∷ noLocal ∷ badRange ∷ beyond ∷ noTracker ∷ ringFull ∷ spent ∷ []
+stepRefusals (Carve h l a) = noDomain ∷ notAllowed ∷ noSlot ∷ wrongKind ∷ stale ∷ noRegion ∷ noLocal ∷ badRange ∷ beyond ∷ noTracker ∷ ringFull ∷ spent ∷ []
+stepRefusals (Send h l target o) = noDomain ∷ notAllowed ∷ noSlot ∷ wrongKind ∷ noLocal ∷ notCarried ∷ stale ∷ badFlag ∷ noHash ∷ noTracker ∷ ringFull ∷ spent ∷ []
 stepRefusals (Revoke h l) = noDomain ∷ noSlot ∷ notCarried ∷ stale ∷ isRoot ∷ noTracker ∷ ringFull ∷ spent ∷ []
 stepRefusals (CreateRevokeCapa h l) = noDomain ∷ noSlot ∷ wrongKind ∷ stale ∷ isRoot ∷ noLocal ∷ []
 
@@ -79,6 +81,10 @@ module _ {R : Refusal → Type 0} where
   domain-within : R noDomain → (s : State) (h : Handle) → Within R (liveDomain s h)
   unfolding liveDomain
   domain-within i s h = gives-checked _ _ i (λ t. gives tt)
+
+  caller-within : R noDomain × R notAllowed → (bit : ℕ) (s : State) (h : Handle) → Within R (callerWith bit s h)
+  unfolding callerWith
+  caller-within i bit s h = domain-within (i .0) s h andThen (λ d. gives-checked _ _ (i .1) (λ t. gives tt))
 
   region-within : R stale → (s : State) (h : Handle) → Within R (liveRegion s h)
   unfolding liveRegion
@@ -151,6 +157,14 @@ set-core-map-within : (h : Handle) (cores : ℕ) (s : State) → Within (Of (Do 
 unfolding setCoreMap
 set-core-map-within h cores s = domain-within tt s h andThen (λ d. gives tt)
 
+set-interface-within : (h : Handle) (word : ℕ) (s : State) → Within (Of (Do (SetInterface h word))) (setInterface h word s)
+unfolding setInterface
+set-interface-within h word s = domain-within tt s h andThen (λ d. gives-checked _ _ tt (λ t. gives tt))
+
+freeze-interface-within : (h : Handle) (s : State) → Within (Of (Do (FreezeInterface h))) (freezeInterface h s)
+unfolding freezeInterface
+freeze-interface-within h s = domain-within tt s h andThen (λ d. gives tt)
+
 root-within : (h : Handle) (a : Access) (s : State) → Within (Of (Do (Root h a))) (createRootRegion h a s)
 unfolding createRootRegion
 root-within h a s =
@@ -163,7 +177,7 @@ root-within h a s =
 alias-within : (h : Handle) (l : ℕ) (a : Access) (s : State) → Within (Of (Do (Alias h l a))) (aliasRegion h l a s)
 unfolding aliasRegion
 alias-within h l a s =
-    domain-within tt s h andThen (λ d.
+    caller-within (tt, tt) _ s h andThen (λ d.
     held-within (tt, tt, tt) s d l andThen (λ p.
     room-within (tt, tt, tt) d a s andThen (λ t.
     gives-checked _ _ tt (λ c.
@@ -173,7 +187,7 @@ alias-within h l a s =
 carve-within : (h : Handle) (l : ℕ) (a : Access) (s : State) → Within (Of (Do (Carve h l a))) (carveRegion h l a s)
 unfolding carveRegion
 carve-within h l a s =
-    domain-within tt s h andThen (λ d.
+    caller-within (tt, tt) _ s h andThen (λ d.
     held-within (tt, tt, tt) s d l andThen (λ p.
     room-within (tt, tt, tt) d a s andThen (λ t.
     gives-checked _ _ tt (λ c.
@@ -222,7 +236,7 @@ module _ {R : Refusal → Type 0} where
 send-within : (h : Handle) (l target : ℕ) (o : SendOptions) (s : State) → Within (Of (Do (Send h l target o))) (send h l target o s)
 unfolding send
 send-within h l target o s =
-    domain-within tt s h andThen (λ d.
+    caller-within (tt, tt) _ s h andThen (λ d.
     slot-within tt s d target andThen (λ t.
     as-target tt t andThen (λ k.
     domain-within tt s k andThen (λ to.
@@ -253,6 +267,8 @@ unfolding performStep
 step-within s (Open m cores) = open-within m cores s andThen (λ x. gives tt)
 step-within s (Channel h to) = channel-within h to s andThen (λ x. gives tt)
 step-within s (SetCoreMap h cores) = set-core-map-within h cores s andThen (λ x. gives tt)
+step-within s (SetInterface h word) = set-interface-within h word s andThen (λ x. gives tt)
+step-within s (FreezeInterface h) = freeze-interface-within h s andThen (λ x. gives tt)
 step-within s (Root h a) = root-within h a s andThen (λ x. gives tt)
 step-within s (Alias h l a) = alias-within h l a s andThen (λ x. gives tt)
 step-within s (Carve h l a) = carve-within h l a s andThen (λ x. gives tt)
@@ -274,7 +290,7 @@ perform-within s (Do c) = step-within s c
 perform-within s Pop = gives tt andThen (λ x. gives tt)
 perform-within s (Read r) = reading-within s r andThen (λ x. gives tt)
 
--- A refused call's number is one of those that document 01 lists for the call.
+-- A refused call's number is one of those that the documents list for the call.
 pub call-refusals : (s : State) (c : Call) (r : Refusal) → perform s c ≡ refuse r → T (exists (λ x. eqb (number x) (number r)) (refusals c))
 call-refusals s c r e = and-r (ltb 0 (number r)) _ (refusal (perform-within s c) r e)
 

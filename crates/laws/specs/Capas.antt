@@ -18,7 +18,9 @@ pub mod NewDomain
 pub mod NewRegion
 pub mod Open
 pub mod Channel
+pub mod Put
 pub mod SetCoreMap
+pub mod Interface
 pub mod Root
 pub mod Child
 pub mod Alias

@@ -74,6 +74,7 @@ empty-sound z = checked (goodSizes z) _ (λ t. accepted (record {
     managers = λ d x h. absurd (nothing-in (z .domains) d x h);
     lists = λ d x h. absurd (nothing-in (z .domains) d x h);
     coresWords = λ d x h. absurd (nothing-in (z .domains) d x h);
+    interfaceWords = λ d x h. absurd (nothing-in (z .domains) d x h);
   };
   tracked = record { recordPool = fresh-pool (z .records) _ (no-uses (z .domains)); trackers = λ d x h. absurd (nothing-in (z .domains) d x h) };
   queue = record { readPlace = omega arith; fits = omega arith; live = tt; singly = tt; queuedWords = tt };

@@ -16,6 +16,7 @@ pub mod Checks
 pub mod Open
 pub mod Channel
 pub mod SetCoreMap
+pub mod Interface
 pub mod Root
 pub mod Child
 pub mod Alias

@@ -12,7 +12,7 @@ use Rattle.model.specs.State.{State, Handle, Capa, noCapa, region, regionRevoke
 use Rattle.model.specs.Pool.{free, isLive}
 use Rattle.model.specs.Updates.{pop}
 use Rattle.model.specs.Tree.{insertChild}
-use Rattle.model.specs.Calls.{roomForRegion, newDomain, openDomain, openChannel, setCoreMap, createRootRegion, addChild, aliasRegion, exchangeRights, carveRegion, sendCapa, send, revokeUnlessRoot, revokeCapa, revoke, createRevokeCapa}
+use Rattle.model.specs.Calls.{roomForRegion, newDomain, openDomain, openChannel, setCoreMap, setInterface, freezeInterface, createRootRegion, addChild, aliasRegion, exchangeRights, carveRegion, sendCapa, send, revokeUnlessRoot, revokeCapa, revoke, createRevokeCapa}
 use Rattle.model.specs.Perform.{Step, Call, Value, performStep, perform, after, step, run}
 use Rattle.model.specs.Memory.{NotMake}
 use Rattle.laws.specs.Kept.{Kept, allocate-same, same, trans, Kept₁, put-domain, put-region, capacity-kept, insert-kept, remove-kept, empty-kept, activate-kept, deactivate-kept, and-so, and-so₁, new-region-kept, send-region-kept, options-kept, revoke-region-kept}
@@ -41,6 +41,14 @@ channel-kept h to s = bind-any _ (λ d. bind-any _ (λ t. bind (capacity-kept d 
 set-core-map-kept : (h : Handle) (c : ℕ) (s : State) → All (Kept s) (setCoreMap h c s)
 unfolding setCoreMap
 set-core-map-kept h c s = bind-any _ (λ d. accepted (put-domain d _ s))
+
+set-interface-kept : (h : Handle) (word : ℕ) (s : State) → All (Kept s) (setInterface h word s)
+unfolding setInterface
+set-interface-kept h word s = bind-any _ (λ d. and-then _ (accepted (put-domain d _ s)))
+
+freeze-interface-kept : (h : Handle) (s : State) → All (Kept s) (freezeInterface h s)
+unfolding freezeInterface
+freeze-interface-kept h s = bind-any _ (λ d. accepted (put-domain d _ s))
 
 root-kept : (h : Handle) (a : Access) (s : State) → All (Kept₁ s) (createRootRegion h a s)
 unfolding createRootRegion
@@ -127,6 +135,8 @@ unfolding performStep
 perform-step-kept s (Step.Open m c) = bind (open-kept m c s) (λ x k. accepted k)
 perform-step-kept s (Step.Channel h to) = bind (channel-kept h to s) (λ x k. accepted k)
 perform-step-kept s (Step.SetCoreMap h c) = bind (set-core-map-kept h c s) (λ x k. accepted k)
+perform-step-kept s (Step.SetInterface h word) = bind (set-interface-kept h word s) (λ x k. accepted k)
+perform-step-kept s (Step.FreezeInterface h) = bind (freeze-interface-kept h s) (λ x k. accepted k)
 perform-step-kept s (Step.Root h a) = bind (root-kept h a s) (λ x k. accepted k)
 perform-step-kept s (Step.Alias h l a) = bind (alias-kept h l a s) (λ x k. accepted k)
 perform-step-kept s (Step.Carve h l a) = bind (carve-kept h l a s) (λ x k. accepted k)

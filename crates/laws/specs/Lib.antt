@@ -1,6 +1,7 @@
 -- Theorems about the definitions of crate model.
 pub mod Accepted
 pub mod Answers
+pub mod Caller
 pub mod Within
 pub mod Lists
 pub mod Parts

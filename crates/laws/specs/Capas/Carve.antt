@@ -14,4 +14,4 @@ exchange-capas d old a s h = branch (eqb old (a .rights)) (accepted h) (bind (de
 
 pub carve-capas : (h : Handle) (l : ℕ) (a : Access) (s : State) → CapasSound s → All (λ y. CapasSound (y .1)) (carveRegion h l a s)
 unfolding carveRegion
-carve-capas h l a s c = with-parent h l a s _ c (λ d p t x g k e f. and-then _ (bind (add-child-capas t d p (Carve p) a x g k e f) (λ y n. bind (exchange-capas d _ a (y .1) n) (λ u o. accepted (o .0)))))
+carve-capas h l a s c = with-parent _ h l a s _ c (λ d p t x g k e f. and-then _ (bind (add-child-capas t d p (Carve p) a x g k e f) (λ y n. bind (exchange-capas d _ a (y .1) n) (λ u o. accepted (o .0)))))

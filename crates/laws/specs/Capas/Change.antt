@@ -80,7 +80,7 @@ module _ (own man : Shares) (s : State) (h : Held own man s) (d : ℕ) (x : Doma
       → ((i : ℕ) (g : Region) → In (s .regions) i g → countIf (isRegionOf (handleOf (s .regionPool) i)) (l .held) ≡ own′ i d)
       → ((k : ℕ) (z : Domain) → In (s .domains) k z → countIf (isManagementOf (handleOf (s .domainPool) k)) (l .held) ≡ man′ k d)
       → ((i k : ℕ) → k ≢ d → own i k ≡ own′ i k) → ((i k : ℕ) → k ≢ d → man i k ≡ man′ i k) → Held own′ man′ (relist d x l s)
-  relist-held own′ man′ l f a b o m = put-held s d x (withLocals l x) e refl own man own′ man′ h (h .coresWords d x e) f a b o m
+  relist-held own′ man′ l f a b o m = put-held s d x (withLocals l x) e refl own man own′ man′ h (h .coresWords d x e) (h .interfaceWords d x e) f a b o m
 
   -- ---- the sweep
 

@@ -106,6 +106,7 @@ module _ (s : State) (d : ℕ) (x y : Domain) (e : In (s .domains) d x) (m : y .
 
   module _ (own man own′ man′ : Shares) (h : Held own man s)
       (word : Word (y .cores))
+      (interface : Word (y .interface .word))
       (list : ListSound (s .sizes .slots) (s .regionPool) (s .regions) (s .domainPool) (s .domains) (y .locals))
       (owns : (i : ℕ) (g : Region) → In (s .regions) i g → countIf (isRegionOf (handleOf (s .regionPool) i)) (y .locals .held) ≡ own′ i d)
       (manages : (k : ℕ) (z : Domain) → In (s .domains) k z → countIf (isManagementOf (handleOf (s .domainPool) k)) (y .locals .held) ≡ man′ k d)
@@ -139,6 +140,10 @@ module _ (s : State) (d : ℕ) (x y : Domain) (e : In (s .domains) d x) (m : y .
       coresWords = λ k z f. elim (was (s .domains) d y low k z f) [
         | this o q ↦ subst (λ (w : Domain). Word (w .cores)) q word
         | that o w ↦ h .coresWords k z w
+      ];
+      interfaceWords = λ k z f. elim (was (s .domains) d y low k z f) [
+        | this o q ↦ subst (λ (w : Domain). Word (w .interface .word)) q interface
+        | that o w ↦ h .interfaceWords k z w
       ];
       queue = queue-onward (s .sizes .updates) (s .domainPool) (s .domainPool) (s .domains) ds′ live-on (s .queue) (h .queue);
     }

@@ -30,6 +30,7 @@ pub record Held (own man : Shares) (s : State) : Type 0 where
   pub managed : (d : ℕ) (x : Domain) → In (s .domains) d x → Managed (s .domains) d
   pub lists : (d : ℕ) (x : Domain) → In (s .domains) d x → ListSound (s .sizes .slots) (s .regionPool) (s .regions) (s .domainPool) (s .domains) (x .locals)
   pub coresWords : (d : ℕ) (x : Domain) → In (s .domains) d x → Word (x .cores)
+  pub interfaceWords : (d : ℕ) (x : Domain) → In (s .domains) d x → Word (x .interface .word)
   pub queue : QueueSound (s .sizes .updates) (s .domainPool) (s .domains) (s .queue)
 
 -- the slots that Sound asks for: one in the owner's list, one in the manager's
@@ -63,6 +64,7 @@ capas-sound s h = record {
   managed = λ d x e. h .outside .managers d x e .managed;
   lists = h .outside .lists;
   coresWords = h .outside .coresWords;
+  interfaceWords = h .outside .interfaceWords;
   queue = h .queue;
 }
 
@@ -86,6 +88,7 @@ sound-of s h k = record {
     };
     lists = h .lists;
     coresWords = h .coresWords;
+    interfaceWords = h .interfaceWords;
   };
   tracked = k .tracked;
   queue = h .queue;

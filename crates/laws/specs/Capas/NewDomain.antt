@@ -7,12 +7,12 @@ use mathlib.Core.Bool.{false}
 use mathlib.Core.Option.{Option, none, some}
 use mathlib.Core.List.{List, [], _∷_}
 use native.Mathlib.Nat.{le-refl}
-use lib.Dec.{T}
+use lib.Dec.{T, lit<}
 use lib.ListN.{set, replicate, length-set, length-replicate}
 use lib.Seq.{getD-set-same, getD-set-other}
 use Rattle.model.specs.Lists.{isSome, countIf, Each, atSlot, In}
 use Rattle.refusals.specs.declared.Refusal.{Refusal}
-use Rattle.model.specs.State.{Word, Handle, Pool, Capa, LocalList, Domain, Region, State, withDomains}
+use Rattle.model.specs.State.{Word, Handle, Pool, Capa, LocalList, Domain, Region, State, openInterface, withDomains}
 use Rattle.model.specs.Pool.{allocate, handleOf, isLive}
 use Rattle.model.specs.Locals.{freshLocals}
 use Rattle.model.specs.Sound.{ListSound, RevokeFit, HandleFit, Managed, isRegionOf, isManagementOf}
@@ -63,7 +63,7 @@ fresh-list n rp rs dp ds = record {
 -- ---- the new domain
 
 abbrev pub newOne : Option ℕ → ℕ → State → Domain
-newOne m c s = record { manager = m; cores = c; locals = freshLocals (s .sizes .slots); tracker = [] }
+newOne m c s = record { manager = m; cores = c; locals = freshLocals (s .sizes .slots); tracker = []; interface = openInterface }
 
 abbrev pub opened : ℕ → List ℕ → Option ℕ → ℕ → State → State
 opened i is m c s = withDomains (record { gens = s .domainPool .gens; free = is }) (set (s .domains) i (some (newOne m c s))) s
@@ -152,6 +152,10 @@ module _ (own man : Shares) (s : State) (h : Held own man s) (i : ℕ) (is : Lis
       coresWords = λ k z f. elim (was (s .domains) i (newOne m c s) (open-next .low) k z f) [
         | this o q ↦ subst (λ (w : Domain). Word (w .cores)) q word
         | that o w ↦ h .coresWords k z w
+      ];
+      interfaceWords = λ k z f. elim (was (s .domains) i (newOne m c s) (open-next .low) k z f) [
+        | this o q ↦ subst (λ (w : Domain). Word (w .interface .word)) q (lit< tt)
+        | that o w ↦ h .interfaceWords k z w
       ];
       queue = queue-onward (s .sizes .updates) (s .domainPool) dp′ (s .domains) ds′ open-live (s .queue) (h .queue);
     }

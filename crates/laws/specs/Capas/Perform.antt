@@ -11,6 +11,7 @@ use Rattle.laws.specs.Empty.{made-sound}
 use Rattle.laws.specs.Capas.Pop.{pop-sound}
 use Rattle.laws.specs.Capas.Held.{CapasSound, OthersSound, capas-sound, sound-of}
 use Rattle.laws.specs.Capas.SetCoreMap.{set-core-map-sound}
+use Rattle.laws.specs.Capas.Interface.{set-interface-sound, freeze-interface-sound}
 use Rattle.laws.specs.Capas.Channel.{channel-sound}
 use Rattle.laws.specs.Capas.CreateRevokeCapa.{create-revoke-capa-sound}
 use Rattle.laws.specs.Capas.Open.{open-sound}
@@ -31,6 +32,8 @@ step-capas s (Step.Open none c) h w = bind (whole (open-sound s none c h w)) (λ
 step-capas s (Step.Open (some m) c) h w = bind (whole (open-sound s (some m) c h (w .1))) (λ x k. accepted k)
 step-capas s (Step.Channel m to) h w = bind (whole (channel-sound s m to h)) (λ x k. accepted k)
 step-capas s (Step.SetCoreMap m c) h w = bind (set-core-map-sound s m c h (w .1)) (λ x k. accepted (capas-sound x k))
+step-capas s (Step.SetInterface m n) h w = bind (set-interface-sound s m h n (w .1)) (λ x k. accepted (capas-sound x k))
+step-capas s (Step.FreezeInterface m) h w = bind (freeze-interface-sound s m h) (λ x k. accepted (capas-sound x k))
 step-capas s (Step.Root m a) h w = bind (root-capas m a s (capas-sound s h)) (λ x k. accepted k)
 step-capas s (Step.Alias m l a) h w = bind (alias-capas m l a s (capas-sound s h)) (λ x k. accepted k)
 step-capas s (Step.Carve m l a) h w = bind (carve-capas m l a s (capas-sound s h)) (λ x k. accepted k)

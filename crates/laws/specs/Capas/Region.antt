@@ -54,6 +54,7 @@ module _ (own own′ man : Shares) (s : State) (h : Held own man s) (rp : Pool) 
     managed = h .managed;
     lists = λ d x e. list-onward (s .regionPool) rp (s .regions) rs (s .domainPool) (s .domainPool) (s .domains) (s .domains) fits revokes (λ k t. t) (s .sizes .slots) (x .locals) (h .lists d x e);
     coresWords = h .coresWords;
+    interfaceWords = h .interfaceWords;
     queue = h .queue;
   }
 

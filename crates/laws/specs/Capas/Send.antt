@@ -19,6 +19,7 @@ use Rattle.model.specs.Calls.{sendCapa, send}
 use Rattle.model.specs.Sound.{LiveOrOlder, RevokeFit, HandleFit, isRegionOf, isManagementOf}
 use native.Mathlib.Nat.{le-refl}
 use Rattle.laws.specs.Accepted.{All, accepted, refused, bind, bind-any, weaken}
+use Rattle.laws.specs.Caller.{caller}
 use Rattle.laws.specs.Options.{Joinable, options-checked, applied}
 use Rattle.laws.specs.Tree.Slots.{in-length, is-live}
 use Rattle.laws.specs.Tree.Steps.{region-at, domain-at}
@@ -158,7 +159,7 @@ module _ (s : State) (h : CapasSound s) (d to l : ℕ) (x y : Domain) (e : In (s
 pub send-capas : (h : Handle) (l target : ℕ) (o : SendOptions) (s : State) → CapasSound s → All (λ z. CapasSound (z .1)) (send h l target o s)
 unfolding send
 send-capas h l target o s k =
-    bind (live-domain s h) (λ d m.
+    bind (caller _ s h (live-domain s h)) (λ d m.
     bind-any _ (λ t.
     bind-any _ (λ k₁.
     bind (live-domain s k₁) (λ to n.

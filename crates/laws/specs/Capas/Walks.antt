@@ -80,7 +80,7 @@ module _ (own man : Shares) (s : State) (h : Held own man s) (d : ℕ) (x : Doma
 
   tracked-walked : Walked own man s tracked
   tracked-walked = record {
-    held = record-pool own man p (putDomain d (withTracker l x) s) (put-held s d x (withTracker l x) e refl own man own man h (h .coresWords d x e) (h .lists d x e) (λ i g f. h .regionSlots i g f d x e) (λ j z f. h .managementSlots j z f d x e) (λ i k o. refl) (λ i k o. refl));
+    held = record-pool own man p (putDomain d (withTracker l x) s) (put-held s d x (withTracker l x) e refl own man own man h (h .coresWords d x e) (h .interfaceWords d x e) (h .lists d x e) (λ i g f. h .regionSlots i g f d x e) (λ j z f. h .managementSlots j z f d x e) (λ i k o. refl) (λ i k o. refl));
     sameLists = record {
       pool = refl;
       forth = λ k w f. elim (ℕ-discrete k d) [

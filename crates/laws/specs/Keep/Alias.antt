@@ -28,7 +28,7 @@ module _ (s : State) (agree : TrackersAgree s) (size : length (s .regions) ≡ s
 module _ (s : State) (sound : Sound s) (h : Handle) (a : Access) where
   pub alias-keeps : (l : ℕ) → All After (aliasRegion h l a s)
   unfolding aliasRegion
-  alias-keeps l = with-parent s sound h a l _ (λ d p t k.
+  alias-keeps l = with-parent s sound h a _ l _ (λ d p t k.
       let r = k .room in
       let e = region-at t p (k .parent) (k .at) in
       checked (checkAlias t (regionAt t p) a) _ (λ c.

@@ -87,7 +87,7 @@ module _ (s : State) (d : ℕ) (r : Base s) (live : Live s d) where
   }
 
   -- its cores are a word
-  own-cores : Word (domainAt s d .cores)
+  pub own-cores : Word (domainAt s d .cores)
   own-cores = let (x, e) = live-is (atSlot (s .domains) d) live in rw (domain-at s d x e) (r .ring .cores d x e)
 
   pub listed-base : (l : LocalList) → Ready d (putDomain d (withLocals l (domainAt s d)) s)

@@ -37,7 +37,7 @@ module _ (s : State) (sound : Sound s) (h : Handle) (a : Access) where
   -- the range that the domain loses is its own, since the parent is
   pub carve-keeps : (l : ℕ) → All After (carveRegion h l a s)
   unfolding carveRegion
-  carve-keeps l = with-parent s sound h a l _ (λ d p t k.
+  carve-keeps l = with-parent s sound h a _ l _ (λ d p t k.
       let r = k .room in
       let own = k .own in
       let e = region-at t p (k .parent) (k .at) in

@@ -10,9 +10,10 @@ use lib.Seq.{getD-set-same, getD-set-other}
 use Rattle.model.specs.Lists.{isSome, atSlot, In}
 use Rattle.model.specs.State.{State, Pool, Domain, Region, Kind, Access, withRegions, Handle}
 use Rattle.model.specs.Tree.{insertChild}
-use Rattle.model.specs.Calls.{addChild, liveDomain, regionHeld, roomForRegion}
+use Rattle.model.specs.Calls.{addChild, callerWith, regionHeld, roomForRegion}
 use Rattle.model.specs.Sound.{PoolSound, slotUses, Sound}
 use Rattle.laws.specs.Accepted.{All, bind}
+use Rattle.laws.specs.Caller.{caller}
 use Rattle.laws.specs.Tree.Slots.{in-length, is-live}
 use Rattle.base.specs.Options.{none-some}
 use Rattle.laws.specs.Tree.Facts.{Regions}
@@ -91,9 +92,9 @@ module _ (s : State) (sound : Sound s) (h : Handle) (a : Access) where
     pub at : In (t .regions) p parent
     pub own : parent .owner ≡ d
 
-  pub with-parent : (l : ℕ) (f : ℕ → ℕ → State → Outcome (ℕ × State)) → ((d p : ℕ) (t : State) → Parent d p t → All After (f d p t)) → All After (liveDomain s h >>= λ d. regionHeld s d l >>= λ p. roomForRegion d a s >>= λ t. f d p t)
-  with-parent l f k =
-      bind (domain-live s h) (λ d (x, e).
+  pub with-parent : (bit l : ℕ) (f : ℕ → ℕ → State → Outcome (ℕ × State)) → ((d p : ℕ) (t : State) → Parent d p t → All After (f d p t)) → All After (callerWith bit s h >>= λ d. regionHeld s d l >>= λ p. roomForRegion d a s >>= λ t. f d p t)
+  with-parent bit l f k =
+      bind (caller bit s h (domain-live s h)) (λ d (x, e).
       bind (held-own s sound d x e l) (λ p (g, i, own).
       bind (room-agree s sound d x e a) (λ t r.
       k d p t (record { domain = x; here = e; room = r; parent = g; at = ap (λ rs. atSlot rs p) (r .regions) ∙ i; own = own }))))

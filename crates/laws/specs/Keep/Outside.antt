@@ -72,6 +72,7 @@ module _ (s : State) (ds : List (Option Domain)) (p : Pool) (q : Queue) (b : Sam
     managers = manager;
     lists = λ d y f. let (x, e, r) = was d y f in subst (ListSound (s .sizes .slots) (s .regionPool) (s .regions) (s .domainPool) ds) (ap (λ (z : Domain). z .locals) r) (list-onward (s .regionPool) (s .regionPool) (s .regions) (s .regions) (s .domainPool) (s .domainPool) (s .domains) ds (λ k l. l) (λ k l m. m) fits (s .sizes .slots) (x .locals) (h .lists d x e));
     coresWords = λ d y f. let (x, e, r) = was d y f in subst Word (ap (λ (z : Domain). z .cores) r) (h .coresWords d x e);
+    interfaceWords = λ d y f. let (x, e, r) = was d y f in subst Word (ap (λ (z : Domain). z .interface .word) r) (h .interfaceWords d x e);
   }
 
 pub outside-same : (s t : State) → SameOutside s t → OutsideSound s → OutsideSound t

@@ -1,5 +1,6 @@
--- Every accepted call on sound tables leaves all clauses of `Sound` but three: the trackers, the three pools, the regions, that their owners are live,
--- the ring, the sizes, and that core maps are words. The three are about capability lists: one slot for each region, managers, and the lists themselves.
+-- Every accepted call on sound tables leaves all clauses of `Sound` but four: the trackers, the three pools, the regions, that their owners are live,
+-- the ring, the sizes, and that core maps are words. Three of the four are about capability lists: one slot for each region, managers, and the lists
+-- themselves. The fourth: that interfaces are words.
 use mathlib.Core.Option.{Option, none, some}
 use Rattle.model.specs.State.{State, Update}
 use Rattle.model.specs.Making.{makeIn}
@@ -19,6 +20,7 @@ use Rattle.laws.specs.Keep.Revoke.{revoke-keeps}
 use Rattle.laws.specs.Keep.Open.{open-keeps}
 use Rattle.laws.specs.Keep.Channel.{channel-keeps}
 use Rattle.laws.specs.Keep.SetCoreMap.{set-core-map-keeps}
+use Rattle.laws.specs.Keep.Interface.{set-interface-keeps, freeze-interface-keeps}
 use Rattle.laws.specs.Keep.CreateRevokeCapa.{create-revoke-capa-keeps}
 use Rattle.laws.specs.Keep.Pop.{pop-keeps}
 
@@ -32,6 +34,8 @@ module _ (s : State) (sound : Sound s) where
   step-keeps (Step.Open (some h) cores) w = bind (open-keeps s sound (some h) cores (w .1)) (λ (a, t) k. accepted k)
   step-keeps (Step.Channel h to) w = bind (channel-keeps s whole h to) (λ (a, t) k. accepted k)
   step-keeps (Step.SetCoreMap h cores) w = bind (set-core-map-keeps s whole h cores (w .1)) (λ t k. accepted k)
+  step-keeps (Step.SetInterface h word) w = bind (set-interface-keeps s whole h word) (λ t k. accepted k)
+  step-keeps (Step.FreezeInterface h) w = bind (freeze-interface-keeps s whole h) (λ t k. accepted k)
   step-keeps (Step.Root h a) w = bind (root-keeps s sound h a (w .1)) (λ (n, t) k. accepted k)
   step-keeps (Step.Alias h l a) w = bind (alias-keeps s sound h a l) (λ (n, t) k. accepted k)
   step-keeps (Step.Carve h l a) w = bind (carve-keeps s sound h a l) (λ (n, t) k. accepted k)

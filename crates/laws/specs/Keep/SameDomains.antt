@@ -49,7 +49,7 @@ same-outside-self s = record { sameDomains = same-domains-self s; regionPool = r
 pub same-outside-then : {s t u : State} → SameOutside s t → SameOutside t u → SameOutside s u
 same-outside-then h k = record { sameDomains = same-domains-then (h .sameDomains) (k .sameDomains); regionPool = k .regionPool ∙ h .regionPool; regions = k .regions ∙ h .regions }
 
--- a domain that is there is there still, with the same manager, cores and list
+-- a domain that is there is there still, with the same manager, cores, list and interface
 pub same-domains-in : {s t : State} → SameDomains s t → (d : ℕ) (x : Domain) → In (s .domains) d x → (y : Domain) × In (t .domains) d y × (withTracker [] y ≡ withTracker [] x)
 same-domains-in {s} {t} h d x e = go (atSlot (t .domains) d) refl (h .domains d ∙ ap untracked e)
   where

@@ -7,6 +7,7 @@ use Rattle.model.specs.State.{State, HashWords, Handle, Domain, SendOptions, Ca
 use Rattle.model.specs.Locals.{removeCapa}
 use Rattle.model.specs.Calls.{sendCapa, send}
 use Rattle.laws.specs.Accepted.{All, accepted, refused, bind, bind-any}
+use Rattle.laws.specs.Caller.{caller}
 use Rattle.laws.specs.Options.{options-checked}
 use Rattle.laws.specs.Tree.Slots.{live-is, is-live}
 use Rattle.laws.specs.Keep.SameDomains.{same-domains-self, same-domains-then, same-domains-live}
@@ -36,7 +37,7 @@ module _ (s : State) (whole : Whole s) (h : Handle) (l : ℕ) where
   pub send-keeps : (target : ℕ) (p : SendOptions) → HashWords (p .hash) → All (λ (y : ℕ × State). Whole (y .1)) (send h l target p s)
   unfolding send
   send-keeps target p hash =
-      bind (domain-live s h) (λ d (x, e).
+      bind (caller _ s h (domain-live s h)) (λ d (x, e).
       bind-any _ (λ t.
       bind-any _ (λ k.
       bind (domain-live s k) (λ o (y, at).

@@ -1,15 +1,16 @@
 -- What every call keeps (`Whole`): the trackers store the counts of the regions, and the ring and the pools are sound. The steps on a capability list keep it.
+use mathlib.Core.Path.{_≡_}
 use Prim.Native.Nat.{ℕ}
 use lib.Dec.{T}
 use Rattle.model.specs.Lists.{atSlot, In}
-use Rattle.model.specs.State.{State, Region, Handle, Capa, LocalList, domainAt, putDomain, withLocals}
+use Rattle.model.specs.State.{State, Word, Domain, Region, Handle, Capa, LocalList, domainAt, putDomain, withLocals}
 use Rattle.laws.specs.Accepted.{All}
-use Rattle.laws.specs.Tree.Slots.{live-is}
+use Rattle.laws.specs.Tree.Slots.{live-is, is-live}
 use Rattle.laws.specs.Keep.SameDomains.{SameDomains}
 use Rattle.laws.specs.Keep.Agreement.{TrackersAgree}
 use Rattle.laws.specs.Keep.Base.{Base}
-use Rattle.laws.specs.Keep.BaseSteps.{Live, listed-base}
-use Rattle.laws.specs.Keep.Locals.{listed-agree, insert-all, listed-live, capacity-all}
+use Rattle.laws.specs.Keep.BaseSteps.{Live, written-base, listed-base}
+use Rattle.laws.specs.Keep.Locals.{written-agree, listed-agree, insert-all, listed-live, capacity-all}
 use lib.Ieee.Fits.{and-l}
 use Rattle.model.specs.Pool.{isLive}
 use Rattle.model.specs.Locals.{removeCapa, emptyCapa, hasCapacity, insertCapa}
@@ -25,6 +26,11 @@ After y = Whole (y .1)
 -- and the domains differ in their trackers only
 abbrev pub StaysWhole : State → State → Type 0
 StaysWhole s t = Whole t × SameDomains s t
+
+-- ---- a domain is put back with its tracker as it was
+
+pub written-whole : (s : State) → Whole s → (d : ℕ) (x : Domain) → In (s .domains) d x → (y : Domain) → y .tracker ≡ domainAt s d .tracker → Word (y .cores) → Whole (putDomain d y s)
+written-whole s whole d x e y q w = (written-agree s d x e y q (s .regions) (whole .0), written-base s d (whole .1) (is-live _ x e) y w)
 
 -- ---- the lists
 

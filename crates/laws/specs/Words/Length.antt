@@ -9,7 +9,7 @@ use lib.ListN.{length, drop, getElem?, length-append, length-map, replicate, len
 use Rattle.base.specs.Cases.{holds, fails, test}
 use Rattle.model.specs.Lists.{atSlot, countUp, firstOf, afterIn}
 use Rattle.model.specs.State.{Sizes, Pool, Capa, noCapa, region, regionRevoke, management, channel, LocalList, Record, Domain, parentOf, Hash, Region, Update, permission, cleanup, Queue, State}
-use Rattle.model.specs.Layout.{link, slotOr0, headerWords, freeLink, poolWords, capaWords, slotWords, domainWords, kindWord, siblings, regionWords, trackerWords, recordSlotWords, updateWords, placeWords, hashWords, words, lengthFor}
+use Rattle.model.specs.Layout.{link, slotOr0, headerWords, freeLink, poolWords, capaWords, slotWords, domainWords, kindWord, siblings, regionWords, trackerWords, recordSlotWords, updateWords, placeWords, hashWords, interfaceWords, words, lengthFor}
 use Rattle.model.specs.Sound.{PoolSound, Sound}
 use Rattle.laws.specs.Parts.{join, in-turn, sum, join-length, up-length, rows-length}
 
@@ -88,7 +88,14 @@ region-hash-width (some g) = hash-row-width (g .hash)
 pub hash-width : (rs : List (Option Region)) (i : ℕ) → length (hashWords (atSlot rs i)) ≡ 5
 hash-width rs i = region-hash-width (atSlot rs i)
 
--- ---- the nine sections
+domain-interface-width : (o : Option Domain) → length (interfaceWords o) ≡ 2
+domain-interface-width none = refl
+domain-interface-width (some x) = refl
+
+pub interface-width : (ds : List (Option Domain)) (i : ℕ) → length (interfaceWords (atSlot ds i)) ≡ 2
+interface-width ds i = domain-interface-width (atSlot ds i)
+
+-- ---- the ten sections
 
 -- the sections, and how long each is; used only in proofs
 abbrev pub sections : State → List (List ℕ)
@@ -102,12 +109,13 @@ sections s =
     ∷ flatMap (recordSlotWords (s .domains)) (countUp 0 (s .sizes .records))
     ∷ flatMap (placeWords (s .sizes .updates) (s .queue)) (countUp 0 (s .sizes .updates + 1))
     ∷ flatMap (λ i. hashWords (atSlot (s .regions) i)) (countUp 0 (s .sizes .regions))
+    ∷ flatMap (λ i. interfaceWords (atSlot (s .domains) i)) (countUp 0 (s .sizes .domains))
     ∷ []
 
 abbrev pub widths : Sizes → List ℕ
 widths z =
     7 ∷ (2 + 2 * z .domains) ∷ (2 + 2 * z .regions) ∷ (2 + 2 * z .records)
-    ∷ z .domains * (5 + 3 * z .slots) ∷ z .regions * 8 ∷ z .records * 9 ∷ (z .updates + 1) * 4 ∷ z .regions * 5 ∷ []
+    ∷ z .domains * (5 + 3 * z .slots) ∷ z .regions * 8 ∷ z .records * 9 ∷ (z .updates + 1) * 4 ∷ z .regions * 5 ∷ z .domains * 2 ∷ []
 
 pub words-join : (s : State) → words s ≡ join (sections s)
 unfolding words
@@ -129,7 +137,8 @@ section-lengths s h =
     let ts = rows-length _ _ (record-width (s .domains)) 0 (z .records) in
     let us = rows-length _ _ (place-width (z .updates) (s .queue)) 0 (z .updates + 1) in
     let hs = rows-length _ _ (hash-width (s .regions)) 0 (z .regions) in
-    λ i. 7 ∷ d i ∷ r i ∷ t i ∷ ds i ∷ rs i ∷ ts i ∷ us i ∷ hs i ∷ []
+    let fs = rows-length _ _ (interface-width (s .domains)) 0 (z .domains) in
+    λ i. 7 ∷ d i ∷ r i ∷ t i ∷ ds i ∷ rs i ∷ ts i ∷ us i ∷ hs i ∷ fs i ∷ []
 
 pub words-length : (s : State) → Sound s → length (words s) ≡ lengthFor (s .sizes)
 words-length s h = ap length (words-join s) ∙ join-length (sections s) ∙ ap sum (section-lengths s h) ∙ omega arith

@@ -1,7 +1,8 @@
--- Equal words of the domains and of the tracker records give the same domains: the kind of a slot tells what it holds, and a free slot has the link of
--- the free stack.
+-- Equal words of the domains, of the tracker records and of the interfaces give the same domains: the kind of a slot tells what it holds, and a free slot
+-- has the link of the free stack.
 use mathlib.Core.Path.{_≡_, refl, ap, sym, _∙_}
 use Prim.Native.Nat.{ℕ, zero, suc, _≤_, _<_}
+use mathlib.Core.Bool.{Bool, true, false}
 use mathlib.Core.Option.{Option, none, some}
 use mathlib.Core.List.{List, []}
 use native.Mathlib.Omega.{arith}
@@ -9,9 +10,9 @@ use lib.Dec.{eqb}
 use lib.ListN.{length, getD, drop}
 use lib.Seq.{ext-getD}
 use Rattle.base.specs.Cases.{lt, ge, cmp}
-use Rattle.model.specs.Lists.{countIf, atSlot, In, firstOf, afterIn}
+use Rattle.model.specs.Lists.{oneIf, countIf, atSlot, In, firstOf, afterIn}
 use Rattle.model.specs.State.{Pool, Capa, noCapa, region, regionRevoke, management, channel, LocalList, Domain}
-use Rattle.model.specs.Layout.{slotOr0, slotWords, domainWords, trackerWords, recordSlotWords}
+use Rattle.model.specs.Layout.{slotOr0, slotWords, domainWords, trackerWords, recordSlotWords, interfaceWords}
 use Rattle.model.specs.Sound.{OnceEach, slotUses, recordUses, PoolSound}
 use Rattle.laws.specs.Parts.{same-rows}
 use Rattle.laws.specs.Stack.{same-stack, once-at-most, none-beyond}
@@ -69,11 +70,20 @@ module _ (n : ℕ) (l m : LocalList) (h : Listed n l) (k : Listed n m) (rows : (
       let free = same-stack (l .free) (m .free) members once f next in
       λ i. record { held = same-held i; free = free i }
 
+-- ---- an interface
+
+same-flag : (b c : Bool) → oneIf b ≡ oneIf c → b ≡ c
+same-flag true true e = refl
+same-flag true false e = absurd (omega arith)
+same-flag false true e = absurd (omega arith)
+same-flag false false e = refl
+
 -- ---- all n domains, with m list slots each, and z tracker records
 
 module _ (n m z : ℕ) (ds es : List (Option Domain)) (ln : length ds ≡ n) (ln′ : length es ≡ n) (used : (i : ℕ) → slotUses ds i ≡ slotUses es i)
     (rows : (i : ℕ) → i < n → domainWords m (atSlot ds i) ≡ domainWords m (atSlot es i))
     (records : (i : ℕ) → i < z → recordSlotWords ds i ≡ recordSlotWords es i)
+    (interfaces : (i : ℕ) → i < n → interfaceWords (atSlot ds i) ≡ interfaceWords (atSlot es i))
     (lists : (d : ℕ) (x : Domain) → In ds d x → Listed m (x .locals)) (lists′ : (d : ℕ) (x : Domain) → In es d x → Listed m (x .locals))
     {p p′ : Pool} (pool : PoolSound z (recordUses ds) p) (pool′ : PoolSound z (recordUses es) p′) where
   module _ (d : ℕ) (x y : Domain) (a : In ds d x) (b : In es d y) where
@@ -105,8 +115,13 @@ module _ (n m z : ℕ) (ds es : List (Option Domain)) (ln : length ds ≡ n) (ln
     same-trackers =
         same-tracker (x .tracker) (y .tracker) (λ i. omega (arith, once i, owned ds d x a i .0)) (λ i. omega (arith, once′ i, owned es d y b i .0)) tracker-row (word 2)
 
+    same-interface : x .interface ≡ y .interface
+    same-interface =
+        let own = at-slots interfaceWords interfaceWords (atSlot ds d) (atSlot es d) x y a b (interfaces d (omega (arith, in-length ds d x a))) in
+        λ i. record { word = ap (λ r. getD r 0 0) own i; frozen = same-flag (x .interface .frozen) (y .interface .frozen) (ap (λ r. getD r 1 0) own) i }
+
     same-domain : x ≡ y
-    same-domain = λ i. record { manager = same-link (x .manager) (y .manager) (word 0) i; cores = word 1 i; locals = same-locals i; tracker = same-trackers i }
+    same-domain = λ i. record { manager = same-link (x .manager) (y .manager) (word 0) i; cores = word 1 i; locals = same-locals i; tracker = same-trackers i; interface = same-interface i }
 
   pub same-domains : ds ≡ es
   same-domains = same-table ds es (ln ∙ sym ln′) used same-domain
