@@ -6,3 +6,5 @@ pub mod Regions
 pub mod Calls
 pub mod Bits
 pub mod Example
+pub mod Kept
+pub mod Freeze
