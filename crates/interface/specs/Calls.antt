@@ -7,7 +7,7 @@ use mathlib.Core.List.{List, [], _∷_, map}
 use lib.ListN.{set}
 use Rattle.refusals.specs.Refusals.{noDomain, beyond, isFrozen}
 use Rattle.model.specs.Outcome.{Outcome, ok, _>>=_, _>>_, require}
-use Rattle.model.specs.State.{State, Handle, management, Kind, Root, Alias, Carve, Access, SendOptions, Domain, domainAt, regionAt, withDomains}
+use Rattle.model.specs.State.{State, Handle, management, Root, Alias, Carve, Access, SendOptions, Domain, regionAt, withDomains}
 use Rattle.model.specs.Pool.{handleOf}
 use Rattle.model.specs.Locals.{hasCapacity, capaAt, insertCapa, removeCapa}
 use Rattle.model.specs.Tree.{checkAlias, checkCarve}

@@ -9,7 +9,7 @@ use Rattle.base.specs.Options.{none-some}
 use Rattle.refusals.specs.Refusals.{noDomainRoom}
 use Rattle.model.specs.Lists.{Each, atSlot, In}
 use Rattle.model.specs.Outcome.{Outcome, ok, refuse}
-use Rattle.model.specs.State.{State, Handle, Pool, Interface, Domain, Kind, Root, Alias, Carve, Access, SendOptions, Update, domainAt, withQueue}
+use Rattle.model.specs.State.{State, Handle, Pool, Interface, Domain, Root, Alias, Carve, Access, SendOptions, Update, domainAt, withQueue}
 use Rattle.model.specs.Pool.{handleOf}
 use Rattle.model.specs.Locals.{removeCapa}
 use Rattle.model.specs.Updates.{pop}
@@ -22,7 +22,7 @@ use Rattle.laws.specs.Accepted.{All, accepted, bind, bind-any, and-then, checke
 use Rattle.laws.specs.Keep.Locals.{allocate-free}
 use Rattle.laws.specs.Capas.NewDomain.{taken}
 use Rattle.laws.specs.SoundKept.{step-sound}
-use Rattle.interface.specs.Kept.{HoldsIn, Holds, Holds₁, written, read, put, put-back, capacity-holds, slot-holds, remove-holds, empty-holds, activate-holds, new-holds, child-holds, send-capa-holds, revoke-capa-holds, room-holds, exchange-holds}
+use Rattle.interface.specs.Kept.{Holds, Holds₁, written, read, put, put-back, capacity-holds, slot-holds, remove-holds, empty-holds, activate-holds, new-holds, child-holds, send-capa-holds, revoke-capa-holds, room-holds, exchange-holds}
 
 module _ (d : ℕ) (f : Interface) (h : Handle) (s : State) (w : Holds d f h s) where
   -- an opening takes a slot that was free

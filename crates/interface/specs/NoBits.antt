@@ -2,7 +2,7 @@
 -- word is 0, so that this asks for no sound tables.
 use mathlib.Core.Path.{_≡_, refl, sym, ap, subst, _∙_}
 use Prim.Native.Nat.{ℕ, zero, suc}
-use mathlib.Core.Bool.{Bool, not, _&&_}
+use mathlib.Core.Bool.{not, _&&_}
 use mathlib.Core.Option.{Option, none, some, Option·getD}
 use mathlib.Core.List.{List, [], _∷_, map}
 use lib.Dec.{eqb}
@@ -16,7 +16,6 @@ use Rattle.model.specs.Locals.{isInvalid, invalidSlots, freeLocal, freeLocals, 
 use Rattle.model.specs.Updates.{isPermissionOf, push, pushPermission}
 use Rattle.model.specs.Tracker.{Walk, gain, lose}
 use Rattle.model.specs.Regions.{putWalk, activate, deactivate}
-use Rattle.model.specs.Calls.{liveDomain}
 use Rattle.interface.specs.Outcomes.{Both, accepted, By, Any, bind-same, and-same, branch, turned, both-then}
 
 -- ---- the word is 0, the freeze as it was

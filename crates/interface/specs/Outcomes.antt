@@ -1,5 +1,5 @@
 -- Two outcomes side by side: both accepted, with related answers, or both refused alike. One rule for each form that the definitions use.
-use mathlib.Core.Path.{_≡_, refl, sym, ap, subst}
+use mathlib.Core.Path.{_≡_, sym, subst}
 use mathlib.Core.Bool.{Bool, true, false}
 use Rattle.model.specs.Lists.{if_then_else_}
 use Rattle.model.specs.Outcome.{Outcome, ok, refuse, _>>=_, _>>_}

@@ -1,13 +1,12 @@
 -- The steps on regions do the same without the bits of domains' words: regions, their pool and the ring are the same there.
-use mathlib.Core.Path.{_≡_, refl, sym, ap, subst, _∙_}
+use mathlib.Core.Path.{_≡_, refl, sym, subst}
 use Prim.Native.Nat.{ℕ, zero, suc}
 use mathlib.Core.Option.{Option, none, some}
 use mathlib.Core.List.{List, [], _∷_}
-use lib.Dec.{eqb, ltb}
+use lib.Dec.{eqb}
 use Rattle.rights.specs.Rights.{has, CLEANUP}
 use Rattle.model.specs.State.{State, Region, Kind, Root, Alias, Carve, Access, SendOptions, Capa, noCapa, region, regionRevoke, management, channel, Handle, regionAt, putRegion, withOwner}
 use Rattle.model.specs.Pool.{isLive}
-use Rattle.model.specs.Outcome.{Outcome}
 use Rattle.model.specs.Tree.{Range, accessOf, effectiveRanges, insertChild, removeChild}
 use Rattle.model.specs.Regions.{deactivate, newRegion, freeRegion, sendRanges, sendRegion, applyOptions, giveBack, leaveParent, revokeLeaf, revokeRegion}
 use Rattle.model.specs.Calls.{liveRegion, roomForRegion, addChild, exchangeRights, sendCapa, revokeUnlessRoot, revokeCapa}
