@@ -1,0 +1,119 @@
+-- The steps on regions do the same without the bits of domains' words: regions, their pool and the ring are the same there.
+use mathlib.Core.Path.{_≡_, refl, sym, subst}
+use Prim.Native.Nat.{ℕ, zero, suc}
+use mathlib.Core.Option.{Option, none, some}
+use mathlib.Core.List.{List, [], _∷_}
+use lib.Dec.{eqb}
+use Rattle.rights.specs.Rights.{has, CLEANUP}
+use Rattle.model.specs.State.{State, Region, Kind, Root, Alias, Carve, Access, SendOptions, Capa, noCapa, region, regionRevoke, management, channel, Handle, regionAt, putRegion, withOwner}
+use Rattle.model.specs.Pool.{isLive}
+use Rattle.model.specs.Tree.{Range, accessOf, effectiveRanges, insertChild, removeChild}
+use Rattle.model.specs.Regions.{deactivate, newRegion, freeRegion, sendRanges, sendRegion, applyOptions, giveBack, leaveParent, revokeLeaf, revokeRegion}
+use Rattle.model.specs.Calls.{liveRegion, roomForRegion, addChild, exchangeRights, sendCapa, revokeUnlessRoot, revokeCapa}
+use Rattle.interface.specs.Outcomes.{Both, accepted, refused, By, bind-by, bind-same, and-same, branch}
+use Rattle.interface.specs.NoBits.{noBits, noBits₁, capacity-same, insert-same, push-same, activate-same, deactivate-same}
+
+pub live-region-same : (s : State) (h : Handle) → liveRegion (noBits s) h ≡ liveRegion s h
+unfolding liveRegion
+live-region-same s h = refl
+
+-- ---- a region comes, and goes
+
+pub new-same : (d : ℕ) (k : Kind) (a : Access) (s : State) → Both (By noBits₁) (newRegion d k a s) (newRegion d k a (noBits s))
+unfolding newRegion
+new-same d k a s = bind-same refl (λ x. accepted refl)
+
+free-same : (i : ℕ) (s : State) → Both (By noBits) (freeRegion i s) (freeRegion i (noBits s))
+unfolding freeRegion
+free-same i s = bind-same refl (λ p. accepted refl)
+
+insert-child-same : (p i : ℕ) (s : State) → insertChild p i (noBits s) ≡ noBits (insertChild p i s)
+unfolding insertChild
+insert-child-same p i s = refl
+
+leave-same : (i : ℕ) (k : Kind) (s : State) → regionAt s i .kind ≡ k → leaveParent i (noBits s) ≡ noBits (leaveParent i s)
+unfolding leaveParent removeChild
+leave-same i Root s e = rw (e, leaveParent)
+leave-same i (Alias p) s e = rw (e, leaveParent)
+leave-same i (Carve p) s e = rw (e, leaveParent)
+
+pub child-same : (d p : ℕ) (k : Kind) (a : Access) (s : State) → Both (By noBits₁) (addChild d p k a s) (addChild d p k a (noBits s))
+unfolding addChild insertChild
+child-same d p k a s = bind-by _ (new-same d k a s) (λ (i, s₁). insert-same d _ (insertChild p i s₁))
+
+pub room-same : (d : ℕ) (a : Access) (s : State) → Both (By noBits) (roomForRegion d a s) (roomForRegion d a (noBits s))
+unfolding roomForRegion
+room-same d a s = and-same refl (bind-by _ (capacity-same d s) (λ s₁. and-same refl (accepted refl)))
+
+pub exchange-same : (d old : ℕ) (a : Access) (s : State) → Both (By noBits) (exchangeRights d old a s) (exchangeRights d old a (noBits s))
+unfolding exchangeRights
+exchange-same d old a s = branch (eqb old (a .rights)) (accepted refl) (bind-by _ (deactivate-same d _ s) (λ s₁. activate-same d a s₁))
+
+-- ---- send
+
+ranges-same : (old new r : ℕ) (xs : List Range) (s : State) → Both (By noBits) (sendRanges old new r xs s) (sendRanges old new r xs (noBits s))
+unfolding sendRanges
+ranges-same old new r [] s = accepted refl
+ranges-same old new r (x ∷ xs) s =
+    bind-by _ (deactivate-same old _ s) (λ s₁.
+    bind-by _ (activate-same new _ s₁) (λ s₂.
+    ranges-same old new r xs s₂))
+
+send-region-same : (i new : ℕ) (s : State) → Both (By noBits) (sendRegion i new s) (sendRegion i new (noBits s))
+unfolding sendRegion
+send-region-same i new s = let g = regionAt s i in ranges-same (g .owner) new (g .rights) (effectiveRanges s g) (putRegion i (withOwner new g) s)
+
+options-same : (i : ℕ) (o : SendOptions) (s : State) → applyOptions i o (noBits s) ≡ noBits (applyOptions i o s)
+unfolding applyOptions
+options-same i o s = go (o .flags)
+  where
+    go : (x : Option ℕ) → applyOptions i (record { flags = x; hash = o .hash }) (noBits s) ≡ noBits (applyOptions i (record { flags = x; hash = o .hash }) s)
+    go none = refl
+    go (some f) = refl
+
+pub send-capa-same : (c : Capa) (to : ℕ) (o : SendOptions) (s : State) → Both (By noBits) (sendCapa c to o s) (sendCapa c to o (noBits s))
+unfolding sendCapa
+send-capa-same noCapa to o s = accepted refl
+send-capa-same (region h) to o s = bind-same (live-region-same s h) (λ i. and-same refl (bind-by _ (send-region-same i to s) (λ s₁. accepted (options-same i o s₁))))
+send-capa-same (regionRevoke h) to o s = accepted refl
+send-capa-same (management h) to o s = refused
+send-capa-same (channel h) to o s = accepted refl
+
+-- ---- revoke
+
+give-same : (g : Region) (k : Kind) (s : State) → g .kind ≡ k → Both (By noBits) (giveBack g s) (giveBack g (noBits s))
+unfolding giveBack
+give-same g Root s e = rw (e, giveBack) (accepted refl)
+give-same g (Alias p) s e = rw (e, giveBack) (accepted refl)
+give-same g (Carve p) s e = rw (e, giveBack) (activate-same _ _ s)
+
+leaf-same : (i : ℕ) (s : State) → Both (By noBits) (revokeLeaf i s) (revokeLeaf i (noBits s))
+unfolding revokeLeaf
+leaf-same i s =
+    let g = regionAt s i in
+    let left : Both (By noBits) (deactivate (g .owner) (accessOf g) (leaveParent i s)) (deactivate (g .owner) (accessOf g) (leaveParent i (noBits s))) = subst (λ t. Both (By noBits) (deactivate (g .owner) (accessOf g) (leaveParent i s)) (deactivate (g .owner) (accessOf g) t)) (sym (leave-same i (g .kind) s refl)) (deactivate-same (g .owner) (accessOf g) (leaveParent i s)) in
+    bind-by _ left (λ s₁.
+    bind-by _ (give-same g _ s₁ refl) (λ s₂.
+    bind-by _ (free-same i s₂) (λ s₃.
+    branch (has (g .rights) CLEANUP) (push-same _ s₃) (accepted refl))))
+
+revoke-region-same : (n i : ℕ) (s : State) → Both (By noBits) (revokeRegion n i s) (revokeRegion n i (noBits s))
+unfolding revokeRegion
+revoke-region-same zero i s = accepted refl
+revoke-region-same (suc n) i s = go (regionAt s i .children) refl (λ j t. revoke-region-same n j t)
+  where
+    go : (cs : List ℕ) → regionAt s i .children ≡ cs → ((j : ℕ) (t : State) → Both (By noBits) (revokeRegion n j t) (revokeRegion n j (noBits t))) → Both (By noBits) (revokeRegion (suc n) i s) (revokeRegion (suc n) i (noBits s))
+    go [] e ih = rw (e, revokeRegion) (leaf-same i s)
+    go (c ∷ cs) e ih = rw (e, revokeRegion) (bind-by _ (ih c s) (λ s₁. ih i s₁))
+
+unless-same : (i : ℕ) (s : State) → Both (By noBits) (revokeUnlessRoot i s) (revokeUnlessRoot i (noBits s))
+unfolding revokeUnlessRoot
+unless-same i s = and-same refl (revoke-region-same _ i s)
+
+pub revoke-capa-same : (c : Capa) (s : State) → Both (By noBits) (revokeCapa c s) (revokeCapa c (noBits s))
+unfolding revokeCapa
+revoke-capa-same noCapa s = accepted refl
+revoke-capa-same (region h) s = bind-same (live-region-same s h) (λ i. unless-same i s)
+revoke-capa-same (regionRevoke h) s = branch (isLive (s .regionPool) (s .regions) h) (unless-same (h .slot) s) (accepted refl)
+revoke-capa-same (management h) s = refused
+revoke-capa-same (channel h) s = accepted refl
