@@ -9,8 +9,9 @@ use native.Mathlib.Decide.{ℕ-discrete}
 use native.Mathlib.Omega.{arith}
 use lib.Dec.{eqb}
 use lib.ListN.{length, getD, set, replicate, length-append, length-map, length-set}
-use lib.Seq.{take-at, drop-at, ext-getD, getD-set-same, getD-set-other}
+use lib.Seq.{take-at, drop-at, ext-getD, getD-set-same, getD-set-other, set-out}
 use borrow.Author.Tests.{eq-eqb, ne-eqb}
+use Rattle.base.specs.Cases.{lt, ge, cmp}
 use Rattle.model.specs.Lists.{if_then_else_, Each, atSlot, countUp}
 use Rattle.laws.specs.Parts.{up-length}
 use Rattle.words.specs.Rows.{rows, flat}
@@ -67,6 +68,18 @@ pub set-table : {A B : Type 0} (f : ℕ → Option A → B) (l : List (Option A)
     → map (λ j. f j (atSlot (set l i o) j)) (countUp 0 n) ≡ set (map (λ j. f j (atSlot l j)) (countUp 0 n)) i (f i o)
 set-table f l n i o e h =
     sym (set-up (λ j. f j (atSlot l j)) (λ j. f j (atSlot (set l i o) j)) n i (f i o) h (ap (f i) (getD-set-same l i o none (omega arith))) (λ j ne k. ap (f j) (getD-set-other l i j o none ne)))
+
+-- a row that stays as it was
+pub same-table : {A B : Type 0} (f : Option A → B) (l : List (Option A)) (n i : ℕ) (o : Option A) → f o ≡ f (atSlot l i)
+    → map (λ j. f (atSlot (set l i o) j)) (countUp 0 n) ≡ map (λ j. f (atSlot l j)) (countUp 0 n)
+same-table f l n i o e = same-up (λ j. f (atSlot (set l i o) j)) (λ j. f (atSlot l j)) n (λ j k. at j (ℕ-discrete j i))
+  where
+    at : (j : ℕ) → Dec (j ≡ i) → f (atSlot (set l i o) j) ≡ f (atSlot l j)
+    at j (yes z) = elim (cmp i (length l)) [
+      | lt b ↦ rw z (ap f (getD-set-same l i o none b) ∙ e)
+      | ge b ↦ rw (set-out l i o b)
+    ]
+    at j (no ne) = ap f (getD-set-other l i j o none ne)
 
 -- two elements are set
 pub set-two : {A : Type 0} (f g : ℕ → A) (n i j : ℕ) → i < n → j < n → ((k : ℕ) → k ≢ i → k ≢ j → g k ≡ f k)

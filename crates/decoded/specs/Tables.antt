@@ -4,7 +4,7 @@ use mathlib.Core.Option.{Option, none, some}
 use mathlib.Core.List.{List, [], _∷_, map}
 use lib.Dec.{eqb}
 use lib.ListN.{length, replicate, getElem?}
-use Rattle.model.specs.Lists.{if_then_else_, atSlot, countUp, firstOf, afterIn}
+use Rattle.model.specs.Lists.{if_then_else_, oneIf, atSlot, countUp, firstOf, afterIn}
 use Rattle.model.specs.State as state
 use Rattle.model.specs.State.{State, Capa, noCapa, region, regionRevoke, management, channel, parentOf, permission, cleanup}
 use Rattle.model.specs.Layout.{link, slotOr0, freeLink, kindWord, siblings, writePlace}
@@ -17,8 +17,9 @@ use Rattle.tables.specs.declared.Region.{Region}
 use Rattle.tables.specs.declared.Update.{Update}
 use Rattle.tables.specs.declared.Hash.{Hash}
 use Rattle.tables.specs.declared.RegionHash.{RegionHash}
+use Rattle.tables.specs.declared.Interface.{Interface}
 use Rattle.tables.specs.Kinds.{FREE, REGION, «REGION_REVOKE», MANAGEMENT, CHANNEL, PERMISSION, CLEANUP}
-use Rattle.tables.specs.Tables.{Tables, Arena, Domain, noHead, noSlot, noRegion, noRecord, noUpdate, noHash, hashGiven}
+use Rattle.tables.specs.Tables.{Tables, Arena, Domain, noHead, noSlot, noRegion, noRecord, noUpdate, noHash, noInterface, hashGiven}
 
 abbrev pub sizesFor : state.Sizes → Sizes
 sizesFor z = record { domains = z .domains; slots = z .slots; regions = z .regions; records = z .records; updates = z .updates }
@@ -101,6 +102,16 @@ abbrev pub slotHash : Option state.Region → RegionHash
 slotHash none = noHash
 slotHash (some g) = regionHashFor (g .hash)
 
+-- ---- interfaces (document 02, request 2)
+
+abbrev pub interfaceFor : state.Interface → Interface
+interfaceFor f = record { word = f .word; frozen = oneIf (f .frozen) }
+
+-- by what the slot holds; a free one has two zeros
+abbrev pub slotInterface : Option state.Domain → Interface
+slotInterface none = noInterface
+slotInterface (some x) = interfaceFor (x .interface)
+
 -- ---- tracker records
 
 abbrev pub recordFor : state.Record → Option ℕ → Region
@@ -155,6 +166,9 @@ ringFor n q = map (placeFor n q) (countUp 0 (n + 1))
 unfoldable pub hashesFor : ℕ → List (Option state.Region) → List RegionHash
 hashesFor n rs = map (λ i. slotHash (atSlot rs i)) (countUp 0 n)
 
+unfoldable pub interfacesFor : ℕ → List (Option state.Domain) → List Interface
+interfacesFor n ds = map (λ i. slotInterface (atSlot ds i)) (countUp 0 n)
+
 unfoldable pub tablesOf : State → Tables
 tablesOf s =
     record {
@@ -169,4 +183,5 @@ tablesOf s =
       records = recordsFor (s .sizes .records) (s .domains);
       ring = ringFor (s .sizes .updates) (s .queue);
       hashes = hashesFor (s .sizes .regions) (s .regions);
+      interfaces = interfacesFor (s .sizes .domains) (s .domains);
     }

@@ -20,12 +20,12 @@ use Rattle.words.specs.Rows.{flat}
 use Rattle.words.specs.Cuts.{join}
 use Rattle.tables.specs.declared.Region.{Region}
 use Rattle.tables.specs.Tables.{Domain, noSlot}
-use Rattle.tables.specs.View.{headWords, slotWords, regionWords, recordWords, updateWords, hashWords, domainWords, arenaWords, headerWords, partsOf, layout, view, Sized, Left}
+use Rattle.tables.specs.View.{headWords, slotWords, regionWords, recordWords, updateWords, hashWords, interfaceWords, domainWords, arenaWords, headerWords, partsOf, layout, view, Sized, Left}
 use Rattle.tables.specs.Layout.{words-are}
 use Rattle.decoded.specs.Rows.{map-up-length, each-map, flat-map}
 use Rattle.decoded.specs.Sizes.{good-limits}
 use Rattle.decoded.specs.Shape.{PoolShaped, Shaped, view-layout, layout-sized}
-use Rattle.decoded.specs.Tables.{poolOf, slotFor, headFor, domainFor, regionFor, inTrackerFor, recordIn, updateFor, placeFor, regionHashFor, slotHash, domainsFor, regionsFor, recordsFor, ringFor, hashesFor, tablesOf}
+use Rattle.decoded.specs.Tables.{poolOf, slotFor, headFor, domainFor, regionFor, inTrackerFor, recordIn, updateFor, placeFor, regionHashFor, slotHash, slotInterface, domainsFor, regionsFor, recordsFor, ringFor, hashesFor, interfacesFor, tablesOf}
 
 -- ---- the words of each row
 
@@ -85,10 +85,14 @@ slot-hash-words : (o : Option state.Region) → hashWords (slotHash o) ≡ model
 slot-hash-words none = refl
 slot-hash-words (some g) = hash-words (g .hash)
 
+interface-words : (o : Option state.Domain) → interfaceWords (slotInterface o) ≡ model.interfaceWords o
+interface-words none = refl
+interface-words (some x) = refl
+
 -- ---- the whole
 
 parts-words : (s : State) → partsOf (tablesOf s) ≡ laws.sections s
-unfolding partsOf tablesOf headerWords domainsFor regionsFor recordsFor ringFor hashesFor
+unfolding partsOf tablesOf headerWords domainsFor regionsFor recordsFor ringFor hashesFor interfacesFor
 parts-words s =
     let z = s .sizes in
     let p₁ = pool-words (z .domains) (s .domainPool) in
@@ -99,7 +103,8 @@ parts-words s =
     let p₆ = flat-map recordWords (recordIn (s .domains)) _ (countUp 0 (z .records)) (record-words (s .domains)) in
     let p₇ = flat-map updateWords (placeFor (z .updates) (s .queue)) (model.placeWords (z .updates) (s .queue)) (countUp 0 (z .updates + 1)) (place-words (z .updates) (s .queue)) in
     let p₈ = flat-map hashWords (λ i. slotHash (atSlot (s .regions) i)) _ (countUp 0 (z .regions)) (λ i. slot-hash-words (atSlot (s .regions) i)) in
-    λ i. model.headerWords s ∷ p₁ i ∷ p₂ i ∷ p₃ i ∷ p₄ i ∷ p₅ i ∷ p₆ i ∷ p₇ i ∷ p₈ i ∷ []
+    let p₉ = flat-map interfaceWords (λ i. slotInterface (atSlot (s .domains) i)) _ (countUp 0 (z .domains)) (λ i. interface-words (atSlot (s .domains) i)) in
+    λ i. model.headerWords s ∷ p₁ i ∷ p₂ i ∷ p₃ i ∷ p₄ i ∷ p₅ i ∷ p₆ i ∷ p₇ i ∷ p₈ i ∷ p₉ i ∷ []
 
 same-join : (l : List (List ℕ)) → join l ≡ parts.join l
 unfolding join
@@ -132,7 +137,7 @@ slots-many n none = length-replicate n noSlot
 slots-many n (some x) = map-up-length (λ i. slotFor (x .locals .free) i (atSlot (x .locals .held) i)) n
 
 pub tables-shaped : (s : State) → Fits s → Shaped (tablesOf s)
-unfolding tablesOf domainsFor regionsFor recordsFor ringFor hashesFor
+unfolding tablesOf domainsFor regionsFor recordsFor ringFor hashesFor interfacesFor
 tables-shaped s h =
     let z = s .sizes in
     record {
@@ -146,6 +151,7 @@ tables-shaped s h =
       records = map-up-length (recordIn (s .domains)) (z .records);
       ring = map-up-length (placeFor (z .updates) (s .queue)) (z .updates + 1);
       hashes = map-up-length (λ i. slotHash (atSlot (s .regions) i)) (z .regions);
+      interfaces = map-up-length (λ i. slotInterface (atSlot (s .domains) i)) (z .domains);
     }
 
 module _ (s : State) (h : Fits s) where

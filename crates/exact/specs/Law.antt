@@ -1,14 +1,14 @@
 -- The law: the test of lent tables is exact (document 01, **Sound**), and each of three groups of it by itself: what is outside the trackers and the
 -- ring; the ring; and, where the first holds, the trackers with their pool. Within the first the tree leans on the pools, the capabilities on both.
 -- What no group tests follows from the sizes and from that memory holds words.
-use mathlib.Core.Path.{_≡_, sym, _∙_}
+use mathlib.Core.Path.{_≡_, sym, subst, _∙_}
 use mathlib.Core.Logic.{_↔_}
 use mathlib.Core.Bool.{true}
 use mathlib.Core.List.{List}
 use Prim.Native.Nat.{ℕ}
 use Rattle.base.specs.Tests.{both-true, both-i}
 use Rattle.model.specs.Lists.{Each}
-use Rattle.model.specs.State.{State, Word}
+use Rattle.model.specs.State.{State, Domain, Word}
 use Rattle.model.specs.Layout.{words}
 use Rattle.model.specs.Sound.{OutsideSound, TrackersSound, QueueSound, Sound}
 use Rattle.laws.specs.Words.Unique.{words-unique}
@@ -19,12 +19,14 @@ use Rattle.tables.specs.Tests.{sized-true, true-sized}
 use Rattle.decoded.specs.Rows.{map-up-length}
 use Rattle.decoded.specs.Sizes.{limits-good}
 use Rattle.decoded.specs.Shape.{Shaped}
-use Rattle.decoded.specs.Decode.Read.{poolFrom, domainsFrom, regionsFrom, sizesFrom, stateOf}
+use Rattle.decoded.specs.Decode.Read.{poolFrom, domainRead, domainsFrom, regionsFrom, sizesFrom, stateOf}
 use Rattle.decoded.specs.Canonical.WellFormed.{OutsideWellFormed, TrackersWellFormed, QueueWellFormed}
+use Rattle.decoded.specs.Canonical.Pools.{table-in}
 use Rattle.decoded.specs.Canonical.Words.{SoundWords, view-shaped, well-formed-words, words-well-formed}
 use Rattle.sound_pools.specs.Hold.{outsidePoolsHold, recordPoolHolds}
 use Rattle.sound_tree.specs.Tree.{treeHolds}
 use Rattle.sound_hashes.specs.Hashes.{hashesHold}
+use Rattle.sound_interfaces.specs.Interfaces.{interfacesHold}
 use Rattle.sound_capas.specs.Capas.{capasHold}
 use Rattle.sound_queue.specs.Ring.{queueHolds}
 use Rattle.sound_trackers.specs.Trackers.{trackersHold}
@@ -32,6 +34,7 @@ use Rattle.exact_pools.specs.Law.{pools-exact, sound-pools, record-pool-exact, 
 use Rattle.exact_tree.specs.Law.{holds-tree}
 use Rattle.exact_tree.specs.Words.{words-tree}
 use Rattle.exact_hashes.specs.Law.{hashes-exact}
+use Rattle.exact_interfaces.specs.Law.{interfaces-exact}
 use Rattle.exact_capas.specs.Words.{view-stored}
 use Rattle.exact_capas.specs.Clauses.{all-before}
 use Rattle.exact_capas.specs.Full as capas
@@ -39,7 +42,7 @@ use Rattle.exact_queue.specs.Words.{ring-stored}
 use Rattle.exact_queue.specs.Queue as queue
 use Rattle.exact_trackers.specs.Law.{trackers-exact}
 use Rattle.sound.specs.Test.{outsideHolds, trackedHolds, groupsHold, isSound}
-use Rattle.exact.specs.Gens.{domain-gens, region-gens, record-gens}
+use Rattle.exact.specs.Gens.{domain-gens, region-gens, record-gens, interface-words}
 
 -- ---- the three groups of the test
 
@@ -72,11 +75,13 @@ module _ (t : List ℕ) (stored : Each Word t) (z : Sized t) where
   outside-holds h =
       let a = both-true (outsidePoolsHold v) _ h in
       let b = both-true (treeHolds v) _ (a .1) in
-      let c = both-true (hashesHold v) (capasHold v) (b .1) in
+      let c = both-true (hashesHold v) _ (b .1) in
+      let e = both-true (interfacesHold v) (capasHold v) (c .1) in
       let pools = pools-exact v shaped .0 (a .0) in
       let tree = words-tree t z stored (record { regionsFree = pools .regionsFree }) (b .0) in
-      let held = capas.capas-exact v (record { shaped = shaped; domainPool = pools .domainPool; regionPool = pools .regionPool; domainsOnce = pools .domainOnce; regionsOnce = pools .regionOnce; regionsUsed = tree .regionsUsed }) (view-stored t stored) .0 (c .1) in
-      let hashes = hashes-exact v .0 (c .0) in (
+      let held = capas.capas-exact v (record { shaped = shaped; domainPool = pools .domainPool; regionPool = pools .regionPool; domainsOnce = pools .domainOnce; regionsOnce = pools .regionOnce; regionsUsed = tree .regionsUsed }) (view-stored t stored) .0 (e .1) in
+      let hashes = hashes-exact v .0 (c .0) in
+      let interfaces = interfaces-exact v .0 (e .0) in (
         record {
           domainPool = pools .domainPool;
           regionPool = pools .regionPool;
@@ -86,6 +91,8 @@ module _ (t : List ℕ) (stored : Each Word t) (z : Sized t) where
           regionsFree = pools .regionsFree;
           hashesUsed = hashes .hashesUsed;
           hashesFree = hashes .hashesFree;
+          interfacesUsed = interfaces .interfacesUsed;
+          interfacesFree = interfaces .interfacesFree;
         },
         record {
           sizesGood = limits-good (sizesFrom (v .sizes)) (shaped .limits);
@@ -98,6 +105,7 @@ module _ (t : List ℕ) (stored : Each Word t) (z : Sized t) where
           managers = held .managers;
           lists = λ d x e. let l = pools .lists d x e in record { heldLength = l .0; once = l .1; revokesFit = held .revokesFit d x e; handlesFit = held .handlesFit d x e };
           coresWords = held .coresWords;
+          interfaceWords = λ d x e. let y = table-in (v .sizes .domains) (v .domainPool) (domainRead v) d x e in subst (λ (z : Domain). Word (z .interface .word)) (y .2) (interface-words t stored d);
         },
       )
 
@@ -130,7 +138,8 @@ hold-outside : (v : Tables) → Shaped v → OutsideWellFormed v → OutsideSoun
 hold-outside v s t h =
     both-i (outsidePoolsHold v) _ (pools-exact v s .1 (sound-pools v t h))
     (both-i (treeHolds v) _ (holds-tree v s t h)
-    (both-i (hashesHold v) (capasHold v) (hashes-exact v .1 (record { hashesUsed = t .hashesUsed; hashesFree = t .hashesFree })) (capas.clauses-pass v (all-before v s t h) (capas.sound-capas v h))))
+    (both-i (hashesHold v) _ (hashes-exact v .1 (record { hashesUsed = t .hashesUsed; hashesFree = t .hashesFree }))
+    (both-i (interfacesHold v) (capasHold v) (interfaces-exact v .1 (record { interfacesUsed = t .interfacesUsed; interfacesFree = t .interfacesFree })) (capas.clauses-pass v (all-before v s t h) (capas.sound-capas v h)))))
 
 hold-tracked : (v : Tables) → Shaped v → OutsideSound (stateOf v) → TrackersWellFormed v → TrackersSound (stateOf v) → trackedHolds v ≡ true
 hold-tracked v s o t h =

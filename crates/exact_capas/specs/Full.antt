@@ -19,7 +19,7 @@ use Rattle.laws.specs.Lists.{one-true}
 use Rattle.laws.specs.Words.SameTables.{unlink}
 use Rattle.tables.specs.Tables.{Tables, noDomain, headAt, slotAt, regionAt}
 use Rattle.decoded.specs.Shape.{Shaped}
-use Rattle.decoded.specs.Decode.Read.{poolFrom, taken, linked, heldIn, domainFrom, domainsFrom, stateOf}
+use Rattle.decoded.specs.Decode.Read.{poolFrom, taken, linked, heldIn, domainRead, domainsFrom, stateOf}
 use Rattle.decoded.specs.Canonical.Pools.{table-in}
 use Rattle.sound_capas.specs.Capas.{inUse, rowClaim, capaClaim, capasHold}
 use Rattle.exact_capas.specs.Fits.{FitFrom, times, By, by-times, count-sum, sum-below, out-holds}
@@ -58,9 +58,6 @@ module _ (v : Tables) (k : Before v) (q : CapasClauses v) where
 
   abbrev items : ℕ
   items = D * (S + 1)
-
-  abbrev domainRead : ℕ → state.Domain
-  domainRead i = domainFrom S (v .sizes .records) (v .records) (getD (v .domains) i noDomain)
 
   -- ---- nothing is claimed twice
 
@@ -111,7 +108,7 @@ module _ (v : Tables) (k : Before v) (q : CapasClauses v) where
 
   domain-out : (d : ℕ) → (x : state.Domain) × In (stateOf v .domains) d x → (d < D) × (taken (v .domainPool) d ≡ true)
   unfolding stateOf domainsFrom
-  domain-out d y = let u = table-in D (v .domainPool) domainRead d (y .0) (y .1) in (u .0, u .1)
+  domain-out d y = let u = table-in D (v .domainPool) (domainRead v) d (y .0) (y .1) in (u .0, u .1)
 
   region-claimed : (i : ℕ) → i < R → taken (v .regionPool) i ≡ true → By (capaClaim v) (suc i) 0 items
   unfolding capaClaim poolFrom regionAt
@@ -132,7 +129,7 @@ module _ (v : Tables) (k : Before v) (q : CapasClauses v) where
       go : (n : ℕ) → headAt v i .manager ≡ n → By (capaClaim v) (suc (R + i)) 0 items
       go zero e = at-by D S (rowClaim v) (suc (R + i)) i S b (omega arith) (head-claims v s i S t (omega arith) b (climbs v k q i b t) e)
       go (suc d) e =
-          let u = domain-out d (live-is (atSlot (stateOf v .domains) d) (q .managers i (domainRead i) (domain-in v k q i b t) .managerLive d (ap linked e))) in
+          let u = domain-out d (live-is (atSlot (stateOf v .domains) d) (q .managers i (domainRead v i) (domain-in v k q i b t) .managerLive d (ap linked e))) in
           let a = sum-find (ofDomainAt v k q i d) S (omega (arith, domain-slots v k q i d b t (u .0) (u .1), ap (λ n. oneIf (names (linked n) d)) e, one d d refl)) in
           let x = slotAt v d (a .at) in
           let m = management-held (poolFrom D (v .domainPool)) i x (one-true (isManagementOf (handleOf (poolFrom D (v .domainPool)) i) (heldIn x)) (a .counts)) in

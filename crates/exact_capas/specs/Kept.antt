@@ -25,7 +25,7 @@ use Rattle.tables.specs.Tables.{Tables, noDomain, headAt, slotAt, regionAt}
 use Rattle.arena.specs.Arena.{liveB}
 use Rattle.decoded.specs.Rows.{map-up-length}
 use Rattle.decoded.specs.Shape.{Shaped}
-use Rattle.decoded.specs.Decode.Read.{poolFrom, taken, linked, kindFrom, capaFrom, heldIn, domainFrom, regionRead, domainsFrom, regionsFrom, stateOf}
+use Rattle.decoded.specs.Decode.Read.{poolFrom, taken, linked, kindFrom, capaFrom, heldIn, domainRead, regionRead, domainsFrom, regionsFrom, stateOf}
 use Rattle.decoded.specs.Canonical.Pools.{table-used, table-in}
 use Rattle.decoded.specs.Canonical.Pools.{table-used, table-in}
 use Rattle.sound_capas.specs.Capas.{olderB, above, climbed, rowClaim}
@@ -57,12 +57,9 @@ module _ (v : Tables) (k : Before v) (q : CapasClauses v) where
   abbrev S : ℕ
   S = v .sizes .slots
 
-  abbrev domainRead : ℕ → state.Domain
-  domainRead i = domainFrom S (v .sizes .records) (v .records) (getD (v .domains) i noDomain)
-
-  pub domain-in : (d : ℕ) → d < D → taken (v .domainPool) d ≡ true → In (stateOf v .domains) d (domainRead d)
+  pub domain-in : (d : ℕ) → d < D → taken (v .domainPool) d ≡ true → In (stateOf v .domains) d (domainRead v d)
   unfolding stateOf domainsFrom
-  domain-in d b t = table-used D (v .domainPool) domainRead d b t
+  domain-in d b t = table-used D (v .domainPool) (domainRead v) d b t
 
   pub region-in : (i : ℕ) → i < R → taken (v .regionPool) i ≡ true → In (stateOf v .regions) i (regionRead v i)
   unfolding stateOf regionsFrom
@@ -77,11 +74,11 @@ module _ (v : Tables) (k : Before v) (q : CapasClauses v) where
 
   pub region-slots : (i d : ℕ) → i < R → taken (v .regionPool) i ≡ true → d < D → taken (v .domainPool) d ≡ true → sum (ofRegionAt i d) S ≡ oneIf (eqb (unlink (regionAt v i .owner)) d)
   unfolding stateOf regionAt
-  region-slots i d bi ti bd td = sym (held-count v s d bd (isRegionOf (handleOf (poolFrom R (v .regionPool)) i))) ∙ q .owners i (regionRead v i) (region-in i bi ti) .oneSlot d (domainRead d) (domain-in d bd td)
+  region-slots i d bi ti bd td = sym (held-count v s d bd (isRegionOf (handleOf (poolFrom R (v .regionPool)) i))) ∙ q .owners i (regionRead v i) (region-in i bi ti) .oneSlot d (domainRead v d) (domain-in d bd td)
 
   pub domain-slots : (i d : ℕ) → i < D → taken (v .domainPool) i ≡ true → d < D → taken (v .domainPool) d ≡ true → sum (ofDomainAt i d) S ≡ oneIf (names (linked (headAt v i .manager)) d)
   unfolding stateOf headAt
-  domain-slots i d bi ti bd td = sym (held-count v s d bd (isManagementOf (handleOf (poolFrom D (v .domainPool)) i))) ∙ q .managers i (domainRead i) (domain-in i bi ti) .oneManagement d (domainRead d) (domain-in d bd td)
+  domain-slots i d bi ti bd td = sym (held-count v s d bd (isManagementOf (handleOf (poolFrom D (v .domainPool)) i))) ∙ q .managers i (domainRead v i) (domain-in i bi ti) .oneManagement d (domainRead v d) (domain-in d bd td)
 
   pub owner-link : (i d : ℕ) → i < R → taken (v .regionPool) i ≡ true → unlink (regionAt v i .owner) ≡ d → regionAt v i .owner ≡ suc d
   unfolding regionAt
@@ -116,11 +113,11 @@ module _ (v : Tables) (k : Before v) (q : CapasClauses v) where
     -- its handle's clauses
     handle-at : HandleFit (poolFrom R (v .regionPool)) (regionsFrom v) (poolFrom D (v .domainPool)) (domainsFrom v) (heldIn (slotAt v d j))
     unfolding stateOf slotAt
-    handle-at = held-each (HandleFit (poolFrom R (v .regionPool)) (regionsFrom v) (poolFrom D (v .domainPool)) (domainsFrom v)) (getD (v .domains) d noDomain .slots) (q .handlesFit d (domainRead d) (domain-in d b t)) j (omega (arith, slots-many v s d b))
+    handle-at = held-each (HandleFit (poolFrom R (v .regionPool)) (regionsFrom v) (poolFrom D (v .domainPool)) (domainsFrom v)) (getD (v .domains) d noDomain .slots) (q .handlesFit d (domainRead v d) (domain-in d b t)) j (omega (arith, slots-many v s d b))
 
     revoke-at : RevokeFit (poolFrom R (v .regionPool)) (regionsFrom v) (heldIn (slotAt v d j))
     unfolding stateOf slotAt
-    revoke-at = held-each (RevokeFit (poolFrom R (v .regionPool)) (regionsFrom v)) (getD (v .domains) d noDomain .slots) (q .revokesFit d (domainRead d) (domain-in d b t)) j (omega (arith, slots-many v s d b))
+    revoke-at = held-each (RevokeFit (poolFrom R (v .regionPool)) (regionsFrom v)) (getD (v .domains) d noDomain .slots) (q .revokesFit d (domainRead v d) (domain-in d b t)) j (omega (arith, slots-many v s d b))
 
     handle-as : (n : ℕ) → slotAt v d j .kind ≡ n → HandleFit (poolFrom R (v .regionPool)) (regionsFrom v) (poolFrom D (v .domainPool)) (domainsFrom v) (capaFrom n h)
     handle-as n e = subst (λ m. HandleFit (poolFrom R (v .regionPool)) (regionsFrom v) (poolFrom D (v .domainPool)) (domainsFrom v) (capaFrom m h)) e handle-at
@@ -131,7 +128,7 @@ module _ (v : Tables) (k : Before v) (q : CapasClauses v) where
 
     older-domain : (slotAt v d j .kind ≡ 4) ⊎ (slotAt v d j .kind ≡ 5) → liveB (v .domainPool) h ≡ false → olderB (v .domainPool) h ≡ true
     unfolding domainsFrom
-    older-domain = ⊎-elim (λ e. fit-out D (v .domainPool) (s .domainPool) domainRead h (handle-as 4 e)) (λ e. fit-out D (v .domainPool) (s .domainPool) domainRead h (handle-as 5 e))
+    older-domain = ⊎-elim (λ e. fit-out D (v .domainPool) (s .domainPool) (domainRead v) h (handle-as 4 e)) (λ e. fit-out D (v .domainPool) (s .domainPool) (domainRead v) h (handle-as 5 e))
 
     no-root : slotAt v d j .kind ≡ 3 → liveB (v .regionPool) h ≡ true → regionAt v (h .slot) .kind ≢ 1
     unfolding stateOf regionsFrom regionAt
@@ -176,14 +173,14 @@ module _ (v : Tables) (k : Before v) (q : CapasClauses v) where
       go : (o : Option state.Domain) → atSlot (domainsFrom v) d ≡ o → T (managerPasses (λ p. managed n (domainsFrom v) p) o) → ((p : ℕ) → T (managed n (domainsFrom v) p) → climbed v n (headAt v p .manager) ≡ 0) → climbed v n (above v (headAt v d .manager)) ≡ 0
       go none e x ih = absurd x
       go (some y) e x ih =
-          let u = table-in D (v .domainPool) domainRead d y e in
+          let u = table-in D (v .domainPool) (domainRead v) d y e in
           up (headAt v d .manager) (subst (λ (z : state.Domain). T (ifSome (λ p. managed n (domainsFrom v) p) (z .manager))) (sym (u .2)) x) ih
 
   pub climbs : (d : ℕ) → d < D → taken (v .domainPool) d ≡ true → climbed v D (headAt v d .manager) ≡ 0
   unfolding stateOf domainsFrom
   climbs d b t =
-      let long : length (domainsFrom v) ≡ D = map-up-length (λ i. if taken (v .domainPool) i then some (domainRead i) else none) D in
-      climb D d (subst (λ n. T (managed n (domainsFrom v) d)) long (ok-managed (domainsFrom v) d (q .managers d (domainRead d) (domain-in d b t) .managed)))
+      let long : length (domainsFrom v) ≡ D = map-up-length (λ i. if taken (v .domainPool) i then some (domainRead v i) else none) D in
+      climb D d (subst (λ n. T (managed n (domainsFrom v) d)) long (ok-managed (domainsFrom v) d (q .managers d (domainRead v d) (domain-in d b t) .managed)))
 
   head-within : (d j : ℕ) → d < D → taken (v .domainPool) d ≡ true → S ≤ j → rowClaim v d j ≤ R + D
   head-within d j b t c = elim (ℕ-discrete (headAt v d .manager) 0) [

@@ -17,7 +17,7 @@ use Rattle.model.specs.Sound.{RevokeFit, HandleFit}
 use Rattle.tables.specs.declared.Handle.{Handle}
 use Rattle.tables.specs.Tables.{Tables, noDomain, slotAt, regionAt}
 use Rattle.decoded.specs.Shape.{Shaped}
-use Rattle.decoded.specs.Decode.Read.{poolFrom, taken, kindFrom, handleFrom, heldIn, domainFrom, regionRead, domainsFrom, regionsFrom, stateOf}
+use Rattle.decoded.specs.Decode.Read.{poolFrom, taken, kindFrom, handleFrom, heldIn, domainRead, regionRead, domainsFrom, regionsFrom, stateOf}
 use Rattle.decoded.specs.Canonical.Pools.{table-in}
 use Rattle.sound_capas.specs.Capas.{rowClaim, capasHold}
 use Rattle.exact_capas.specs.Clauses.{Stored, Before, CapasClauses}
@@ -46,9 +46,6 @@ module _ (v : Tables) (k : Before v) (pass : capasHold v ≡ true) where
   abbrev S : ℕ
   S = v .sizes .slots
 
-  abbrev domainRead : ℕ → state.Domain
-  domainRead i = domainFrom S (v .sizes .records) (v .records) (getD (v .domains) i noDomain)
-
   module _ (d : ℕ) (b : d < D) (t : taken (v .domainPool) d ≡ true) (j : ℕ) (c : j < S) where
     fit : rowClaim v d j ≤ v .sizes .regions + v .sizes .domains
     fit = rows v k pass .within d j b (omega arith)
@@ -62,8 +59,8 @@ module _ (v : Tables) (k : Before v) (pass : capasHold v ≡ true) where
         handle-fit (poolFrom R (v .regionPool)) (regionsFrom v) (poolFrom D (v .domainPool)) (domainsFrom v) (slotAt v d j .kind) h
         (λ e. fit-in R (v .regionPool) (s .regionPool) (regionRead v) h (fit-region v s d j t c fit (inl e)))
         (λ e. fit-in R (v .regionPool) (s .regionPool) (regionRead v) h (fit-region v s d j t c fit (inr e)))
-        (λ e. fit-in D (v .domainPool) (s .domainPool) domainRead h (fit-domain v s d j t c fit (inl e)))
-        (λ e. fit-in D (v .domainPool) (s .domainPool) domainRead h (fit-domain v s d j t c fit (inr e)))
+        (λ e. fit-in D (v .domainPool) (s .domainPool) (domainRead v) h (fit-domain v s d j t c fit (inl e)))
+        (λ e. fit-in D (v .domainPool) (s .domainPool) (domainRead v) h (fit-domain v s d j t c fit (inr e)))
 
     slot-revoke : RevokeFit (poolFrom R (v .regionPool)) (regionsFrom v) (heldIn (slotAt v d j))
     unfolding regionsFrom regionAt
@@ -79,20 +76,20 @@ module _ (v : Tables) (k : Before v) (pass : capasHold v ≡ true) where
   revokes : (d : ℕ) (x : state.Domain) → In (stateOf v .domains) d x → Each (RevokeFit (stateOf v .regionPool) (stateOf v .regions)) (x .locals .held)
   unfolding stateOf domainsFrom slotAt
   revokes d x f =
-      let u = table-in D (v .domainPool) domainRead d x f in
+      let u = table-in D (v .domainPool) (domainRead v) d x f in
       subst (λ (y : state.Domain). Each (RevokeFit (poolFrom R (v .regionPool)) (regionsFrom v)) (y .locals .held)) (u .2)
       (each-held (RevokeFit (poolFrom R (v .regionPool)) (regionsFrom v)) (getD (v .domains) d noDomain .slots) (λ j c. slot-revoke d (u .0) (u .1) j (omega (arith, slots-many v s d (u .0)))))
 
   handles : (d : ℕ) (x : state.Domain) → In (stateOf v .domains) d x → Each (HandleFit (stateOf v .regionPool) (stateOf v .regions) (stateOf v .domainPool) (stateOf v .domains)) (x .locals .held)
   unfolding stateOf domainsFrom slotAt
   handles d x f =
-      let u = table-in D (v .domainPool) domainRead d x f in
+      let u = table-in D (v .domainPool) (domainRead v) d x f in
       subst (λ (y : state.Domain). Each (HandleFit (poolFrom R (v .regionPool)) (regionsFrom v) (poolFrom D (v .domainPool)) (domainsFrom v)) (y .locals .held)) (u .2)
       (each-held (HandleFit (poolFrom R (v .regionPool)) (regionsFrom v) (poolFrom D (v .domainPool)) (domainsFrom v)) (getD (v .domains) d noDomain .slots) (λ j c. slot-handle d (u .0) (u .1) j (omega (arith, slots-many v s d (u .0)))))
 
   cores : Stored v → (d : ℕ) (x : state.Domain) → In (stateOf v .domains) d x → Word (x .cores)
   unfolding stateOf domainsFrom
-  cores w d x f = let u = table-in D (v .domainPool) domainRead d x f in subst (λ (y : state.Domain). Word (y .cores)) (u .2) (w .cores d (u .0))
+  cores w d x f = let u = table-in D (v .domainPool) (domainRead v) d x f in subst (λ (y : state.Domain). Word (y .cores)) (u .2) (w .cores d (u .0))
 
   clauses : Stored v → CapasClauses v
   clauses w = record { owners = owners v k pass; managers = managers v k pass; revokesFit = revokes; handlesFit = handles; coresWords = cores w }

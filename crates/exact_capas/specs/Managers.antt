@@ -18,7 +18,7 @@ use Rattle.laws.specs.Tree.Sum.{sum, sum-none}
 use Rattle.laws.specs.Tree.Slots.{is-live}
 use Rattle.tables.specs.Tables.{Tables, noDomain, headAt, slotAt}
 use Rattle.decoded.specs.Shape.{Shaped}
-use Rattle.decoded.specs.Decode.Read.{poolFrom, taken, linked, heldIn, domainFrom, domainsFrom, stateOf}
+use Rattle.decoded.specs.Decode.Read.{poolFrom, taken, linked, heldIn, domainRead, domainsFrom, stateOf}
 use Rattle.decoded.specs.Canonical.Pools.{table-used, table-in}
 use Rattle.sound_capas.specs.Capas.{above, climbed, rowClaim, capasHold}
 use Rattle.exact_capas.specs.Grid.{sum-only}
@@ -46,9 +46,6 @@ module _ (v : Tables) (k : Before v) (pass : capasHold v ≡ true) where
 
   abbrev S : ℕ
   S = v .sizes .slots
-
-  abbrev domainRead : ℕ → state.Domain
-  domainRead i = domainFrom S (v .sizes .records) (v .records) (getD (v .domains) i noDomain)
 
   abbrev manager : ℕ → ℕ
   manager d = headAt v d .manager
@@ -90,7 +87,7 @@ module _ (v : Tables) (k : Before v) (pass : capasHold v ≡ true) where
       | holds u ↦ absurd (ne (same-item v k pass (R + d) e j m i be (omega arith) bm bi (match j c u) cl))
     ]
 
-    counted : Managing d → countIf (isManagementOf (handleOf (poolFrom D (v .domainPool)) d)) (domainRead e .locals .held) ≡ oneIf (names (linked (manager d)) e)
+    counted : Managing d → countIf (isManagementOf (handleOf (poolFrom D (v .domainPool)) d)) (domainRead v e .locals .held) ≡ oneIf (names (linked (manager d)) e)
     unfolding poolFrom
     counted (by-head i l h cl z) = held-count v s e be (isManagementOf (handleOf (poolFrom D (v .domainPool)) d)) ∙ sum-none (holdsIt d e) S (λ j c. off d i b h cl j c (λ q. omega (arith, q .1))) ∙ sym (ap (λ n. oneIf (names (linked n) e)) z)
     counted (by-slot m i bm tm bi z l q cl w) = held-count v s e be (isManagementOf (handleOf (poolFrom D (v .domainPool)) d)) ∙ there (ℕ-discrete m e) ∙ sym (ap (λ n. oneIf (names (linked n) e)) w)
@@ -111,15 +108,15 @@ module _ (v : Tables) (k : Before v) (pass : capasHold v ≡ true) where
       go (by-slot n j bn tn c z l q cl w) = let y : n ≡ m = omega arith in (omega arith, ap (taken (v .domainPool)) (sym y) ∙ tn)
       go (by-head j l h cl z) = absurd (omega arith)
 
-  in-use : (d : ℕ) → d < D → taken (v .domainPool) d ≡ true → In (domainsFrom v) d (domainRead d)
+  in-use : (d : ℕ) → d < D → taken (v .domainPool) d ≡ true → In (domainsFrom v) d (domainRead v d)
   unfolding domainsFrom
-  in-use d b t = table-used D (v .domainPool) domainRead d b t
+  in-use d b t = table-used D (v .domainPool) (domainRead v) d b t
 
   -- by what stands above domain m
   step : (m x : ℕ) → m < D → taken (v .domainPool) m ≡ true → manager m ≡ x → ((p : ℕ) → manager m ≡ suc p → p < D → taken (v .domainPool) p ≡ true → Managed (domainsFrom v) p) → Managed (domainsFrom v) m
   unfolding headAt
-  step m zero b t e f = Managed.noManager m (domainRead m) (in-use m b t) (ap linked e)
-  step m (suc p) b t e f = let u = up m p b t e in Managed.by m p (domainRead m) (in-use m b t) (ap linked e) (f p e (u .0) (u .1))
+  step m zero b t e f = Managed.noManager m (domainRead v m) (in-use m b t) (ap linked e)
+  step m (suc p) b t e f = let u = up m p b t e in Managed.by m p (domainRead v m) (in-use m b t) (ap linked e) (f p e (u .0) (u .1))
 
   climb : (n l : ℕ) → climbed v n l ≡ 0 → (m : ℕ) → l ≡ suc m → m < D → taken (v .domainPool) m ≡ true → Managed (domainsFrom v) m
   unfolding climbed
@@ -132,12 +129,12 @@ module _ (v : Tables) (k : Before v) (pass : capasHold v ≡ true) where
   pub managers : (d : ℕ) (x : state.Domain) → In (stateOf v .domains) d x → ManagerSound (stateOf v .domainPool) (stateOf v .domains) d x
   unfolding stateOf domainsFrom headAt
   managers d x f =
-      let u = table-in D (v .domainPool) domainRead d x f in
+      let u = table-in D (v .domainPool) (domainRead v) d x f in
       let w : linked (manager d) ≡ x .manager = ap (λ (y : state.Domain). y .manager) (u .2) in
       record {
-        managerLive = λ m e. let z = up d m (u .0) (u .1) (link-out (manager d) m (w ∙ e)) in is-live _ (domainRead m) (table-used D (v .domainPool) domainRead m (z .0) (z .1));
+        managerLive = λ m e. let z = up d m (u .0) (u .1) (link-out (manager d) m (w ∙ e)) in is-live _ (domainRead v m) (table-used D (v .domainPool) (domainRead v) m (z .0) (z .1));
         oneManagement = λ e y g.
-            let z = table-in D (v .domainPool) domainRead e y g in
+            let z = table-in D (v .domainPool) (domainRead v) e y g in
             subst (λ (a : state.Domain). countIf (isManagementOf (handleOf (poolFrom D (v .domainPool)) d)) (a .locals .held) ≡ oneIf (names (x .manager) e)) (z .2)
             (counted d (u .0) (u .1) e (z .0) (z .1) (managing d (u .0) (u .1)) ∙ ap (λ o. oneIf (names o e)) w);
         managed = no-circle d (u .0) (u .1);

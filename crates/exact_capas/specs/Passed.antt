@@ -18,7 +18,7 @@ use Rattle.laws.specs.Tree.Sum.{sum-none}
 use Rattle.laws.specs.Words.SameTables.{unlink}
 use Rattle.tables.specs.Tables.{Tables, noDomain, slotAt, regionAt}
 use Rattle.decoded.specs.Shape.{Shaped}
-use Rattle.decoded.specs.Decode.Read.{poolFrom, taken, heldIn, domainFrom, regionRead, domainsFrom, regionsFrom, stateOf}
+use Rattle.decoded.specs.Decode.Read.{poolFrom, taken, heldIn, domainRead, regionRead, domainsFrom, regionsFrom, stateOf}
 use Rattle.decoded.specs.Canonical.Pools.{table-used, table-in}
 use Rattle.decoded.specs.Canonical.Pools.{table-used, table-in}
 use Rattle.sound_capas.specs.Claims.{claimCount}
@@ -46,9 +46,6 @@ module _ (v : Tables) (k : Before v) (pass : capasHold v ≡ true) where
 
   abbrev items : ℕ
   items = D * (S + 1)
-
-  abbrev domainRead : ℕ → state.Domain
-  domainRead i = domainFrom S (v .sizes .records) (v .records) (getD (v .domains) i noDomain)
 
   -- ---- everything in use is claimed
 
@@ -130,7 +127,7 @@ module _ (v : Tables) (k : Before v) (pass : capasHold v ≡ true) where
       let l : Lives R (v .regionPool) (x .handle) = record { below = omega (arith, m .1); used = ap (taken (v .regionPool)) (m .1) ∙ ti; same = ap (λ n. getD (v .regionPool .gens) n 0) (m .1) ∙ sym (m .2) } in
       region-claims v s d j td bj (m .0) l (owner-is v s d j td bj (rows .within d j bd (omega arith)) (m .0) (live-at R (v .regionPool) (s .regionPool) (x .handle) l)) ∙ ap suc (m .1)
 
-  one-slot : (i : ℕ) → i < R → taken (v .regionPool) i ≡ true → (o : Owner i) (d : ℕ) → d < D → taken (v .domainPool) d ≡ true → countIf (isRegionOf (handleOf (poolFrom R (v .regionPool)) i)) (domainRead d .locals .held) ≡ oneIf (eqb (o .dom) d)
+  one-slot : (i : ℕ) → i < R → taken (v .regionPool) i ≡ true → (o : Owner i) (d : ℕ) → d < D → taken (v .domainPool) d ≡ true → countIf (isRegionOf (handleOf (poolFrom R (v .regionPool)) i)) (domainRead v d .locals .held) ≡ oneIf (eqb (o .dom) d)
   unfolding poolFrom
   one-slot i bi ti o d bd td = held-count v s d bd (isRegionOf (handleOf (poolFrom R (v .regionPool)) i)) ∙ elim (ℕ-discrete (o .dom) d) [
     | yes e ↦
@@ -155,9 +152,9 @@ module _ (v : Tables) (k : Before v) (pass : capasHold v ≡ true) where
       let o = owner-of i (u .0) (u .1) in
       let w : g .owner ≡ o .dom = ap (λ (x : state.Region). x .owner) (sym (u .2)) ∙ ap unlink (o .owner) in
       record {
-        ownerLive = is-live _ (domainRead (g .owner)) (table-used D (v .domainPool) domainRead (g .owner) (omega (arith, o .domBelow)) (ap (taken (v .domainPool)) w ∙ o .domUsed));
+        ownerLive = is-live _ (domainRead v (g .owner)) (table-used D (v .domainPool) (domainRead v) (g .owner) (omega (arith, o .domBelow)) (ap (taken (v .domainPool)) w ∙ o .domUsed));
         oneSlot = λ d x f.
-            let z = table-in D (v .domainPool) domainRead d x f in
+            let z = table-in D (v .domainPool) (domainRead v) d x f in
             subst (λ (y : state.Domain). countIf (isRegionOf (handleOf (poolFrom R (v .regionPool)) i)) (y .locals .held) ≡ oneIf (eqb (g .owner) d)) (z .2)
             (one-slot i (u .0) (u .1) o d (z .0) (z .1) ∙ ap (λ n. oneIf (eqb n d)) (sym w));
       }

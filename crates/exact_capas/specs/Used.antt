@@ -13,7 +13,7 @@ use Rattle.laws.specs.Tree.Sum.{sum, sum-add, sum-same, sum-each}
 use Rattle.laws.specs.Stack.{stack-length}
 use Rattle.tables.specs.Tables.{Tables, Arena, noDomain}
 use Rattle.arena.specs.Arena.{capacityOf}
-use Rattle.decoded.specs.Decode.Read.{afterFree, freeFrom, poolFrom, taken, tableFrom, domainFrom, regionRead, domainsFrom, regionsFrom, stateOf}
+use Rattle.decoded.specs.Decode.Read.{afterFree, freeFrom, poolFrom, taken, tableFrom, domainRead, regionRead, domainsFrom, regionsFrom, stateOf}
 use Rattle.decoded.specs.Canonical.Ends.{stack-long}
 use Rattle.decoded.specs.Canonical.WellFormed.{PoolWellFormed}
 use Rattle.decoded.specs.Canonical.Pools.{table-used, table-free}
@@ -58,7 +58,7 @@ module _ (v : Tables) where
 
     domains-used : sum (λ i. oneIf (taken (v .domainPool) i)) D ≡ v .domainPool .count
     unfolding stateOf poolFrom domainsFrom
-    domains-used = count-used D (v .domainPool) (λ i. domainFrom (v .sizes .slots) (v .sizes .records) (v .records) (getD (v .domains) i noDomain)) (k .domainPool) (k .domainsOnce)
+    domains-used = count-used D (v .domainPool) (domainRead v) (k .domainPool) (k .domainsOnce)
 
     pub used-sum : sum used (R + D) ≡ inUse v
     unfolding capacityOf

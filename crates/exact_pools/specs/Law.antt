@@ -14,7 +14,7 @@ use Rattle.model.specs.Sound.{OutsideSound, TrackersSound, OnceEach, slotUses}
 use Rattle.laws.specs.Stack.{once-at-most, none-beyond}
 use Rattle.tables.specs.Tables.{Tables}
 use Rattle.decoded.specs.Shape.{Shaped}
-use Rattle.decoded.specs.Decode.Read.{taken, freeFrom, heldIn, domainFrom, regionRead, domainsFrom, regionsFrom, poolFrom, stateOf}
+use Rattle.decoded.specs.Decode.Read.{taken, freeFrom, heldIn, domainRead, regionRead, domainsFrom, regionsFrom, poolFrom, stateOf}
 use Rattle.decoded.specs.Canonical.WellFormed.{OutsideWellFormed, TrackersWellFormed, DomainWellFormed, domainRow, regionRow, recordRow}
 use Rattle.decoded.specs.Canonical.Pools.{table-used, table-in}
 use Rattle.sound_pools.specs.declared.links.Stack.the-variants.{Domains, Regions, Records, Trackers}
@@ -26,9 +26,6 @@ use Rattle.exact_pools.specs.Trackers.{uses, TrackersGood, trackers-good
 use Rattle.exact_pools.specs.Domains.{record-used, no-record, domain-stack, region-stack, record-stack, slots-many, RowGood, used-holds, holds-used, free-holds, holds-free, domains-hold, hold-domains, regions-hold, hold-regions, records-hold, hold-records}
 
 module _ (v : Tables) (s : Shaped v) where
-  abbrev domainRead : ℕ → state.Domain
-  domainRead i = domainFrom (v .sizes .slots) (v .sizes .records) (v .records) (domainRow v i)
-
   -- ---- domains and regions: the parts of the test
 
   record Parts : Type 0 where
@@ -68,14 +65,14 @@ module _ (v : Tables) (s : Shaped v) where
     abbrev ListClause : state.Domain → Type 0
     ListClause x = (length (x .locals .held) ≡ v .sizes .slots) × OnceEach (v .sizes .slots) (slotUses (x .locals .held)) (x .locals .free)
 
-    list-at : (d : ℕ) → d < v .sizes .domains → taken (v .domainPool) d ≡ true → ListClause (domainRead d)
+    list-at : (d : ℕ) → d < v .sizes .domains → taken (v .domainPool) d ≡ true → ListClause (domainRead v d)
     list-at d b t =
         let u = used-holds v s d b t (domains-hold v (p .domainRows) d b) in
         (length-map (domainRow v d .slots) heldIn ∙ slots-many v s d b, list-once (v .sizes .slots) (domainRow v d) (slots-many v s d b) (u .1))
 
     all-lists : (d : ℕ) (x : state.Domain) → In (domainsFrom v) d x → ListClause x
     unfolding domainsFrom
-    all-lists d x e = let y = table-in (v .sizes .domains) (v .domainPool) domainRead d x e in subst ListClause (y .2) (list-at d (y .0) (y .1))
+    all-lists d x e = let y = table-in (v .sizes .domains) (v .domainPool) (domainRead v) d x e in subst ListClause (y .2) (list-at d (y .0) (y .1))
 
     clauses : PoolsClauses v
     unfolding stateOf domainsFrom regionsFrom poolFrom
@@ -85,7 +82,7 @@ module _ (v : Tables) (s : Shaped v) where
       domainsUsed = domains-used;
       domainsFree = λ i b t. free-holds v s i b t (domains-hold v (p .domainRows) i b);
       regionsFree = λ i b t. region-zero (regionRow v i) (regions-hold v (p .regionRows) i b t);
-      domainOnce = good-once (v .sizes .domains) (v .domainPool) (p .domains) domainRead;
+      domainOnce = good-once (v .sizes .domains) (v .domainPool) (p .domains) (domainRead v);
       regionOnce = good-once (v .sizes .regions) (v .regionPool) (p .regions) (regionRead v);
       lists = all-lists;
     }
@@ -95,7 +92,7 @@ module _ (v : Tables) (s : Shaped v) where
   module _ (c : PoolsClauses v) where
     domains-good : PoolGood (v .sizes .domains) (v .domainPool)
     unfolding stateOf poolFrom domainsFrom
-    domains-good = once-good (v .sizes .domains) (v .domainPool) domainRead (c .domainPool) (c .domainOnce)
+    domains-good = once-good (v .sizes .domains) (v .domainPool) (domainRead v) (c .domainPool) (c .domainOnce)
 
     regions-good : PoolGood (v .sizes .regions) (v .regionPool)
     unfolding stateOf poolFrom regionsFrom
@@ -104,7 +101,7 @@ module _ (v : Tables) (s : Shaped v) where
     row-good : (d : ℕ) (b : d < v .sizes .domains) → taken (v .domainPool) d ≡ true → RowGood v s d b
     unfolding stateOf domainsFrom
     row-good d b y =
-        let l = c .lists d (domainRead d) (table-used (v .sizes .domains) (v .domainPool) domainRead d b y) in
+        let l = c .lists d (domainRead v d) (table-used (v .sizes .domains) (v .domainPool) (domainRead v) d b y) in
         let u = c .domainsUsed d b y in
         record { fits = u .fits; ends = u .ends; once = once-list (v .sizes .slots) (domainRow v d) (slots-many v s d b) (l .1) }
 

@@ -17,7 +17,7 @@ use Rattle.model.specs.Sound.{recordUses}
 use Rattle.laws.specs.Stack.{one-at-most}
 use Rattle.tables.specs.declared.Region.{Region}
 use Rattle.tables.specs.Tables.{Tables, noDomain, noRecord, headAt, recordAt}
-use Rattle.decoded.specs.Decode.Read.{chainFrom, taken, recordFrom, domainFrom}
+use Rattle.decoded.specs.Decode.Read.{chainFrom, taken, recordFrom, domainRead}
 use Rattle.decoded.specs.Canonical.Ends.{chainEnd}
 use Rattle.sound_pools.specs.declared.links.Stack.the-variants.{Trackers}
 use Rattle.decoded.specs.Canonical.Ends.{chainEnd}
@@ -43,7 +43,7 @@ module _ (v : Tables) where
   endOf d = chainEnd after (v .sizes .records) (getD (v .domains) d noDomain .head .tracker)
 
   abbrev readAt : ℕ → Option state.Domain
-  readAt d = if taken (v .domainPool) d then some (domainFrom (v .sizes .slots) (v .sizes .records) (v .records) (getD (v .domains) d noDomain)) else none
+  readAt d = if taken (v .domainPool) d then some (domainRead v d) else none
 
   -- how often record i is on the trackers of k domains from d on
   unfoldable pub uses : ℕ → ℕ → ℕ → ℕ

@@ -22,7 +22,7 @@ use Rattle.tables.specs.declared.Update.{Update}
 use Rattle.tables.specs.Tables.{Tables, noUpdate, noDomain, updateAt}
 use Rattle.decoded.specs.Rows.{map-up-length}
 use Rattle.decoded.specs.Shape.{Shaped}
-use Rattle.decoded.specs.Decode.Read.{poolFrom, domainFrom, domainsFrom, updateFrom, queueFrom, stateOf}
+use Rattle.decoded.specs.Decode.Read.{poolFrom, domainRead, domainsFrom, updateFrom, queueFrom, stateOf}
 use Rattle.decoded.specs.Decode.Places.{along, items-are}
 use Rattle.decoded.specs.Canonical.WellFormed.{QueueWellFormed, UpdateWellFormed, place, behind}
 use Rattle.decoded.specs.Canonical.Ring.{along-back}
@@ -105,7 +105,7 @@ module _ (v : Tables) (s : Shaped v) where
   live-is : (u : Update) → liveIn v u ≡ true → Live u
   unfolding domainsFrom
   live-is u h = elim (ℕ-discrete (u .kind) 1) [
-    | yes e ↦ subst (QueuedLive (poolFrom D (v .domainPool)) (domainsFrom v)) (sym (permission-read u e)) (true-is (live-read D (v .domainPool) (s .domainPool) (λ i. domainFrom (v .sizes .slots) (v .sizes .records) (v .records) (getD (v .domains) i noDomain)) (handleAt u) ∙ (rw (eq-eqb (u .kind) 1 e) at h)))
+    | yes e ↦ subst (QueuedLive (poolFrom D (v .domainPool)) (domainsFrom v)) (sym (permission-read u e)) (true-is (live-read D (v .domainPool) (s .domainPool) (domainRead v) (handleAt u) ∙ (rw (eq-eqb (u .kind) 1 e) at h)))
     | no ne ↦ subst (QueuedLive (poolFrom D (v .domainPool)) (domainsFrom v)) (sym (cleanup-read u ne)) tt
   ]
 
@@ -114,7 +114,7 @@ module _ (v : Tables) (s : Shaped v) where
   is-live u q = elim (ℕ-discrete (u .kind) 1) [
     | yes e ↦
         let x = subst (QueuedLive (poolFrom D (v .domainPool)) (domainsFrom v)) (permission-read u e) q in
-        rw (eq-eqb (u .kind) 1 e) (sym (live-read D (v .domainPool) (s .domainPool) (λ i. domainFrom (v .sizes .slots) (v .sizes .records) (v .records) (getD (v .domains) i noDomain)) (handleAt u)) ∙ is-true x)
+        rw (eq-eqb (u .kind) 1 e) (sym (live-read D (v .domainPool) (s .domainPool) (domainRead v) (handleAt u)) ∙ is-true x)
     | no ne ↦ rw (ne-eqb (u .kind) 1 ne)
   ]
 

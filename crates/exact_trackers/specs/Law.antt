@@ -21,7 +21,7 @@ use Rattle.tables.specs.declared.Region.{Region}
 use Rattle.tables.specs.Tables.{Tables, noDomain, headAt, recordAt}
 use Rattle.arena.specs.Arena.{isFreeB}
 use Rattle.decoded.specs.Shape.{Shaped}
-use Rattle.decoded.specs.Decode.Read.{taken, domainFrom, domainsFrom, regionsFrom, stateOf}
+use Rattle.decoded.specs.Decode.Read.{taken, domainRead, domainsFrom, regionsFrom, stateOf}
 use Rattle.decoded.specs.Canonical.Ends.{chainEnd}
 use Rattle.decoded.specs.Canonical.Pools.{table-in, table-used, taken-link, free-link}
 use Rattle.decoded.specs.Canonical.WellFormed.{domainRow, recordRow}
@@ -52,9 +52,9 @@ module _ (v : Tables) (shaped : Shaped v)
     (sound : (i : ℕ) (g : state.Region) → In (regionsFrom v) i g → RegionSound (regionsFrom v) i g)
     (owners : (i : ℕ) (g : state.Region) → In (regionsFrom v) i g → OwnerSound (regionPool v) (domainsFrom v) i g)
     (d : ℕ) (x : state.Domain) (at : In (domainsFrom v) d x) where
-  read : (d < v .sizes .domains) × (taken (v .domainPool) d ≡ true) × (domainFrom (v .sizes .slots) (v .sizes .records) (v .records) (domainRow v d) ≡ x)
+  read : (d < v .sizes .domains) × (taken (v .domainPool) d ≡ true) × (domainRead v d ≡ x)
   unfolding domainsFrom
-  read = table-in (v .sizes .domains) (v .domainPool) (λ i. domainFrom (v .sizes .slots) (v .sizes .records) (v .records) (getD (v .domains) i noDomain)) d x at
+  read = table-in (v .sizes .domains) (v .domainPool) (domainRead v) d x at
 
   in-use : isFreeB (v .domainPool) d ≡ false
   unfolding isFreeB
@@ -153,15 +153,15 @@ free-domain : (v : Tables) (d : ℕ) → taken (v .domainPool) d ≡ false → d
 unfolding domainB isFreeB
 free-domain v d e = rw (lt-ltb 0 (getD (v .domainPool .links) d 0) (free-link (v .domainPool) d e))
 
-used-domain : (v : Tables) (d : ℕ) → d < v .sizes .domains → taken (v .domainPool) d ≡ true → In (domainsFrom v) d (domainFrom (v .sizes .slots) (v .sizes .records) (v .records) (domainRow v d))
+used-domain : (v : Tables) (d : ℕ) → d < v .sizes .domains → taken (v .domainPool) d ≡ true → In (domainsFrom v) d (domainRead v d)
 unfolding domainsFrom
-used-domain v d h e = table-used (v .sizes .domains) (v .domainPool) (λ i. domainFrom (v .sizes .slots) (v .sizes .records) (v .records) (getD (v .domains) i noDomain)) d h e
+used-domain v d h e = table-used (v .sizes .domains) (v .domainPool) (domainRead v) d h e
 
 clause-passes : (v : Tables) → Before v → TrackersClause v → trackersHold v ≡ true
 unfolding stateOf trackersHold
 clause-passes v b c = below-every (λ d. domainB v d) (v .sizes .domains) (λ d h. elim (test (taken (v .domainPool) d)) [
   | holds e ↦
-      let x = domainFrom (v .sizes .slots) (v .sizes .records) (v .records) (domainRow v d) in
+      let x = domainRead v d in
       let at = used-domain v d h e in
       sound-domain v (b .shaped) (b .trackersEnd) (b .regions) (b .owners) d x at (c d x at) (counts-law (regionsFrom v) d (x .tracker) (c d x at))
   | fails e ↦ free-domain v d e

@@ -23,7 +23,7 @@ use Rattle.tables.specs.declared.Slot.{Slot}
 use Rattle.tables.specs.Tables.{Tables, noDomain, noSlot, slotAt}
 use Rattle.arena.specs.Arena.{liveB}
 use Rattle.decoded.specs.Shape.{Shaped}
-use Rattle.decoded.specs.Decode.Read.{taken, capaFrom, heldIn, poolFrom, domainFrom, domainsFrom, regionsFrom}
+use Rattle.decoded.specs.Decode.Read.{taken, capaFrom, heldIn, poolFrom, domainRead, domainsFrom, regionsFrom}
 use Rattle.decoded.specs.Canonical.Pools.{table-in}
 use Rattle.decoded.specs.Canonical.Law.{each-at}
 use Rattle.decoded.specs.Canonical.Pools.{table-in}
@@ -85,11 +85,11 @@ module _ (v : Tables) (shaped : Shaped v) where
 module _ (v : Tables) (shaped : Shaped v) (d : ℕ) (x : state.Domain) (at : In (domainsFrom v) d x) where
   held-is : x .locals .held ≡ map heldIn (getD (v .domains) d noDomain .slots)
   unfolding domainsFrom
-  held-is = ap (λ (y : state.Domain). y .locals .held) (sym (table-in (v .sizes .domains) (v .domainPool) (λ i. domainFrom (v .sizes .slots) (v .sizes .records) (v .records) (getD (v .domains) i noDomain)) d x at .2))
+  held-is = ap (λ (y : state.Domain). y .locals .held) (sym (table-in (v .sizes .domains) (v .domainPool) (domainRead v) d x at .2))
 
   pub domain-low : d < v .sizes .domains
   unfolding domainsFrom
-  domain-low = table-in (v .sizes .domains) (v .domainPool) (λ i. domainFrom (v .sizes .slots) (v .sizes .records) (v .records) (getD (v .domains) i noDomain)) d x at .0
+  domain-low = table-in (v .sizes .domains) (v .domainPool) (domainRead v) d x at .0
 
   many : length (getD (v .domains) d noDomain .slots) ≡ v .sizes .slots
   many = each-at _ (v .domains) (shaped .slots) d noDomain (omega (arith, shaped .domains, domain-low))

@@ -4,7 +4,7 @@ use mathlib.Core.List.{List}
 use Prim.Native.Nat.{ℕ, _+_}
 use lib.ListN.{replicate}
 use Rattle.sizes.specs.declared.Sizes.{Sizes}
-use Rattle.tables.specs.Tables.{Tables, Domain, noHead, noSlot, noRegion, noRecord, noUpdate, noHash}
+use Rattle.tables.specs.Tables.{Tables, Domain, noHead, noSlot, noRegion, noRecord, noUpdate, noHash, noInterface}
 use Rattle.tables.specs.View.{view, Sized}
 use Rattle.sizes.specs.Sizes.{sizesOf}
 use Rattle.arena.specs.Arena.{newArena}
@@ -27,6 +27,7 @@ empty z =
       records = replicate (z .records) noRecord;
       ring = replicate (z .updates + 1) noUpdate;
       hashes = replicate (z .regions) noHash;
+      interfaces = replicate (z .domains) noInterface;
     }
 
 -- sized words of empty tables but for the pools
@@ -40,3 +41,4 @@ pub record Blank (z : Sizes) (t : List ℕ) : Type 0 where
   pub records : view t .records ≡ replicate (z .records) noRecord
   pub ring : view t .ring ≡ replicate (z .updates + 1) noUpdate
   pub hashes : view t .hashes ≡ replicate (z .regions) noHash
+  pub interfaces : view t .interfaces ≡ replicate (z .domains) noInterface

@@ -8,7 +8,8 @@ use Rattle.sizes.specs.declared.Sizes.{Sizes}
 unfoldable pub sizesOf : List ℕ → Sizes
 sizesOf t = record { domains = getD t 0 0; slots = getD t 1 0; regions = getD t 2 0; records = getD t 3 0; updates = getD t 4 0 }
 
--- ---- how many words each has: the header; a domain before its slots; a slot; a region; a tracker record; a ring place; a region's hash
+-- ---- how many words each has: the header; a domain before its slots; a slot; a region; a tracker record; a ring place; a region's hash;
+-- a domain's interface
 
 abbrev pub headerWidth : ℕ
 headerWidth = 7
@@ -31,6 +32,9 @@ updateWidth = 4
 abbrev pub hashWidth : ℕ
 hashWidth = 5
 
+abbrev pub interfaceWidth : ℕ
+interfaceWidth = 2
+
 -- a domain with its slots
 abbrev pub stride : Sizes → ℕ
 stride z = headWidth + z .slots * slotWidth
@@ -47,7 +51,7 @@ writeWord = 6
 
 -- how many sections there are
 abbrev pub sections : ℕ
-sections = 9
+sections = 10
 
 -- the place of each in their order
 abbrev pub headerSection : ℕ
@@ -77,10 +81,13 @@ ringSection = 7
 abbrev pub hashSection : ℕ
 hashSection = 8
 
+abbrev pub interfaceSection : ℕ
+interfaceSection = 9
+
 -- their widths
 abbrev pub widths : Sizes → List ℕ
 widths z =
-    headerWidth ∷ poolWidth (z .domains) ∷ poolWidth (z .regions) ∷ poolWidth (z .records) ∷ (z .domains * stride z) ∷ (z .regions * regionWidth) ∷ (z .records * recordWidth) ∷ ((z .updates + 1) * updateWidth) ∷ (z .regions * hashWidth) ∷ []
+    headerWidth ∷ poolWidth (z .domains) ∷ poolWidth (z .regions) ∷ poolWidth (z .records) ∷ (z .domains * stride z) ∷ (z .regions * regionWidth) ∷ (z .records * recordWidth) ∷ ((z .updates + 1) * updateWidth) ∷ (z .regions * hashWidth) ∷ (z .domains * interfaceWidth) ∷ []
 
 unfoldable pub total : Sizes → ℕ
 unfolding offset

@@ -3,7 +3,7 @@ ghost use mathlib.Core.Path.{_≡_};
 ghost use Rattle.words.specs.Cuts.{offset};
 ghost use Rattle.sizes.specs.Limits.{Limits, withinB, limitsB};
 ghost use Rattle.sizes.specs.Tests.{sizedB};
-ghost use Rattle.sizes.specs.Sizes.{sizesOf, stride, regionPoolSection, recordPoolSection, domainsSection, regionsSection, recordsSection, ringSection, hashSection, widths, total};
+ghost use Rattle.sizes.specs.Sizes.{sizesOf, stride, regionPoolSection, recordPoolSection, domainsSection, regionsSection, recordsSection, ringSection, hashSection, interfaceSection, widths, total};
 
 // ---- The header's words: five sizes, and the ring's two places
 
@@ -22,7 +22,7 @@ pub const READ: usize = 5;
 pub const WRITE: usize = 6;
 
 // ---- How many words each has: the header; a domain before its slots; a slot; a region; a tracker record; a ring place; a
-// region's hash
+// region's hash; a domain's interface
 
 pub const HEADER_WIDTH: usize = 7;
 
@@ -40,6 +40,8 @@ pub const RECORD_WIDTH: usize = 9;
 pub const UPDATE_WIDTH: usize = 4;
 
 pub const HASH_WIDTH: usize = 5;
+
+pub const INTERFACE_WIDTH: usize = 2;
 
 // ---- The limits, and the words of the largest tables
 
@@ -60,7 +62,8 @@ pub const MOST_WORDS: usize = HEADER_WIDTH
     + MOST_REGIONS * REGION_WIDTH
     + MOST_RECORDS * RECORD_WIDTH
     + (MOST_UPDATES + 1) * UPDATE_WIDTH
-    + MOST_REGIONS * HASH_WIDTH;
+    + MOST_REGIONS * HASH_WIDTH
+    + MOST_DOMAINS * INTERFACE_WIDTH;
 
 // How many of each the tables hold; `slots` in each domain.
 pub struct Sizes {
@@ -160,11 +163,18 @@ pub fn hashes_at(z: Sizes) -> usize
     ring_at(z) + (z.updates + 1) * UPDATE_WIDTH
 }
 
+pub fn interfaces_at(z: Sizes) -> usize
+    requires { ⌜ Limits z ⌝ }
+    ensures { λ r. ⌜ r ≡ offset (widths z) interfaceSection ⌝ }
+{
+    hashes_at(z) + z.regions * HASH_WIDTH
+}
+
 pub fn total_of(z: Sizes) -> usize
     requires { ⌜ Limits z ⌝ }
     ensures { λ r. ⌜ r ≡ total z ⌝ }
 {
-    hashes_at(z) + z.regions * HASH_WIDTH
+    interfaces_at(z) + z.domains * INTERFACE_WIDTH
 }
 
 // Whether the words are as many as the sizes in their header ask.

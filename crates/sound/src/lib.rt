@@ -24,6 +24,10 @@ pub fn outside_holds(t: &[u64], w: &mut [u64]) -> bool
     if !hashes {
         return false;
     }
+    let interfaces = sound_interfaces::interfaces_hold(t);
+    if !interfaces {
+        return false;
+    }
     sound_capas::capas_hold(t, w)
 }
 

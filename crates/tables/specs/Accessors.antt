@@ -1,4 +1,4 @@
--- Regions, tracker records, the ring and hashes are tables of whole rows: what loading and storing one is in the view.
+-- Regions, tracker records, the ring, hashes and interfaces are tables of whole rows: what loading and storing one is in the view.
 use mathlib.Core.Path.{_≡_, refl, ap}
 use mathlib.Core.List.{List}
 use Prim.Native.Nat.{ℕ, _+_, _-_}
@@ -9,9 +9,10 @@ use Rattle.tables.specs.declared.RegionCapa.{RegionCapa}
 use Rattle.tables.specs.declared.Region.{Region}
 use Rattle.tables.specs.declared.Update.{Update}
 use Rattle.tables.specs.declared.RegionHash.{RegionHash}
-use Rattle.tables.specs.Tables.{regionAt, recordAt, updateAt, hashAt, withRegions, withRecords, withRing, withHashes, withRegion, withRecord, withUpdate, withHash}
-use Rattle.sizes.specs.Sizes.{sizesOf, regionWidth, recordWidth, updateWidth, hashWidth, regionsSection, recordsSection, ringSection, hashSection}
-use Rattle.tables.specs.View.{view, ofParts, Sized, Left, regionOf, regionWords, recordOf, recordWords, updateOf, updateWords, hashOf, hashWords}
+use Rattle.tables.specs.declared.Interface.{Interface}
+use Rattle.tables.specs.Tables.{regionAt, recordAt, updateAt, hashAt, interfaceAt, withRegions, withRecords, withRing, withHashes, withInterfaces, withRegion, withRecord, withUpdate, withHash, withInterface}
+use Rattle.sizes.specs.Sizes.{sizesOf, regionWidth, recordWidth, updateWidth, hashWidth, interfaceWidth, regionsSection, recordsSection, ringSection, hashSection, interfaceSection}
+use Rattle.tables.specs.View.{view, ofParts, Sized, Left, regionOf, regionWords, recordOf, recordWords, updateOf, updateWords, hashOf, hashWords, interfaceOf, interfaceWords}
 use Rattle.tables.specs.Sections.{only-left}
 use Rattle.tables.specs.Rows.{placed, row-loaded, row-replaced}
 
@@ -27,7 +28,10 @@ updatePlace t i = placed t ringSection (sizesOf t .updates + 1) updateWidth i
 abbrev pub hashPlace : List ℕ → ℕ → ℕ
 hashPlace t i = placed t hashSection (sizesOf t .regions) hashWidth i
 
--- ---- regions, tracker records, the ring, hashes: whole rows
+abbrev pub interfacePlace : List ℕ → ℕ → ℕ
+interfacePlace t i = placed t interfaceSection (sizesOf t .domains) interfaceWidth i
+
+-- ---- regions, tracker records, the ring, hashes, interfaces: whole rows
 
 module _ (t : List ℕ) (s : Sized t) (i a : ℕ) where
   pub region-loaded : (p : List ℕ) → a ≡ regionPlace t i → p ≡ fetched t a regionWidth → regionOf p ≡ regionAt (view t) i
@@ -45,6 +49,10 @@ module _ (t : List ℕ) (s : Sized t) (i a : ℕ) where
   pub hash-loaded : (p : List ℕ) → a ≡ hashPlace t i → p ≡ fetched t a hashWidth → hashOf p ≡ hashAt (view t) i
   unfolding hashAt view ofParts
   hash-loaded p e ep = rw (ep, e) (row-loaded t (hashSection - 1) (sizesOf t .regions) hashWidth s (omega arith) refl hashOf i (omega arith))
+
+  pub interface-loaded : (p : List ℕ) → a ≡ interfacePlace t i → p ≡ fetched t a interfaceWidth → interfaceOf p ≡ interfaceAt (view t) i
+  unfolding interfaceAt view ofParts
+  interface-loaded p e ep = rw (ep, e) (row-loaded t (interfaceSection - 1) (sizesOf t .domains) interfaceWidth s (omega arith) refl interfaceOf i (omega arith))
 
   pub region-stored : (u : List ℕ) (r : RegionCapa) → a ≡ regionPlace t i → u ≡ stored t a (regionWords r) → Left u (withRegion (view t) i r)
   unfolding view ofParts cuts withRegion withRegions
@@ -69,3 +77,9 @@ module _ (t : List ℕ) (s : Sized t) (i a : ℕ) where
   hash-stored u h e eu =
       let q = row-replaced t (hashSection - 1) (sizesOf t .regions) hashWidth s (omega arith) refl hashOf u (hashWords h) i refl (omega arith) (rw e at eu) in
       only-left t u hashSection (withHash (view t) i h) s (q .0) (ap (withHashes (view t)) (q .1))
+
+  pub interface-stored : (u : List ℕ) (x : Interface) → a ≡ interfacePlace t i → u ≡ stored t a (interfaceWords x) → Left u (withInterface (view t) i x)
+  unfolding view ofParts cuts withInterface withInterfaces
+  interface-stored u x e eu =
+      let q = row-replaced t (interfaceSection - 1) (sizesOf t .domains) interfaceWidth s (omega arith) refl interfaceOf u (interfaceWords x) i refl (omega arith) (rw e at eu) in
+      only-left t u interfaceSection (withInterface (view t) i x) s (q .0) (ap (withInterfaces (view t)) (q .1))

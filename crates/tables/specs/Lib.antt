@@ -1,4 +1,5 @@
 pub mod Kinds
+pub mod Interface
 pub mod Links
 pub mod Tables
 pub mod View

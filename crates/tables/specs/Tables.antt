@@ -10,6 +10,7 @@ use Rattle.tables.specs.declared.Region.{Region}
 use Rattle.tables.specs.declared.Update.{Update}
 use Rattle.tables.specs.declared.Hash.{Hash}
 use Rattle.tables.specs.declared.RegionHash.{RegionHash}
+use Rattle.tables.specs.declared.Interface.{Interface}
 
 -- a pool's free list and generations: link 0 is a slot in use, k + 1 a free one with slot k after it
 pub record Arena : Type 0 where
@@ -35,6 +36,7 @@ pub record Tables : Type 0 where
   pub records : List Region
   pub ring : List Update
   pub hashes : List RegionHash
+  pub interfaces : List Interface
 
 -- ---- the records that are all zero
 
@@ -60,6 +62,9 @@ noUpdate = record { kind = 0; a = 0; b = 0; c = 0 }
 abbrev pub noHash : RegionHash
 noHash = record { given = 0; word0 = 0; word1 = 0; word2 = 0; word3 = 0 }
 
+abbrev pub noInterface : Interface
+noInterface = record { word = 0; frozen = 0 }
+
 -- the row of a hash that was given
 abbrev pub hashGiven : Hash → RegionHash
 hashGiven h = record { given = 1; word0 = h .word0; word1 = h .word1; word2 = h .word2; word3 = h .word3 }
@@ -84,43 +89,50 @@ updateAt s i = getD (s .ring) i noUpdate
 unfoldable pub hashAt : Tables → ℕ → RegionHash
 hashAt s i = getD (s .hashes) i noHash
 
+unfoldable pub interfaceAt : Tables → ℕ → Interface
+interfaceAt s i = getD (s .interfaces) i noInterface
+
 -- ---- one field changed
 
 unfoldable pub withPlaces : Tables → ℕ → ℕ → Tables
 withPlaces s r w =
-    record { sizes = s .sizes; read = r; write = w; domainPool = s .domainPool; regionPool = s .regionPool; recordPool = s .recordPool; domains = s .domains; regions = s .regions; records = s .records; ring = s .ring; hashes = s .hashes }
+    record { sizes = s .sizes; read = r; write = w; domainPool = s .domainPool; regionPool = s .regionPool; recordPool = s .recordPool; domains = s .domains; regions = s .regions; records = s .records; ring = s .ring; hashes = s .hashes; interfaces = s .interfaces }
 
 unfoldable pub withDomainPool : Tables → Arena → Tables
 withDomainPool s a =
-    record { sizes = s .sizes; read = s .read; write = s .write; domainPool = a; regionPool = s .regionPool; recordPool = s .recordPool; domains = s .domains; regions = s .regions; records = s .records; ring = s .ring; hashes = s .hashes }
+    record { sizes = s .sizes; read = s .read; write = s .write; domainPool = a; regionPool = s .regionPool; recordPool = s .recordPool; domains = s .domains; regions = s .regions; records = s .records; ring = s .ring; hashes = s .hashes; interfaces = s .interfaces }
 
 unfoldable pub withRegionPool : Tables → Arena → Tables
 withRegionPool s a =
-    record { sizes = s .sizes; read = s .read; write = s .write; domainPool = s .domainPool; regionPool = a; recordPool = s .recordPool; domains = s .domains; regions = s .regions; records = s .records; ring = s .ring; hashes = s .hashes }
+    record { sizes = s .sizes; read = s .read; write = s .write; domainPool = s .domainPool; regionPool = a; recordPool = s .recordPool; domains = s .domains; regions = s .regions; records = s .records; ring = s .ring; hashes = s .hashes; interfaces = s .interfaces }
 
 unfoldable pub withRecordPool : Tables → Arena → Tables
 withRecordPool s a =
-    record { sizes = s .sizes; read = s .read; write = s .write; domainPool = s .domainPool; regionPool = s .regionPool; recordPool = a; domains = s .domains; regions = s .regions; records = s .records; ring = s .ring; hashes = s .hashes }
+    record { sizes = s .sizes; read = s .read; write = s .write; domainPool = s .domainPool; regionPool = s .regionPool; recordPool = a; domains = s .domains; regions = s .regions; records = s .records; ring = s .ring; hashes = s .hashes; interfaces = s .interfaces }
 
 unfoldable pub withDomains : Tables → List Domain → Tables
 withDomains s ds =
-    record { sizes = s .sizes; read = s .read; write = s .write; domainPool = s .domainPool; regionPool = s .regionPool; recordPool = s .recordPool; domains = ds; regions = s .regions; records = s .records; ring = s .ring; hashes = s .hashes }
+    record { sizes = s .sizes; read = s .read; write = s .write; domainPool = s .domainPool; regionPool = s .regionPool; recordPool = s .recordPool; domains = ds; regions = s .regions; records = s .records; ring = s .ring; hashes = s .hashes; interfaces = s .interfaces }
 
 unfoldable pub withRegions : Tables → List RegionCapa → Tables
 withRegions s rs =
-    record { sizes = s .sizes; read = s .read; write = s .write; domainPool = s .domainPool; regionPool = s .regionPool; recordPool = s .recordPool; domains = s .domains; regions = rs; records = s .records; ring = s .ring; hashes = s .hashes }
+    record { sizes = s .sizes; read = s .read; write = s .write; domainPool = s .domainPool; regionPool = s .regionPool; recordPool = s .recordPool; domains = s .domains; regions = rs; records = s .records; ring = s .ring; hashes = s .hashes; interfaces = s .interfaces }
 
 unfoldable pub withRecords : Tables → List Region → Tables
 withRecords s rs =
-    record { sizes = s .sizes; read = s .read; write = s .write; domainPool = s .domainPool; regionPool = s .regionPool; recordPool = s .recordPool; domains = s .domains; regions = s .regions; records = rs; ring = s .ring; hashes = s .hashes }
+    record { sizes = s .sizes; read = s .read; write = s .write; domainPool = s .domainPool; regionPool = s .regionPool; recordPool = s .recordPool; domains = s .domains; regions = s .regions; records = rs; ring = s .ring; hashes = s .hashes; interfaces = s .interfaces }
 
 unfoldable pub withRing : Tables → List Update → Tables
 withRing s us =
-    record { sizes = s .sizes; read = s .read; write = s .write; domainPool = s .domainPool; regionPool = s .regionPool; recordPool = s .recordPool; domains = s .domains; regions = s .regions; records = s .records; ring = us; hashes = s .hashes }
+    record { sizes = s .sizes; read = s .read; write = s .write; domainPool = s .domainPool; regionPool = s .regionPool; recordPool = s .recordPool; domains = s .domains; regions = s .regions; records = s .records; ring = us; hashes = s .hashes; interfaces = s .interfaces }
 
 unfoldable pub withHashes : Tables → List RegionHash → Tables
 withHashes s hs =
-    record { sizes = s .sizes; read = s .read; write = s .write; domainPool = s .domainPool; regionPool = s .regionPool; recordPool = s .recordPool; domains = s .domains; regions = s .regions; records = s .records; ring = s .ring; hashes = hs }
+    record { sizes = s .sizes; read = s .read; write = s .write; domainPool = s .domainPool; regionPool = s .regionPool; recordPool = s .recordPool; domains = s .domains; regions = s .regions; records = s .records; ring = s .ring; hashes = hs; interfaces = s .interfaces }
+
+unfoldable pub withInterfaces : Tables → List Interface → Tables
+withInterfaces s xs =
+    record { sizes = s .sizes; read = s .read; write = s .write; domainPool = s .domainPool; regionPool = s .regionPool; recordPool = s .recordPool; domains = s .domains; regions = s .regions; records = s .records; ring = s .ring; hashes = s .hashes; interfaces = xs }
 
 -- ---- a region with one field changed
 
@@ -158,3 +170,6 @@ withUpdate s i u = withRing s (set (s .ring) i u)
 
 unfoldable pub withHash : Tables → ℕ → RegionHash → Tables
 withHash s i h = withHashes s (set (s .hashes) i h)
+
+unfoldable pub withInterface : Tables → ℕ → Interface → Tables
+withInterface s i x = withInterfaces s (set (s .interfaces) i x)

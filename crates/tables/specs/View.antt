@@ -13,9 +13,10 @@ use Rattle.tables.specs.declared.RegionCapa.{RegionCapa}
 use Rattle.tables.specs.declared.Region.{Region}
 use Rattle.tables.specs.declared.Update.{Update}
 use Rattle.tables.specs.declared.RegionHash.{RegionHash}
+use Rattle.tables.specs.declared.Interface.{Interface}
 use Rattle.tables.specs.Tables.{Tables, Domain, Arena}
 use Rattle.sizes.specs.Limits.{Limits}
-use Rattle.sizes.specs.Sizes.{sizesOf, readWord, writeWord, headWidth, slotWidth, regionWidth, recordWidth, updateWidth, hashWidth, stride, headerSection, domainPoolSection, regionPoolSection, recordPoolSection, domainsSection, regionsSection, recordsSection, ringSection, hashSection, widths, total}
+use Rattle.sizes.specs.Sizes.{sizesOf, readWord, writeWord, headWidth, slotWidth, regionWidth, recordWidth, updateWidth, hashWidth, interfaceWidth, stride, headerSection, domainPoolSection, regionPoolSection, recordPoolSection, domainsSection, regionsSection, recordsSection, ringSection, hashSection, interfaceSection, widths, total}
 
 -- ---- a record in its words
 
@@ -38,6 +39,9 @@ updateOf p = record { kind = getD p 0 0; a = getD p 1 0; b = getD p 2 0; c = get
 
 abbrev pub hashOf : List ℕ → RegionHash
 hashOf p = record { given = getD p 0 0; word0 = getD p 1 0; word1 = getD p 2 0; word2 = getD p 3 0; word3 = getD p 4 0 }
+
+abbrev pub interfaceOf : List ℕ → Interface
+interfaceOf p = record { word = getD p 0 0; frozen = getD p 1 0 }
 
 -- a pool over n slots
 unfoldable pub arenaOf : ℕ → List ℕ → Arena
@@ -63,6 +67,7 @@ ofParts z ps =
       records = rows recordWidth (z .records) recordOf (getD ps recordsSection []);
       ring = rows updateWidth (z .updates + 1) updateOf (getD ps ringSection []);
       hashes = rows hashWidth (z .regions) hashOf (getD ps hashSection []);
+      interfaces = rows interfaceWidth (z .domains) interfaceOf (getD ps interfaceSection []);
     }
 
 unfoldable pub view : List ℕ → Tables
@@ -99,6 +104,9 @@ updateWords u = u .kind ∷ u .a ∷ u .b ∷ u .c ∷ []
 abbrev pub hashWords : RegionHash → List ℕ
 hashWords h = h .given ∷ h .word0 ∷ h .word1 ∷ h .word2 ∷ h .word3 ∷ []
 
+abbrev pub interfaceWords : Interface → List ℕ
+interfaceWords x = x .word ∷ x .frozen ∷ []
+
 unfoldable pub arenaWords : Arena → List ℕ
 arenaWords a = a .head ∷ a .count ∷ a .links ++ a .gens
 
@@ -111,7 +119,7 @@ headerWords s =
 
 unfoldable pub partsOf : Tables → List (List ℕ)
 partsOf s =
-    headerWords s ∷ arenaWords (s .domainPool) ∷ arenaWords (s .regionPool) ∷ arenaWords (s .recordPool) ∷ flat domainWords (s .domains) ∷ flat regionWords (s .regions) ∷ flat recordWords (s .records) ∷ flat updateWords (s .ring) ∷ flat hashWords (s .hashes) ∷ []
+    headerWords s ∷ arenaWords (s .domainPool) ∷ arenaWords (s .regionPool) ∷ arenaWords (s .recordPool) ∷ flat domainWords (s .domains) ∷ flat regionWords (s .regions) ∷ flat recordWords (s .records) ∷ flat updateWords (s .ring) ∷ flat hashWords (s .hashes) ∷ flat interfaceWords (s .interfaces) ∷ []
 
 unfoldable pub layout : Tables → List ℕ
 layout s = join (partsOf s)

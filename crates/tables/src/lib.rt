@@ -1,10 +1,11 @@
 // The engine's tables in lent words: records by value, loaded and stored by their numbers.
 // docs/TABLES.md has the layout; a record that is not there is all zero, and is not stored.
 ghost use mathlib.Core.Path.{_≡_};
-ghost use Rattle.tables.specs.Tables.{noHead, noSlot, noRegion, noRecord, noUpdate, noHash};
+ghost use Rattle.tables.specs.Tables.{noHead, noSlot, noRegion, noRecord, noUpdate, noHash, noInterface};
 
 pub mod domains;
 pub mod hashes;
+pub mod interfaces;
 pub mod links;
 pub mod records;
 pub mod regions;
@@ -16,6 +17,8 @@ pub use domains::load_slot;
 pub use domains::store_head;
 pub use hashes::load_hash;
 pub use hashes::store_hash;
+pub use interfaces::load_interface;
+pub use interfaces::store_interface;
 pub use links::link_to;
 pub use links::slot_to;
 pub use records::load_record;
@@ -135,6 +138,24 @@ pub struct RegionHash {
     pub word3: u64,
 }
 
+// What a domain may do (document 02, request 2): a word of the bits below, of which any other may be set too, and whether
+// it is frozen, 1 or 0.
+pub struct Interface {
+    pub word: u64,
+    pub frozen: u64,
+}
+
+impl Interface {
+    pub const SEND: u64 = 2;
+
+    pub const ALIAS: u64 = 8;
+
+    pub const CARVE: u64 = 16;
+
+    // The word that a domain opens with: all three.
+    pub const OPEN: u64 = Interface::SEND + Interface::ALIAS + Interface::CARVE;
+}
+
 // ---- The records that are all zero
 
 pub fn no_head() -> DomainHead
@@ -211,4 +232,10 @@ pub fn no_hash() -> RegionHash
         word2: 0,
         word3: 0,
     }
+}
+
+pub fn no_interface() -> Interface
+    ensures { λ r. ⌜ r ≡ noInterface ⌝ }
+{
+    Interface { word: 0, frozen: 0 }
 }

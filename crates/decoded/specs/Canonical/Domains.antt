@@ -7,20 +7,19 @@ use native.Mathlib.Omega.{arith}
 use lib.Dec.{eqb}
 use lib.ListN.{length, getD}
 use Rattle.base.specs.Lists.{getD-any}
-use Rattle.model.specs.Lists.{countIf, atSlot, countUp, firstOf, afterIn}
+use Rattle.model.specs.Lists.{oneIf, countIf, atSlot, countUp, firstOf, afterIn}
 use Rattle.model.specs.State.{Record}
 use Rattle.model.specs.Layout.{link, slotOr0}
 use Rattle.tables.specs.declared.Handle.{Handle}
 use Rattle.tables.specs.declared.Slot.{Slot}
 use Rattle.tables.specs.declared.Region.{Region}
+use Rattle.tables.specs.declared.Interface.{Interface}
 use Rattle.tables.specs.Tables.{Domain, noSlot, noRecord}
-use Rattle.decoded.specs.Tables.{slotFor, slotsFor, domainFor}
-use Rattle.decoded.specs.Decode.Read.{chainFrom, linked, capaFrom, heldIn, afterSlot, listFrom, recordFrom, domainFrom}
+use Rattle.decoded.specs.Tables.{slotFor, slotsFor, domainFor, interfaceFor}
+use Rattle.decoded.specs.Decode.Read.{chainFrom, linked, capaFrom, heldIn, afterSlot, listFrom, recordFrom, interfaceFrom, domainFrom}
 use Rattle.decoded.specs.Decode.Walks.{map-up}
 use Rattle.decoded.specs.Canonical.Ends.{chainEnd, stack-long, stack-first, stack-after, chain-first}
-use Rattle.decoded.specs.Canonical.WellFormed.{SlotWellFormed, DomainWellFormed}
-use Rattle.decoded.specs.Canonical.Ends.{chainEnd, stack-long, stack-first, stack-after, chain-first}
-use Rattle.decoded.specs.Canonical.WellFormed.{SlotWellFormed, DomainWellFormed}
+use Rattle.decoded.specs.Canonical.WellFormed.{SlotWellFormed, DomainWellFormed, InterfaceWellFormed}
 
 pub link-kept : (l : ℕ) → link (linked l) ≡ l
 link-kept zero = refl
@@ -64,11 +63,21 @@ module _ (m n : ℕ) (l : List Region) (x : Domain) (long : length (x .slots) �
           ap (slotFor (listFrom m x .free) j) (held-at (x .slots) j b)
           ∙ slot-kept (listFrom m x .free) j (getD (x .slots) j noSlot) (h .slots j (omega arith)) (λ k. stack-after (afterSlot (x .slots)) (m - x .head .count) (x .head .head) (h .ends) j (marks j (omega arith) k))
 
-  pub domain-kept : domainFor m (some (domainFrom m n l x)) ≡ x
-  domain-kept =
+  pub domain-kept : (f : Interface) → domainFor m (some (domainFrom m n l x f)) ≡ x
+  domain-kept f =
       let manager = link-kept (x .head .manager) in
-      let f : ℕ → Region = λ i. getD l i noRecord in
-      let tracker = ap link (first-read (λ i. recordFrom i (f i)) (λ i. refl) (chainFrom (λ i. f i .next) n (x .head .tracker))) ∙ chain-first (λ i. f i .next) n (x .head .tracker) ended in
+      let g : ℕ → Region = λ i. getD l i noRecord in
+      let tracker = ap link (first-read (λ i. recordFrom i (g i)) (λ i. refl) (chainFrom (λ i. g i .next) n (x .head .tracker))) ∙ chain-first (λ i. g i .next) n (x .head .tracker) ended in
       let head = stack-first (afterSlot (x .slots)) (m - x .head .count) (x .head .head) (h .ends) in
       let many : m - length (listFrom m x .free) ≡ x .head .count = omega (arith, stack-long (afterSlot (x .slots)) (m - x .head .count) (x .head .head), h .fits) in
       λ i. record { head = record { manager = manager i; cores = x .head .cores; tracker = tracker i; head = head i; count = many i }; slots = slots-kept i }
+
+-- ---- interfaces
+
+frozen-go : (n : ℕ) → n ≤ 1 → oneIf (eqb n 1) ≡ n
+frozen-go zero b = refl
+frozen-go (suc zero) b = refl
+frozen-go (suc (suc n)) b = absurd (omega arith)
+
+pub interface-kept : (f : Interface) → InterfaceWellFormed f → interfaceFor (interfaceFrom f) ≡ f
+interface-kept f h = let e = frozen-go (f .frozen) h in λ i. record { word = f .word; frozen = e i }

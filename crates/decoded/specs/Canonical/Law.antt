@@ -12,16 +12,16 @@ use Rattle.model.specs.Lists.{Each, In, countUp}
 use Rattle.model.specs.State as state
 use Rattle.model.specs.Sound.{recordUses}
 use Rattle.tables.specs.declared.Region.{Region}
-use Rattle.tables.specs.Tables.{Tables, Domain, noDomain, noRegion, noRecord, noHash}
+use Rattle.tables.specs.Tables.{Tables, Domain, noDomain, noRegion, noRecord, noHash, noInterface}
 use Rattle.decoded.specs.Shape.{Shaped}
-use Rattle.decoded.specs.Tables.{domainFor, regionFor, slotHash, recordIn, domainsFor, regionsFor, recordsFor, hashesFor, tablesOf}
+use Rattle.decoded.specs.Tables.{domainFor, regionFor, slotHash, slotInterface, recordIn, domainsFor, regionsFor, recordsFor, hashesFor, interfacesFor, tablesOf}
 use Rattle.decoded.specs.Tracker.Trackers.{record-unused}
-use Rattle.decoded.specs.Decode.Read.{taken, domainFrom, regionRead, domainsFrom, regionsFrom, queueFrom, stateOf}
+use Rattle.decoded.specs.Decode.Read.{taken, domainRead, regionRead, domainsFrom, regionsFrom, queueFrom, stateOf}
 use Rattle.decoded.specs.Decode.Walks.{map-up}
 use Rattle.decoded.specs.Decode.Trackers.{Stored}
 use Rattle.decoded.specs.Canonical.WellFormed.{Canonical, WellFormed, Walked}
 use Rattle.decoded.specs.Canonical.Pools.{pool-kept, table-used, table-in, table-kept}
-use Rattle.decoded.specs.Canonical.Domains.{domain-kept}
+use Rattle.decoded.specs.Canonical.Domains.{domain-kept, interface-kept}
 use Rattle.decoded.specs.Canonical.Regions.{hash-kept, region-kept, next-kept}
 use Rattle.decoded.specs.Canonical.Records.{walked-stored, record-kept}
 use Rattle.decoded.specs.Canonical.Ring.{ring-kept, write-kept}
@@ -34,15 +34,19 @@ each-at P (x ∷ l) h (suc i) d b = each-at P l (h .1) i d (omega arith)
 module _ (v : Tables) (s : Shaped v) (t : WellFormed v) (w : Walked v) where
   -- ---- domains
 
-  abbrev domainRead : ℕ → state.Domain
-  domainRead i = domainFrom (v .sizes .slots) (v .sizes .records) (v .records) (getD (v .domains) i noDomain)
-
   domains-kept : domainsFor (v .sizes .domains) (v .sizes .slots) (domainsFrom v) ≡ v .domains
   unfolding domainsFor domainsFrom
-  domains-kept = table-kept (v .sizes .domains) (v .domainPool) domainRead (λ i o. domainFor (v .sizes .slots) o) (v .domains) noDomain (s .domains) used (λ i b e. sym (t .outside .domainsFree i b e))
+  domains-kept = table-kept (v .sizes .domains) (v .domainPool) (domainRead v) (λ i o. domainFor (v .sizes .slots) o) (v .domains) noDomain (s .domains) used (λ i b e. sym (t .outside .domainsFree i b e))
     where
-      used : (i : ℕ) → i < v .sizes .domains → taken (v .domainPool) i ≡ true → domainFor (v .sizes .slots) (some (domainRead i)) ≡ getD (v .domains) i noDomain
-      used i b e = domain-kept (v .sizes .slots) (v .sizes .records) (v .records) (getD (v .domains) i noDomain) (each-at _ (v .domains) (s .slots) i noDomain (omega (arith, s .domains))) (t .outside .domainsUsed i b e) (t .tracked .trackersEnd i b e) (w .outside .slotMarks i b e)
+      used : (i : ℕ) → i < v .sizes .domains → taken (v .domainPool) i ≡ true → domainFor (v .sizes .slots) (some (domainRead v i)) ≡ getD (v .domains) i noDomain
+      used i b e = domain-kept (v .sizes .slots) (v .sizes .records) (v .records) (getD (v .domains) i noDomain) (each-at _ (v .domains) (s .slots) i noDomain (omega (arith, s .domains))) (t .outside .domainsUsed i b e) (t .tracked .trackersEnd i b e) (w .outside .slotMarks i b e) (getD (v .interfaces) i noInterface)
+
+  interfaces-kept : interfacesFor (v .sizes .domains) (domainsFrom v) ≡ v .interfaces
+  unfolding interfacesFor domainsFrom
+  interfaces-kept =
+      table-kept (v .sizes .domains) (v .domainPool) (domainRead v) (λ i o. slotInterface o) (v .interfaces) noInterface (s .interfaces)
+      (λ i b e. interface-kept (getD (v .interfaces) i noInterface) (t .outside .interfacesUsed i b e))
+      (λ i b e. sym (t .outside .interfacesFree i b e))
 
   -- ---- regions
 
@@ -70,7 +74,7 @@ module _ (v : Tables) (s : Shaped v) (t : WellFormed v) (w : Walked v) where
   trackers-stored : (d : ℕ) (x : state.Domain) → In (domainsFrom v) d x → Stored (λ i. getD (v .records) i noRecord) (x .tracker)
   unfolding domainsFrom
   trackers-stored d x e =
-      let u = table-in (v .sizes .domains) (v .domainPool) domainRead d x e in
+      let u = table-in (v .sizes .domains) (v .domainPool) (domainRead v) d x e in
       subst (λ (y : state.Domain). Stored (λ i. getD (v .records) i noRecord) (y .tracker)) (u .2) (walked-stored (λ i. getD (v .records) i noRecord) (v .sizes .records) (getD (v .domains) d noDomain .head .tracker) (t .tracked .trackersEnd d (u .0) (u .1)))
 
   record-at : (i : ℕ) → i < v .sizes .records → recordIn (domainsFrom v) i ≡ getD (v .records) i noRecord
@@ -96,4 +100,4 @@ module _ (v : Tables) (s : Shaped v) (t : WellFormed v) (w : Walked v) where
       let tp = pool-kept (v .sizes .records) (v .recordPool) (s .recordPool .links) (t .tracked .recordPool) (t .tracked .recordMarks) in
       let write = write-kept (v .sizes .updates) (v .read) (v .write) (v .ring) (s .ring) (w .queue .read) (w .queue .write) (t .queue .queued) (t .queue .unqueued) in
       let ring = ring-kept (v .sizes .updates) (v .read) (v .write) (v .ring) (s .ring) (w .queue .read) (w .queue .write) (t .queue .queued) (t .queue .unqueued) in
-      λ i. record { sizes = v .sizes; read = v .read; write = write i; domainPool = dp i; regionPool = rp i; recordPool = tp i; domains = domains-kept i; regions = regions-kept i; records = records-kept i; ring = ring i; hashes = hashes-kept i }
+      λ i. record { sizes = v .sizes; read = v .read; write = write i; domainPool = dp i; regionPool = rp i; recordPool = tp i; domains = domains-kept i; regions = regions-kept i; records = records-kept i; ring = ring i; hashes = hashes-kept i; interfaces = interfaces-kept i }

@@ -19,7 +19,7 @@ use Rattle.laws.specs.Tree.Slots.{live-is}
 use Rattle.tables.specs.Tables.{Tables, Arena, noDomain, noSlot, noRegion, noUpdate}
 use Rattle.tables.specs.declared.Handle.{Handle}
 use Rattle.decoded.specs.Shape.{Shaped}
-use Rattle.decoded.specs.Decode.Read.{freeFrom, poolFrom, taken, tableFrom, capaFrom, listFrom, kindFrom, childrenFrom, domainFrom, regionRead, domainsFrom, regionsFrom, updateFrom, placesFrom, queueFrom, stateOf}
+use Rattle.decoded.specs.Decode.Read.{freeFrom, poolFrom, taken, tableFrom, capaFrom, listFrom, kindFrom, childrenFrom, domainRead, regionRead, domainsFrom, regionsFrom, updateFrom, placesFrom, queueFrom, stateOf}
 use Rattle.decoded.specs.Decode.Places.{places-outside}
 use Rattle.decoded.specs.Decode.Regions.{children-few}
 use Rattle.decoded.specs.Canonical.Ends.{chainEnd, chain-full}
@@ -50,12 +50,9 @@ parent-is (suc (suc zero)) p h = refl
 parent-is (suc (suc (suc k))) p h = refl
 
 module _ (v : Tables) (s : Shaped v) (h : OutsideSound (stateOf v)) where
-  abbrev domainRead : ℕ → state.Domain
-  domainRead i = domainFrom (v .sizes .slots) (v .sizes .records) (v .records) (getD (v .domains) i noDomain)
-
   domain-marks : Marked (v .sizes .domains) (v .domainPool)
   unfolding stateOf poolFrom domainsFrom
-  domain-marks = marks (v .sizes .domains) (v .domainPool) domainRead (h .domainPool .once)
+  domain-marks = marks (v .sizes .domains) (v .domainPool) (domainRead v) (h .domainPool .once)
 
   region-marks : Marked (v .sizes .regions) (v .regionPool)
   unfolding stateOf poolFrom regionsFrom
@@ -65,7 +62,7 @@ module _ (v : Tables) (s : Shaped v) (h : OutsideSound (stateOf v)) where
   unfolding stateOf domainsFrom
   slot-marks i b e j c k =
       let x = getD (v .domains) i noDomain in
-      let l = h .lists i (domainRead i) (table-used (v .sizes .domains) (v .domainPool) domainRead i b e) in
+      let l = h .lists i (domainRead v i) (table-used (v .sizes .domains) (v .domainPool) (domainRead v) i b e) in
       let long : length (x .slots) ≡ v .sizes .slots = each-at _ (v .domains) (s .slots) i noDomain (omega (arith, s .domains)) in
       let y = getD (x .slots) j noSlot in
       omega (arith, l .once j, ap oneIf (lt-ltb j (v .sizes .slots) c), ap (λ o. oneIf (isSome o)) (held-at (x .slots) j (omega arith)), free-kind (y .kind) (y .handle) k)

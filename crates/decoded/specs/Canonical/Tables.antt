@@ -16,13 +16,13 @@ use Rattle.model.specs.State as state
 use Rattle.model.specs.State.{State, Pool, Capa, noCapa, region, regionRevoke, management, channel, Kind, Root, Alias, Carve, permission, cleanup}
 use Rattle.model.specs.Layout.{slotOr0}
 use Rattle.model.specs.Sound.{Sound, OnceEach, slotUses, recordUses}
-use Rattle.laws.specs.Stack.{once-at-most}
+use Rattle.laws.specs.Stack.{one-at-most, once-at-most}
 use Rattle.laws.specs.Words.SameDomains.{Listed}
 use Rattle.tables.specs.declared.Update.{Update}
-use Rattle.tables.specs.Tables.{Domain, noDomain, noSlot, noRegion, noRecord, noUpdate, noHash}
+use Rattle.tables.specs.Tables.{Domain, noDomain, noSlot, noRegion, noRecord, noUpdate, noHash, noInterface}
 use Rattle.decoded.specs.Rows.{getD-up}
 use Rattle.decoded.specs.Tracker.Trackers.{record-unused}
-use Rattle.decoded.specs.Tables.{poolOf, slotFor, slotsFor, domainFor, regionFor, regionHashFor, slotHash, recordIn, updateFor, placeFor, domainsFor, regionsFor, recordsFor, ringFor, hashesFor, tablesOf}
+use Rattle.decoded.specs.Tables.{poolOf, slotFor, slotsFor, domainFor, regionFor, regionHashFor, slotHash, interfaceFor, slotInterface, recordIn, updateFor, placeFor, domainsFor, regionsFor, recordsFor, ringFor, hashesFor, interfacesFor, tablesOf}
 use Rattle.decoded.specs.Decode.Read.{afterFree, taken, afterSlot}
 use Rattle.decoded.specs.Decode.Pools.{pool-stacked, steps, free-read, taken-used, taken-free}
 use Rattle.decoded.specs.Decode.Lists.{list-stacked, list-steps}
@@ -31,7 +31,7 @@ use Rattle.decoded.specs.Decode.Queue.{elem-at}
 use Rattle.decoded.specs.Decode.Places.{along}
 use Rattle.decoded.specs.Decode.Law.{record-once, record-beyond, record-row}
 use Rattle.decoded.specs.Canonical.Ends.{stackEnd, chainEnd, stacked-ends}
-use Rattle.decoded.specs.Canonical.WellFormed.{PoolWellFormed, Marked, SlotWellFormed, DomainWellFormed, RegionWellFormed, HashWellFormed, UpdateWellFormed, WellFormed}
+use Rattle.decoded.specs.Canonical.WellFormed.{PoolWellFormed, Marked, SlotWellFormed, DomainWellFormed, RegionWellFormed, HashWellFormed, InterfaceWellFormed, UpdateWellFormed, WellFormed}
 use Rattle.decoded.specs.Canonical.Pools.{not-on, on}
 use Rattle.decoded.specs.Canonical.Records.{stored-ends}
 use Rattle.decoded.specs.Queue.Ring.{beyond}
@@ -87,6 +87,9 @@ hash-well-formed : (o : Option state.Hash) → HashWellFormed (regionHashFor o)
 hash-well-formed none = record { givenBit = omega arith; noneClear = λ e. refl }
 hash-well-formed (some x) = record { givenBit = omega arith; noneClear = λ e. absurd (omega arith) }
 
+interface-well-formed : (f : state.Interface) → InterfaceWellFormed (interfaceFor f)
+interface-well-formed f = one-at-most (f .frozen)
+
 update-well-formed : (u : state.Update) → UpdateWellFormed (updateFor (some u))
 update-well-formed (permission h c) = record { kindLow = omega arith; kindHigh = omega arith; cleanupClear = λ e. absurd (omega arith) }
 update-well-formed (cleanup a b) = record { kindLow = omega arith; kindHigh = omega arith; cleanupClear = λ e. refl }
@@ -105,6 +108,10 @@ module _ (s : State) (h : Sound s) where
   hash-row : (i : ℕ) → i < s .sizes .regions → getD (tablesOf s .hashes) i noHash ≡ slotHash (atSlot (s .regions) i)
   unfolding tablesOf hashesFor
   hash-row i b = getD-up (λ j. slotHash (atSlot (s .regions) j)) (s .sizes .regions) i noHash b
+
+  interface-row : (i : ℕ) → i < s .sizes .domains → getD (tablesOf s .interfaces) i noInterface ≡ slotInterface (atSlot (s .domains) i)
+  unfolding tablesOf interfacesFor
+  interface-row i b = getD-up (λ j. slotInterface (atSlot (s .domains) j)) (s .sizes .domains) i noInterface b
 
   place-row : (k : ℕ) → k < s .sizes .updates + 1 → getD (tablesOf s .ring) k noUpdate ≡ placeFor (s .sizes .updates) (s .queue) k
   unfolding tablesOf ringFor
@@ -163,6 +170,10 @@ module _ (s : State) (h : Sound s) where
           let x = taken-in (s .sizes .regions) (s .regions) (s .regionPool) (h .outside .regionPool .once) i b t in
           subst HashWellFormed (sym (hash-row i b ∙ ap slotHash (x .1))) (hash-well-formed (x .0 .hash));
       hashesFree = λ i b t. hash-row i b ∙ ap slotHash (free-in (s .sizes .regions) (s .regions) (s .regionPool) (h .outside .regionPool .once) i b t);
+      interfacesUsed = λ i b t.
+          let x = taken-in (s .sizes .domains) (s .domains) (s .domainPool) (h .outside .domainPool .once) i b t in
+          subst InterfaceWellFormed (sym (interface-row i b ∙ ap slotInterface (x .1))) (interface-well-formed (x .0 .interface));
+      interfacesFree = λ i b t. interface-row i b ∙ ap slotInterface (free-in (s .sizes .domains) (s .domains) (s .domainPool) (h .outside .domainPool .once) i b t);
     };
     tracked = record {
       recordPool = pool-well-formed (s .sizes .records) (recordUses (s .domains)) (s .recordPool) (h .tracked .recordPool .once);

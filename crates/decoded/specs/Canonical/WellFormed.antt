@@ -13,8 +13,9 @@ use Rattle.tables.specs.declared.RegionCapa.{RegionCapa}
 use Rattle.tables.specs.declared.Region.{Region}
 use Rattle.tables.specs.declared.Update.{Update}
 use Rattle.tables.specs.declared.RegionHash.{RegionHash}
+use Rattle.tables.specs.declared.Interface.{Interface}
 use Rattle.tables.specs.Kinds.{NONE, FREE, CHANNEL, ROOT, ALIAS, CARVE, PERMISSION, CLEANUP}
-use Rattle.tables.specs.Tables.{Tables, Arena, Domain, noDomain, noSlot, noRegion, noRecord, noUpdate, noHash}
+use Rattle.tables.specs.Tables.{Tables, Arena, Domain, noDomain, noSlot, noRegion, noRecord, noUpdate, noHash, noInterface}
 use Rattle.decoded.specs.Tables.{domainFor, tablesOf}
 use Rattle.decoded.specs.Decode.Read.{afterFree, freeFrom, taken, afterSlot, listFrom, childrenFrom, domainsFrom, stateOf}
 use Rattle.decoded.specs.Decode.Places.{along}
@@ -62,6 +63,10 @@ pub record HashWellFormed (x : RegionHash) : Type 0 where
   pub givenBit : x .given ≤ 1
   pub noneClear : x .given ≡ 0 → x ≡ noHash
 
+-- the interface of a domain in use: frozen or not
+abbrev pub InterfaceWellFormed : Interface → Type 0
+InterfaceWellFormed f = f .frozen ≤ 1
+
 -- a place of the ring where an update is queued
 pub record UpdateWellFormed (u : Update) : Type 0 where
   pub kindLow : PERMISSION ≤ u .kind
@@ -78,6 +83,9 @@ regionRow v i = getD (v .regions) i noRegion
 
 abbrev pub hashRow : Tables → ℕ → RegionHash
 hashRow v i = getD (v .hashes) i noHash
+
+abbrev pub interfaceRow : Tables → ℕ → Interface
+interfaceRow v i = getD (v .interfaces) i noInterface
 
 abbrev pub recordRow : Tables → ℕ → Region
 recordRow v i = getD (v .records) i noRecord
@@ -100,6 +108,8 @@ pub record OutsideWellFormed (v : Tables) : Type 0 where
   pub regionsFree : (i : ℕ) → i < v .sizes .regions → taken (v .regionPool) i ≡ false → regionRow v i ≡ noRegion
   pub hashesUsed : (i : ℕ) → i < v .sizes .regions → taken (v .regionPool) i ≡ true → HashWellFormed (hashRow v i)
   pub hashesFree : (i : ℕ) → i < v .sizes .regions → taken (v .regionPool) i ≡ false → hashRow v i ≡ noHash
+  pub interfacesUsed : (i : ℕ) → i < v .sizes .domains → taken (v .domainPool) i ≡ true → InterfaceWellFormed (interfaceRow v i)
+  pub interfacesFree : (i : ℕ) → i < v .sizes .domains → taken (v .domainPool) i ≡ false → interfaceRow v i ≡ noInterface
 
 pub record TrackersWellFormed (v : Tables) : Type 0 where
   pub recordPool : PoolWellFormed (v .sizes .records) (v .recordPool)

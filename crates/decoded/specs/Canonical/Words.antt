@@ -11,8 +11,8 @@ use Rattle.model.specs.Layout.{words}
 use Rattle.model.specs.Sound.{Sound}
 use Rattle.words.specs.Runs.{length-part}
 use Rattle.words.specs.Rows.{rows, length-rows}
-use Rattle.sizes.specs.Sizes.{sizesOf, stride, regionWidth, recordWidth, updateWidth, hashWidth, domainPoolSection, regionPoolSection, recordPoolSection, domainsSection, regionsSection, recordsSection, ringSection, hashSection}
-use Rattle.tables.specs.View.{regionOf, recordOf, updateOf, hashOf, arenaOf, domainOf, ofParts, view, Sized}
+use Rattle.sizes.specs.Sizes.{sizesOf, stride, regionWidth, recordWidth, updateWidth, hashWidth, interfaceWidth, domainPoolSection, regionPoolSection, recordPoolSection, domainsSection, regionsSection, recordsSection, ringSection, hashSection, interfaceSection}
+use Rattle.tables.specs.View.{regionOf, recordOf, updateOf, hashOf, interfaceOf, arenaOf, domainOf, ofParts, view, Sized}
 use Rattle.tables.specs.Sections.{section, section-length}
 use Rattle.decoded.specs.Shape.{PoolShaped, Shaped}
 use Rattle.decoded.specs.Words.{words-held, held-words}
@@ -47,6 +47,7 @@ view-shaped t s =
       records = length-rows recordWidth (z .records) recordOf (section t recordsSection);
       ring = length-rows updateWidth (z .updates + 1) updateOf (section t ringSection);
       hashes = length-rows hashWidth (z .regions) hashOf (section t hashSection);
+      interfaces = length-rows interfaceWidth (z .domains) interfaceOf (section t interfaceSection);
     }
 
 -- ---- the words of a sound state

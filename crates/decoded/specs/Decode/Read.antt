@@ -17,8 +17,9 @@ use Rattle.tables.specs.declared.RegionCapa.{RegionCapa}
 use Rattle.tables.specs.declared.Region.{Region}
 use Rattle.tables.specs.declared.Update.{Update}
 use Rattle.tables.specs.declared.RegionHash.{RegionHash}
+use Rattle.tables.specs.declared.Interface.{Interface}
 use Rattle.tables.specs.Kinds.{PERMISSION}
-use Rattle.tables.specs.Tables.{Tables, Arena, Domain, noDomain, noSlot, noRegion, noRecord, noUpdate, noHash}
+use Rattle.tables.specs.Tables.{Tables, Arena, Domain, noDomain, noSlot, noRegion, noRecord, noUpdate, noHash, noInterface}
 
 -- ---- walks
 
@@ -102,11 +103,19 @@ trackerFrom n l k = map (λ i. recordFrom i (getD l i noRecord)) (chainFrom (λ 
 
 -- ---- domains, with m slots each, and n records
 
-abbrev pub domainFrom : ℕ → ℕ → List Region → Domain → state.Domain
-domainFrom m n l x = record { manager = linked (x .head .manager); cores = x .head .cores; locals = listFrom m x; tracker = trackerFrom n l (x .head .tracker) }
+abbrev pub interfaceFrom : Interface → state.Interface
+interfaceFrom f = record { word = f .word; frozen = eqb (f .frozen) 1 }
+
+abbrev pub domainFrom : ℕ → ℕ → List Region → Domain → Interface → state.Domain
+domainFrom m n l x f =
+    record { manager = linked (x .head .manager); cores = x .head .cores; locals = listFrom m x; tracker = trackerFrom n l (x .head .tracker); interface = interfaceFrom f }
+
+-- from the rows of slot i
+abbrev pub domainRead : Tables → ℕ → state.Domain
+domainRead v i = domainFrom (v .sizes .slots) (v .sizes .records) (v .records) (getD (v .domains) i noDomain) (getD (v .interfaces) i noInterface)
 
 unfoldable pub domainsFrom : Tables → List (Option state.Domain)
-domainsFrom v = tableFrom (v .sizes .domains) (v .domainPool) (λ i. domainFrom (v .sizes .slots) (v .sizes .records) (v .records) (getD (v .domains) i noDomain))
+domainsFrom v = tableFrom (v .sizes .domains) (v .domainPool) (domainRead v)
 
 -- ---- regions
 

@@ -14,7 +14,7 @@ use Rattle.model.specs.State.{State, Kind, Root, Alias, Carve, noneRegion, regi
 use Rattle.model.specs.Layout.{siblings}
 use Rattle.laws.specs.Tree.Slots.{in-length}
 use Rattle.tables.specs.Tables.{noRegion, regionAt, withRegionPool, withRegions, withHashes, withRegion, withHash}
-use Rattle.decoded.specs.Rows.{getD-up, same-up, set-table}
+use Rattle.decoded.specs.Rows.{getD-up, same-up, set-table, same-table}
 use Rattle.decoded.specs.Tables.{poolOf, regionFor, slotHash, regionsFor, hashesFor, tablesOf}
 
 -- the child list in a slot
@@ -55,14 +55,7 @@ hashes-set rs n i o e l = set-table (λ j. slotHash) rs n i o e l
 
 pub hashes-kept : (rs : List (Option state.Region)) (n i : ℕ) (o : Option state.Region) → slotHash o ≡ slotHash (atSlot rs i) → hashesFor n (set rs i o) ≡ hashesFor n rs
 unfolding hashesFor
-hashes-kept rs n i o e = same-up (λ j. slotHash (atSlot (set rs i o) j)) (λ j. slotHash (atSlot rs j)) n (λ j k. at j (ℕ-discrete j i))
-  where
-    at : (j : ℕ) → Dec (j ≡ i) → slotHash (atSlot (set rs i o) j) ≡ slotHash (atSlot rs j)
-    at j (yes z) = elim (cmp i (length rs)) [
-      | lt l ↦ rw z (ap slotHash (getD-set-same rs i o none l) ∙ e)
-      | ge l ↦ rw (set-out rs i o l)
-    ]
-    at j (no ne) = ap slotHash (getD-set-other rs i j o none ne)
+hashes-kept rs n i o e = same-table slotHash rs n i o e
 
 -- ---- the tables
 

@@ -1,4 +1,4 @@
--- The words end where the hashes do.
+-- The words end where the interfaces do.
 use Rattle.sizes.specs.Tests.{domains-fit}
 use Rattle.sizes.specs.Sizes.{total}
 use Rattle.words.specs.Cuts.{offset}
@@ -7,8 +7,8 @@ use native.Mathlib.Omega.{arith}
 use Rattle.sizes.proofs.total_of.Statement.{statement}
 use Rattle.sizes.proofs.total_of.Tie as tie
 
-hashes-at-requires : tie.Need-hashes-at-requires
-hashes-at-requires c κs = search needs
+interfaces-at-requires : tie.Need-interfaces-at-requires
+interfaces-at-requires c κs = search needs
 
 mul-result : tie.Need-mul-result
 mul-result c = search needs
@@ -22,4 +22,4 @@ unfolding offset total
 returns c = omega arith
 
 pub total-of-spec : {M : Type 1} → statement M
-total-of-spec = tie.close (tie.spec hashes-at-requires mul-result add-result returns)
+total-of-spec = tie.close (tie.spec interfaces-at-requires mul-result add-result returns)

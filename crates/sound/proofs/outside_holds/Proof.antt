@@ -32,14 +32,23 @@ same-length-3 c = search needs
 returns-3 : tie.Need-returns-3
 returns-3 c = (ends _ _ _ _ (c .before .hashes-hold .ensures) (goes-on _ _ _ _ (c .before .before .before .before .before .tree-holds .ensures .0) (goes-on _ _ _ _ (c .before .before .before .before .before .before .before .before .before .before .outside-pools-hold .ensures .0) refl (c .before .before .before .before .before .before .before .if1 .left)) (c .before .before .if2 .left)) (c .if3 .taken), (c .before .before .before .before .before .tree-holds .ensures .1) ∙ (c .before .before .before .before .before .before .before .before .before .before .outside-pools-hold .ensures .1))
 
-capas-hold-requires : tie.Need-capas-hold-requires
-capas-hold-requires c κs = ((c .before .before .before .before .before .before .before .before .before .before .before .before .before .before .before .pre .0), area-same _ _ _ ((c .before .before .before .before .before .before .tree-holds .ensures .1) ∙ (c .before .before .before .before .before .before .before .before .before .before .before .outside-pools-hold .ensures .1)) (c .before .before .before .before .before .before .before .before .before .before .before .before .before .before .before .pre .1))
+interfaces-hold-requires : tie.Need-interfaces-hold-requires
+interfaces-hold-requires c κs = search needs
 
 same-length-4 : tie.Need-same-length-4
 same-length-4 c = search needs
 
 returns-4 : tie.Need-returns-4
-returns-4 c = ((c .before .before .capas-hold .ensures .0) ∙ goes-on _ _ _ _ (c .before .before .before .before .before .hashes-hold .ensures) (goes-on _ _ _ _ (c .before .before .before .before .before .before .before .before .before .tree-holds .ensures .0) (goes-on _ _ _ _ (c .before .before .before .before .before .before .before .before .before .before .before .before .before .before .outside-pools-hold .ensures .0) refl (c .before .before .before .before .before .before .before .before .before .before .before .if1 .left)) (c .before .before .before .before .before .before .if2 .left)) (c .before .before .before .before .if3 .left), (c .before .before .capas-hold .ensures .1) ∙ (c .before .before .before .before .before .before .before .before .before .tree-holds .ensures .1) ∙ (c .before .before .before .before .before .before .before .before .before .before .before .before .before .before .outside-pools-hold .ensures .1))
+returns-4 c = (ends _ _ _ _ (c .before .interfaces-hold .ensures) (goes-on _ _ _ _ (c .before .before .before .hashes-hold .ensures) (goes-on _ _ _ _ (c .before .before .before .before .before .before .before .tree-holds .ensures .0) (goes-on _ _ _ _ (c .before .before .before .before .before .before .before .before .before .before .before .before .outside-pools-hold .ensures .0) refl (c .before .before .before .before .before .before .before .before .before .if1 .left)) (c .before .before .before .before .if2 .left)) (c .before .before .if3 .left)) (c .if4 .taken), (c .before .before .before .before .before .before .before .tree-holds .ensures .1) ∙ (c .before .before .before .before .before .before .before .before .before .before .before .before .outside-pools-hold .ensures .1))
+
+capas-hold-requires : tie.Need-capas-hold-requires
+capas-hold-requires c κs = ((c .before .before .before .before .before .before .before .before .before .before .before .before .before .before .before .before .before .pre .0), area-same _ _ _ ((c .before .before .before .before .before .before .before .before .tree-holds .ensures .1) ∙ (c .before .before .before .before .before .before .before .before .before .before .before .before .before .outside-pools-hold .ensures .1)) (c .before .before .before .before .before .before .before .before .before .before .before .before .before .before .before .before .before .pre .1))
+
+same-length-5 : tie.Need-same-length-5
+same-length-5 c = search needs
+
+returns-5 : tie.Need-returns-5
+returns-5 c = ((c .before .before .capas-hold .ensures .0) ∙ goes-on _ _ _ _ (c .before .before .before .before .before .interfaces-hold .ensures) (goes-on _ _ _ _ (c .before .before .before .before .before .before .before .hashes-hold .ensures) (goes-on _ _ _ _ (c .before .before .before .before .before .before .before .before .before .before .before .tree-holds .ensures .0) (goes-on _ _ _ _ (c .before .before .before .before .before .before .before .before .before .before .before .before .before .before .before .before .outside-pools-hold .ensures .0) refl (c .before .before .before .before .before .before .before .before .before .before .before .before .before .if1 .left)) (c .before .before .before .before .before .before .before .before .if2 .left)) (c .before .before .before .before .before .before .if3 .left)) (c .before .before .before .before .if4 .left), (c .before .before .capas-hold .ensures .1) ∙ (c .before .before .before .before .before .before .before .before .before .before .before .tree-holds .ensures .1) ∙ (c .before .before .before .before .before .before .before .before .before .before .before .before .before .before .before .before .outside-pools-hold .ensures .1))
 
 pub outside-holds-spec : {M : Type 1} → statement M
 outside-holds-spec =
@@ -54,6 +63,9 @@ outside-holds-spec =
     hashes-hold-requires
     same-length-3
     returns-3
-    capas-hold-requires
+    interfaces-hold-requires
     same-length-4
-    returns-4)
+    returns-4
+    capas-hold-requires
+    same-length-5
+    returns-5)

@@ -1,0 +1,1 @@
+// No code: that the test of the domains' interfaces is exact (specs/).

@@ -1,0 +1,60 @@
+-- The rows before i hold.
+use mathlib.Core.Path.{ap, _∙_}
+use Prim.Native.Nat.{_-_}
+use native.Mathlib.Omega.{arith}
+use borrow.Author.Needs.{needs}
+use borrow.Author.Tests.{not-true, not-false}
+use Rattle.base.specs.Tests.{allFrom}
+use Rattle.tables.specs.View.{view}
+use Rattle.tables.specs.Header.{domains-seen}
+use Rattle.sound_pools.specs.Marks.{Passed, passed-start, passed-go, passed-stop, passed-end}
+use Rattle.sound_interfaces.specs.Interfaces.{rowHolds, interfacesHold}
+use Rattle.sound_interfaces.proofs.interfaces_hold.Statement.{statement}
+use Rattle.sound_interfaces.proofs.interfaces_hold.Tie as tie
+
+abbrev Inv-loop : tie.InvT-loop
+Inv-loop t n i₀ i = Passed (rowHolds (view t)) n i
+
+abbrev μ-loop : tie.MeasureT-loop
+μ-loop t n i₀ i = n - i
+
+size-requires : tie.Need-size-requires Inv-loop μ-loop
+size-requires c κs = search needs
+
+loop-holds : tie.Need-loop-holds Inv-loop μ-loop
+loop-holds c = passed-start _ _
+
+row-holds-requires : tie.Need-row-holds-requires Inv-loop μ-loop
+row-holds-requires c κs = (c .before .before .before .before .pre)
+
+returns : tie.Need-returns Inv-loop μ-loop
+unfolding interfacesHold
+returns c = passed-stop _ _ _ (c .before .before .before .loop .inv) _ (c .before .before .loop-test .taken) (c .before .row-holds .ensures) (not-true _ (c .if1 .taken)) ∙ ap (allFrom (rowHolds (view ((c .before .before .before .before .before .before .args .t) .now))) 0) (domains-seen _ _ (c .before .before .before .before .size .ensures))
+
+add-i : tie.Need-add-i Inv-loop μ-loop
+add-i c = omega arith
+
+loop-less : tie.Need-loop-less Inv-loop μ-loop
+loop-less c = omega arith
+
+loop-again : tie.Need-loop-again Inv-loop μ-loop
+loop-again c = passed-go _ _ _ (c .before .before .before .loop .inv) _ (c .before .before .loop-test .taken) (c .before .row-holds .ensures) (not-false _ (c .if1 .left))
+
+returns-2 : tie.Need-returns-2 Inv-loop μ-loop
+unfolding interfacesHold
+returns-2 c = passed-end _ _ _ (c .before .loop .inv) (c .loop-test .left) ∙ ap (allFrom (rowHolds (view ((c .before .before .before .before .args .t) .now))) 0) (domains-seen _ _ (c .before .before .size .ensures))
+
+pub interfaces-hold-spec : {M : Type 1} → statement M
+interfaces-hold-spec =
+    tie.close
+    (tie.spec
+    Inv-loop
+    μ-loop
+    size-requires
+    loop-holds
+    row-holds-requires
+    returns
+    add-i
+    loop-less
+    loop-again
+    returns-2)
