@@ -6,6 +6,7 @@ use Rattle.base.specs.Cases.{pick}
 use Rattle.tables.specs.declared.Handle.{Handle}
 use Rattle.tables.specs.declared.Slot.{Slot}
 use Rattle.tables.specs.Kinds.{FREE, REGION, «REGION_REVOKE», MANAGEMENT, ROOT}
+use Rattle.tables.specs.Interface.{SEND}
 use Rattle.tables.specs.Tables.{Tables, regionAt}
 use Rattle.arena.specs.Arena.{liveB}
 use Rattle.rights.specs.Rights.{HASH, has, allowed}
@@ -21,7 +22,7 @@ use Rattle.segment.specs.declared.SendOptions.the-variants as options
 use Rattle.segment.specs.Regions.{sendRegion}
 use Rattle.segment.specs.Options.{applyOptions}
 use Rattle.revocation.specs.Revoke.{revoke}
-use Rattle.checks.specs.Checks.{liveDomain, liveRegion, regionHeld, targetHeld, capaOf}
+use Rattle.checks.specs.Checks.{liveDomain, callerWith, liveRegion, regionHeld, targetHeld, capaOf}
 
 -- 18: of the flags only those may join that a child may add to no rights at all (document 02, request 1); then 19, "HASH without a hash": HASH of the
 -- flag word
@@ -52,7 +53,7 @@ sendCapa x to o s =
 
 unfoldable pub send : Handle → ℕ → ℕ → SendOptions → Tables → Effect
 send h l target o s =
-    andThen (liveDomain h s) (λ d s₁.
+    andThen (callerWith SEND h s) (λ d s₁.
     andThen (targetHeld d target s₁) (λ to s₂.
     andThen (reserve to s₂) (λ u s₃.
     andThen (sendCapa (capaAt s₃ d l) to o s₃) (λ v s₄. insert to (capaAt s₃ d l) (withoutCapa s₄ d l)))))

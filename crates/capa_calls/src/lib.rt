@@ -8,6 +8,7 @@ use refusals::Refusal;
 use rights::Rights;
 use segment::SendOptions;
 use tables::Handle;
+use tables::Interface;
 use tables::RegionCapa;
 use tables::Slot;
 
@@ -101,7 +102,7 @@ pub fn send(t: &mut [u64], h: Handle, l: usize, target: usize, o: SendOptions) -
     ensures { λ r. ⌜ r ≡ send h l target o (view (now (t .entry))) .answer ⌝ }
     ensures { λ _. ⌜ Left (now (t .exit)) (send h l target o (view (now (t .entry))) .tables) ⌝ }
 {
-    match checks::live_domain(t, h) {
+    match checks::caller_with(t, h, Interface::SEND) {
         Answer::Done(d) => match checks::target_held(t, d as usize, target) {
             Answer::Done(to) => match domain::reserve(t, to as usize) {
                 Answer::Done(u) => pass(t, d as usize, l, to as usize, o),

@@ -6,9 +6,10 @@ use Rattle.base.specs.Cases.{pick}
 use Rattle.tables.specs.declared.Handle.{Handle}
 use Rattle.tables.specs.declared.Slot.{Slot}
 use Rattle.tables.specs.Kinds.{FREE, REGION, MANAGEMENT, CHANNEL}
-use Rattle.tables.specs.Tables.{Tables, Arena}
+use Rattle.tables.specs.Tables.{Tables, Arena, interfaceAt}
 use Rattle.arena.specs.Arena.{liveB, capacityOf}
-use Rattle.refusals.specs.Refusals.{noDomain, noSlot, wrongKind, stale, badRange, noRegion}
+use Rattle.rights.specs.Rights.{has}
+use Rattle.refusals.specs.Refusals.{noDomain, noSlot, wrongKind, stale, badRange, noRegion, notAllowed}
 use Rattle.answers.specs.Answers.{Effect, done, refused, andThen}
 use Rattle.region.specs.declared.AccessRights.{AccessRights}
 use Rattle.slots.specs.Capas.{capaAt}
@@ -17,6 +18,10 @@ use Rattle.domain.specs.Activate.{reserve}
 -- 3; the answer is the domain's slot
 unfoldable pub liveDomain : Handle → Tables → Effect
 liveDomain h s = pick (liveB (s .domainPool) h) (done (h .slot) s) (refused noDomain s)
+
+-- 3, 20: a domain whose interface has that bit; the answer is its slot (the model's callerWith)
+unfoldable pub callerWith : ℕ → Handle → Tables → Effect
+callerWith bit h s = andThen (liveDomain h s) (λ d s₁. pick (has (interfaceAt s₁ d .word) bit) (done d s₁) (refused notAllowed s₁))
 
 -- 6; the answer is the region's slot
 unfoldable pub liveRegion : Handle → Tables → Effect

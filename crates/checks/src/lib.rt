@@ -1,7 +1,8 @@
 // Checks that several calls share, the refusal's number beside each.
 ghost use mathlib.Core.Path.{_≡_};
 ghost use Rattle.tables.specs.View.{view, Sized, Left};
-ghost use Rattle.checks.specs.Checks.{liveDomain, liveRegion, asRegion, asTarget, regionHeld, targetHeld, roomForRegion};
+ghost use Rattle.rights.specs.Rights.{has};
+ghost use Rattle.checks.specs.Checks.{liveDomain, callerWith, liveRegion, asRegion, asTarget, regionHeld, targetHeld, roomForRegion};
 use answers::Answer;
 use refusals::Refusal;
 use region::AccessRights;
@@ -17,6 +18,33 @@ pub fn live_domain(t: &[u64], h: Handle) -> Answer
         Answer::Done(h.slot)
     } else {
         Answer::Refused(Refusal::NO_DOMAIN)
+    }
+}
+
+// Whether a flag is set in a word; 0 is no flag.
+fn has(word: u64, flag: u64) -> bool
+    ensures { λ r. ⌜ r ≡ has word flag ⌝ }
+{
+    if flag == 0 {
+        return false;
+    }
+    word / flag % 2 == 1
+}
+
+// 3, 20 (document 02, request 2): a domain whose interface has that bit; the answer is its slot.
+pub fn caller_with(t: &[u64], h: Handle, bit: u64) -> Answer
+    requires { ⌜ Sized (now t) ⌝ }
+    ensures { λ r. ⌜ r ≡ callerWith bit h (view (now (t .entry))) .answer ⌝ }
+{
+    match live_domain(t, h) {
+        Answer::Done(d) => {
+            let interface = tables::load_interface(t, d as usize);
+            if has(interface.word, bit) {
+                return Answer::Done(d);
+            }
+            Answer::Refused(Refusal::NOT_ALLOWED)
+        }
+        Answer::Refused(r) => Answer::Refused(r),
     }
 }
 

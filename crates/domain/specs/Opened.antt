@@ -1,4 +1,5 @@
--- A new domain: an empty list and an empty tracker in a slot of its own (`Domain::new`).
+-- A new domain: an empty list and an empty tracker in a slot of its own (`Domain::new`), and an interface with all three bits (document 02, request
+-- 2).
 use Prim.Native.Nat.{ℕ, zero, suc, _+_}
 use mathlib.Core.List.{List, [], _∷_}
 use lib.Dec.{ltb}
@@ -6,7 +7,9 @@ use Rattle.sizes.specs.Limits.{mostSlots}
 use Rattle.base.specs.Cases.{pick}
 use Rattle.tables.specs.declared.Slot.{Slot}
 use Rattle.tables.specs.declared.DomainHead.{DomainHead}
-use Rattle.tables.specs.Tables.{Tables, noSlot, withHead, withDomainPool}
+use Rattle.tables.specs.declared.Interface.{Interface}
+use Rattle.tables.specs.Interface.{OPEN}
+use Rattle.tables.specs.Tables.{Tables, noSlot, withHead, withInterface, withDomainPool}
 use Rattle.arena.specs.declared.Given.{Given}
 use Rattle.arena.specs.declared.Given.the-variants.{At, Full}
 use Rattle.arena.specs.Arena.{given, allocated}
@@ -28,11 +31,15 @@ freshList n = record { slots = freshFrom n mostSlots 0; head = 0; count = 0; siz
 abbrev pub newHead : ℕ → ℕ → DomainHead
 newHead manager cores = record { manager = manager; cores = cores; tracker = 0; head = 0; count = 0 }
 
+abbrev pub openInterface : Interface
+openInterface = record { word = OPEN; frozen = 0 }
+
 abbrev pub taken : Tables → Tables
 taken s = withDomainPool s (allocated (s .domainPool))
 
 abbrev openedAt : Tables → ℕ → ℕ → Given → Effect
-openedAt s manager cores (At h) = done (h .slot) (withList (withHead (taken s) (h .slot) (newHead manager cores)) (h .slot) (freshList (s .sizes .slots)))
+openedAt s manager cores (At h) =
+    done (h .slot) (withInterface (withList (withHead (taken s) (h .slot) (newHead manager cores)) (h .slot) (freshList (s .sizes .slots))) (h .slot) openInterface)
 openedAt s manager cores Full = refused noDomainRoom (taken s)
 
 -- with the link of its manager; the answer is the slot (the model's newDomain)

@@ -1,4 +1,5 @@
-// A new domain (`Domain::new`): an empty list and an empty tracker.
+// A new domain (`Domain::new`): an empty list and an empty tracker, and an interface with all three bits (document 02,
+// request 2).
 ghost use mathlib.Core.Path.{_≡_};
 ghost use Rattle.tables.specs.View.{view, Sized, Left};
 ghost use Rattle.domain.specs.Opened.{freshList, newDomain};
@@ -9,6 +10,7 @@ use refusals::Refusal;
 use sizes::MOST_SLOTS;
 use slot_list::SlotList;
 use tables::DomainHead;
+use tables::Interface;
 use tables::Slot;
 
 // Place i of a list of n free slots: the next one stands behind it, and 0 behind the last.
@@ -62,6 +64,11 @@ pub fn new_domain(t: &mut [u64], manager: u64, cores: u64) -> Answer
             };
             tables::store_head(t, i, head);
             stored_slots::store_list(t, i, fresh_list(n));
+            let interface = Interface {
+                word: Interface::OPEN,
+                frozen: 0,
+            };
+            tables::store_interface(t, i, interface);
             Answer::Done(h.slot)
         }
         Given::Full => Answer::Refused(Refusal::NO_DOMAIN_ROOM),

@@ -5,6 +5,7 @@ use lib.Dec.{eqb}
 use Rattle.base.specs.Cases.{pick}
 use Rattle.tables.specs.declared.Handle.{Handle}
 use Rattle.tables.specs.Kinds.{REGION, ROOT, ALIAS, CARVE}
+use Rattle.tables.specs.Interface as interface
 use Rattle.tables.specs.Tables.{Tables, regionAt}
 use Rattle.refusals.specs.Refusals.{beyond}
 use Rattle.answers.specs.Answers.{Effect, done, refused, andThen}
@@ -13,7 +14,7 @@ use Rattle.tables.specs.Links.{linkTo}
 use Rattle.domain.specs.Activate.{insert, activate, deactivate}
 use Rattle.segment.specs.Children.{insertChild, checkChild}
 use Rattle.segment.specs.Regions.{access, capaFor, newRegion}
-use Rattle.checks.specs.Checks.{liveDomain, regionHeld, roomForRegion, capaOf}
+use Rattle.checks.specs.Checks.{liveDomain, callerWith, regionHeld, roomForRegion, capaOf}
 
 -- region i in domain d's list
 unfoldable pub heldRegion : ℕ → ℕ → Tables → Effect
@@ -33,7 +34,7 @@ addChild d p kind a s = andThen (newRegion (capaFor d kind (linkTo p) a) s) (λ 
 
 unfoldable pub aliasRegion : Handle → ℕ → AccessRights → Tables → Effect
 aliasRegion h l a s =
-    andThen (liveDomain h s) (λ d s₁.
+    andThen (callerWith interface.ALIAS h s) (λ d s₁.
     andThen (regionHeld d l s₁) (λ p s₂.
     andThen (roomForRegion d a s₂) (λ u s₃.
     pick (checkChild true s₃ p a) (andThen (addChild d p ALIAS a s₃) (λ n s₄. andThen (activate d a s₄) (λ v. done n))) (refused beyond s₃))))
@@ -45,7 +46,7 @@ exchangeRights d old a s =
 
 unfoldable pub carveRegion : Handle → ℕ → AccessRights → Tables → Effect
 carveRegion h l a s =
-    andThen (liveDomain h s) (λ d s₁.
+    andThen (callerWith interface.CARVE h s) (λ d s₁.
     andThen (regionHeld d l s₁) (λ p s₂.
     andThen (roomForRegion d a s₂) (λ u s₃.
     pick (checkChild false s₃ p a)

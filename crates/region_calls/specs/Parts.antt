@@ -5,6 +5,7 @@ use Prim.Native.Nat.{ℕ}
 use Rattle.base.specs.Cases.{pick}
 use Rattle.tables.specs.declared.Handle.{Handle}
 use Rattle.tables.specs.Kinds.{ROOT, ALIAS, CARVE}
+use Rattle.tables.specs.Interface as interface
 use Rattle.tables.specs.Tables.{Tables, regionAt}
 use Rattle.refusals.specs.Refusals.{beyond}
 use Rattle.answers.specs.Answers.{Effect, done, refused, andThen}
@@ -12,7 +13,7 @@ use Rattle.region.specs.declared.AccessRights.{AccessRights}
 use Rattle.domain.specs.Activate.{activate}
 use Rattle.segment.specs.Children.{checkChild}
 use Rattle.segment.specs.Regions.{capaFor, newRegion}
-use Rattle.checks.specs.Checks.{liveDomain, regionHeld, roomForRegion}
+use Rattle.checks.specs.Checks.{liveDomain, callerWith, regionHeld, roomForRegion}
 use Rattle.region_calls.specs.Calls.{heldRegion, createRootRegion, addChild, aliasRegion, exchangeRights, carveRegion}
 
 unfoldable pub rooted : ℕ → AccessRights → Tables → Effect
@@ -33,10 +34,10 @@ unfolding createRootRegion rooted
 root-is h a s = refl
 
 module _ (h : Handle) (l : ℕ) (a : AccessRights) (s : Tables) where
-  pub alias-is : aliasRegion h l a s ≡ andThen (liveDomain h s) (λ d s₁. andThen (regionHeld d l s₁) (λ p s₂. andThen (roomForRegion d a s₂) (λ u. aliased d p a)))
+  pub alias-is : aliasRegion h l a s ≡ andThen (callerWith interface.ALIAS h s) (λ d s₁. andThen (regionHeld d l s₁) (λ p s₂. andThen (roomForRegion d a s₂) (λ u. aliased d p a)))
   unfolding aliasRegion aliased
   alias-is = refl
 
-  pub carve-is : carveRegion h l a s ≡ andThen (liveDomain h s) (λ d s₁. andThen (regionHeld d l s₁) (λ p s₂. andThen (roomForRegion d a s₂) (λ u. carved d p a)))
+  pub carve-is : carveRegion h l a s ≡ andThen (callerWith interface.CARVE h s) (λ d s₁. andThen (regionHeld d l s₁) (λ p s₂. andThen (roomForRegion d a s₂) (λ u. carved d p a)))
   unfolding carveRegion carved
   carve-is = refl

@@ -7,6 +7,7 @@ use answers::Answer;
 use refusals::Refusal;
 use region::AccessRights;
 use tables::Handle;
+use tables::Interface;
 use tables::RegionCapa;
 use tables::Slot;
 
@@ -100,7 +101,7 @@ pub fn alias_region(t: &mut [u64], h: Handle, l: usize, a: AccessRights) -> Answ
     ensures { λ r. ⌜ r ≡ aliasRegion h l a (view (now (t .entry))) .answer ⌝ }
     ensures { λ _. ⌜ Left (now (t .exit)) (aliasRegion h l a (view (now (t .entry))) .tables) ⌝ }
 {
-    match checks::live_domain(t, h) {
+    match checks::caller_with(t, h, Interface::ALIAS) {
         Answer::Done(d) => match checks::region_held(t, d as usize, l) {
             Answer::Done(p) => match checks::room_for_region(t, d as usize, a) {
                 Answer::Done(u) => alias(t, d as usize, p as usize, a),
@@ -154,7 +155,7 @@ pub fn carve_region(t: &mut [u64], h: Handle, l: usize, a: AccessRights) -> Answ
     ensures { λ r. ⌜ r ≡ carveRegion h l a (view (now (t .entry))) .answer ⌝ }
     ensures { λ _. ⌜ Left (now (t .exit)) (carveRegion h l a (view (now (t .entry))) .tables) ⌝ }
 {
-    match checks::live_domain(t, h) {
+    match checks::caller_with(t, h, Interface::CARVE) {
         Answer::Done(d) => match checks::region_held(t, d as usize, l) {
             Answer::Done(p) => match checks::room_for_region(t, d as usize, a) {
                 Answer::Done(u) => carve(t, d as usize, p as usize, a),

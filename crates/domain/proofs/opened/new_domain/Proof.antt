@@ -1,4 +1,4 @@
--- The slot that is given gets the head and the list.
+-- The slot that is given gets the head, the list and the interface.
 use mathlib.Core.Path.{refl}
 use Rattle.domain.specs.Opened.{newDomain}
 use borrow.Author.Needs.{needs}
@@ -24,6 +24,9 @@ fresh-list-requires c κs = search needs
 store-list-requires : tie.Need-store-list-requires
 store-list-requires c κs = search needs
 
+store-interface-requires : tie.Need-store-interface-requires
+store-interface-requires c κs = search needs
+
 enum-told : tie.Need-enum-told
 enum-told c = search needs
 
@@ -32,7 +35,7 @@ same-length c = search needs
 
 returns : tie.Need-returns
 unfolding newDomain
-returns c = rw (← (c .before .before .before .before .before .before .before .before .before .before .before .before .before .before .allocate-domain .ensures .0), (c .before .before .before .before .before .before .before .before .before .before .h .given .1)) (refl, rw ((c .before .before .before .before .before .before .before .store-head .ensures .seen), (c .before .before .before .before .before .before .before .before .before .before .before .before .before .before .allocate-domain .ensures .1 .seen), (c .before .before .before .fresh-list .ensures), (c .before .before .before .before .before .before .before .before .before .before .before .before .before .before .before .before .size .ensures), slots-read) at (c .before .before .store-list .ensures))
+returns c = rw (← (c .before .before .before .before .before .before .before .before .before .before .before .before .before .before .before .before .before .before .allocate-domain .ensures .0), (c .before .before .before .before .before .before .before .before .before .before .before .before .before .before .h .given .1)) (refl, rw ((c .before .before .before .before .before .before .store-list .ensures .seen), (c .before .before .before .before .before .before .before .before .before .before .before .store-head .ensures .seen), (c .before .before .before .before .before .before .before .before .before .before .before .before .before .before .before .before .before .before .allocate-domain .ensures .1 .seen), (c .before .before .before .before .before .before .before .fresh-list .ensures), (c .before .before .before .before .before .before .before .before .before .before .before .before .before .before .before .before .before .before .before .before .size .ensures), slots-read) at (c .before .before .store-interface .ensures))
 
 same-length-2 : tie.Need-same-length-2
 same-length-2 c = search needs
@@ -42,4 +45,18 @@ unfolding newDomain
 returns-2 c = rw (← (c .before .before .before .before .allocate-domain .ensures .0), (c .enum-told .given .1)) (refl, (c .before .before .before .before .allocate-domain .ensures .1))
 
 pub new-domain-spec : {M : Type 1} → statement M
-new-domain-spec = tie.close (tie.spec size-requires allocate-domain-requires enum-known-h store-head-requires fresh-list-requires store-list-requires enum-told same-length returns same-length-2 returns-2)
+new-domain-spec =
+    tie.close
+    (tie.spec
+    size-requires
+    allocate-domain-requires
+    enum-known-h
+    store-head-requires
+    fresh-list-requires
+    store-list-requires
+    store-interface-requires
+    enum-told
+    same-length
+    returns
+    same-length-2
+    returns-2)
