@@ -60,7 +60,7 @@ openedRows o = flatMap (λ i. openedRow (getD o (9 + i) 0)) (countUp 0 (getD o 0
 abbrev pub rebuilt : List ℕ → List ℕ
 rebuilt o = o ++ openedRows o
 
-flat-same : (f g : ℕ → List ℕ) (k n : ℕ) → ((i : ℕ) → k ≤ i → i < k + n → f i ≡ g i) → flatMap f (countUp k n) ≡ flatMap g (countUp k n)
+pub flat-same : (f g : ℕ → List ℕ) (k n : ℕ) → ((i : ℕ) → k ≤ i → i < k + n → f i ≡ g i) → flatMap f (countUp k n) ≡ flatMap g (countUp k n)
 unfolding flatMap
 flat-same f g k zero h = refl
 flat-same f g k (suc n) h = rw (h k (omega arith) (omega arith), flat-same f g (suc k) n (λ i a b. h i (omega arith) (omega arith)))
