@@ -17,7 +17,7 @@ use Rattle.laws.specs.Tree.Sum.{sum, sum-find}
 use Rattle.laws.specs.Tree.Slots.{live-is}
 use Rattle.laws.specs.Lists.{one-true}
 use Rattle.laws.specs.Words.SameTables.{unlink}
-use Rattle.tables.specs.Tables.{Tables, noDomain, headAt, slotAt, regionAt}
+use Rattle.tables.specs.Tables.{Tables, headAt, slotAt, regionAt}
 use Rattle.decoded.specs.Shape.{Shaped}
 use Rattle.decoded.specs.Decode.Read.{poolFrom, taken, linked, heldIn, domainRead, domainsFrom, stateOf}
 use Rattle.decoded.specs.Canonical.Pools.{table-in}

@@ -16,7 +16,7 @@ use Rattle.model.specs.Pool.{handleOf}
 use Rattle.model.specs.Sound.{ManagerSound, Managed, names, isManagementOf}
 use Rattle.laws.specs.Tree.Sum.{sum, sum-none}
 use Rattle.laws.specs.Tree.Slots.{is-live}
-use Rattle.tables.specs.Tables.{Tables, noDomain, headAt, slotAt}
+use Rattle.tables.specs.Tables.{Tables, headAt, slotAt}
 use Rattle.decoded.specs.Shape.{Shaped}
 use Rattle.decoded.specs.Decode.Read.{poolFrom, taken, linked, heldIn, domainRead, domainsFrom, stateOf}
 use Rattle.decoded.specs.Canonical.Pools.{table-used, table-in}

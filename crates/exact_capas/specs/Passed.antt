@@ -16,7 +16,7 @@ use Rattle.model.specs.Sound.{OwnerSound, isRegionOf}
 use Rattle.laws.specs.Tree.Slots.{is-live}
 use Rattle.laws.specs.Tree.Sum.{sum-none}
 use Rattle.laws.specs.Words.SameTables.{unlink}
-use Rattle.tables.specs.Tables.{Tables, noDomain, slotAt, regionAt}
+use Rattle.tables.specs.Tables.{Tables, slotAt, regionAt}
 use Rattle.decoded.specs.Shape.{Shaped}
 use Rattle.decoded.specs.Decode.Read.{poolFrom, taken, heldIn, domainRead, regionRead, domainsFrom, regionsFrom, stateOf}
 use Rattle.decoded.specs.Canonical.Pools.{table-used, table-in}

@@ -3,7 +3,6 @@ use mathlib.Core.Path.{_≡_, refl, sym, ap, _∙_}
 use Prim.Native.Nat.{ℕ, _+_, _-_, _<_, suc}
 use native.Mathlib.Omega.{arith}
 use lib.Dec.{eqb, ltb}
-use lib.ListN.{getD}
 use borrow.Author.Tests.{lt-ltb, le-ltb}
 use Rattle.base.specs.Cases.{pick, holds, fails, test}
 use Rattle.model.specs.Lists.{oneIf, isSome, countIf}
@@ -11,7 +10,7 @@ use Rattle.model.specs.Sound as sound
 use Rattle.model.specs.Sound.{OnceEach}
 use Rattle.laws.specs.Tree.Sum.{sum, sum-add, sum-same, sum-each}
 use Rattle.laws.specs.Stack.{stack-length}
-use Rattle.tables.specs.Tables.{Tables, Arena, noDomain}
+use Rattle.tables.specs.Tables.{Tables, Arena}
 use Rattle.arena.specs.Arena.{capacityOf}
 use Rattle.decoded.specs.Decode.Read.{afterFree, freeFrom, poolFrom, taken, tableFrom, domainRead, regionRead, domainsFrom, regionsFrom, stateOf}
 use Rattle.decoded.specs.Canonical.Ends.{stack-long}

@@ -9,7 +9,6 @@ use native.Mathlib.Nat.{mod-lt}
 use native.Mathlib.Decide.{ℕ-discrete}
 use borrow.Author.Tests.{ltb-true, eqb-true, not-true, lt-ltb, le-ltb, eq-eqb, ne-eqb}
 use lib.Dec.{eqb, ltb}
-use lib.ListN.{getD}
 use Rattle.base.specs.Cases.{lt, ge, cmp, holds, fails, test}
 use Rattle.base.specs.Tests.{both, both-true, is-true, true-is, both-i, all-at, at-all, true-false}
 use Rattle.base.specs.Rounds.{along-at}
@@ -19,7 +18,7 @@ use Rattle.model.specs.State.{permission}
 use Rattle.model.specs.Updates.{isPermissionOf}
 use Rattle.model.specs.Sound.{QueueSound, QueuedLive, UpdateWords}
 use Rattle.tables.specs.declared.Update.{Update}
-use Rattle.tables.specs.Tables.{Tables, noUpdate, noDomain, updateAt}
+use Rattle.tables.specs.Tables.{Tables, noUpdate, updateAt}
 use Rattle.decoded.specs.Rows.{map-up-length}
 use Rattle.decoded.specs.Shape.{Shaped}
 use Rattle.decoded.specs.Decode.Read.{poolFrom, domainRead, domainsFrom, updateFrom, queueFrom, stateOf}

@@ -18,7 +18,7 @@ use Rattle.laws.specs.CountsLaw.{counts-law}
 use Rattle.laws.specs.Test.Points.{pointsOf, points-suffice}
 use Rattle.laws.specs.Lists.{each-weaken}
 use Rattle.tables.specs.declared.Region.{Region}
-use Rattle.tables.specs.Tables.{Tables, noDomain, headAt, recordAt}
+use Rattle.tables.specs.Tables.{Tables, headAt, recordAt}
 use Rattle.arena.specs.Arena.{isFreeB}
 use Rattle.decoded.specs.Shape.{Shaped}
 use Rattle.decoded.specs.Decode.Read.{taken, domainRead, domainsFrom, regionsFrom, stateOf}

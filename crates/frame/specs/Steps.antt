@@ -14,7 +14,7 @@ use Rattle.region.specs.declared.AccessRights.{AccessRights}
 use Rattle.segment.specs.declared.SendOptions.{SendOptions}
 use Rattle.segment.specs.declared.SendOptions.the-variants as options
 use Rattle.calls.specs.declared.Call.{Call}
-use Rattle.calls.specs.declared.Call.the-variants.{Open, OpenUnder, Channel, SetCoreMap, Root, Alias, Carve, Send, Revoke, CreateRevokeCapa}
+use Rattle.calls.specs.declared.Call.the-variants.{Open, OpenUnder, Channel, SetCoreMap, SetInterface, FreezeInterface, Root, Alias, Carve, Send, Revoke, CreateRevokeCapa}
 use Rattle.calls.specs.Steps.{stepOf}
 use Rattle.decoded.specs.Decode.Read.{handleFrom}
 use Rattle.refine.specs.Calls.Perform.{stepFor}
@@ -35,6 +35,8 @@ stepNamed (Open cores) = model.Open none cores
 stepNamed (OpenUnder h cores) = model.Open (some (handleFrom h)) cores
 stepNamed (Channel h to) = model.Channel (handleFrom h) (handleFrom to)
 stepNamed (SetCoreMap h cores) = model.SetCoreMap (handleFrom h) cores
+stepNamed (SetInterface h word) = model.SetInterface (handleFrom h) word
+stepNamed (FreezeInterface h) = model.FreezeInterface (handleFrom h)
 stepNamed (Root h a) = model.Root (handleFrom h) (accessIn a)
 stepNamed (Alias x) = model.Alias (handleFrom (x .domain)) (x .local) (accessIn (x .access))
 stepNamed (Carve x) = model.Carve (handleFrom (x .domain)) (x .local) (accessIn (x .access))
@@ -47,6 +49,8 @@ same-step (Open cores) v = refl
 same-step (OpenUnder h cores) v = refl
 same-step (Channel h to) v = refl
 same-step (SetCoreMap h cores) v = refl
+same-step (SetInterface h word) v = refl
+same-step (FreezeInterface h) v = refl
 same-step (Root h a) v = refl
 same-step (Alias x) v = refl
 same-step (Carve x) v = refl

@@ -8,6 +8,7 @@ pub mod SharedSteps
 pub mod Open
 pub mod Channel
 pub mod SetCoreMap
+pub mod Interface
 pub mod NewRegion
 pub mod Root
 pub mod Child

@@ -1,4 +1,4 @@
--- Slots taken and freed: the pool changes, and with it the row of the domain that is opened, of the region that is made
+-- Slots taken and freed: the pool changes, and with it the rows of the domain that is opened, of the region that is made
 -- or freed. A new region has no hash, as the free slot had none.
 use mathlib.Core.Path.{_≡_, sym, ap, _∙_}
 use Prim.Native.Nat.{ℕ, _-_, _^_, _<_}
@@ -18,11 +18,11 @@ use Rattle.model.specs.Regions.{freeRegion}
 use Rattle.model.specs.Sound.{PoolSound, slotUses}
 use Rattle.laws.specs.Lists.{not-used}
 use Rattle.laws.specs.Tree.Slots.{in-length}
-use Rattle.tables.specs.Tables.{noRegion, noHash, withDomainPool, withRegionPool, withDomains, withRegion, withHash}
+use Rattle.tables.specs.Tables.{noRegion, noHash, withDomainPool, withRegionPool, withDomains, withRegion, withHash, withInterface}
 use Rattle.arena.specs.Arena.{allocated, freesB, freed}
 use Rattle.pools.specs.declared.Pool.the-variants.{Regions}
 use Rattle.pools.specs.Wiping.{slotFreed}
-use Rattle.decoded.specs.Tables.{poolOf, domainFor, regionFor, regionHashFor, slotHash, tablesOf}
+use Rattle.decoded.specs.Tables.{poolOf, domainFor, interfaceFor, regionFor, regionHashFor, slotHash, tablesOf}
 use Rattle.refine.specs.Arenas.Pools.{poolFreed, allocated-first, first-inside, first-unused, frees-is, freed-is}
 use Rattle.decoded.specs.Tracker.Trackers.{trackerOf}
 use Rattle.decoded.specs.Slots.Domains.{domain-set}
@@ -34,12 +34,12 @@ use Rattle.decoded.specs.Tree.Regions.{childrenIn, region-set, region-set-kept}
 module _ (s : State) (i : ℕ) (is : List ℕ) where
   pub domain-opened : (x : state.Domain) → length (s .domains) ≡ s .sizes .domains → PoolSound (s .sizes .domains) (slotUses (s .domains)) (s .domainPool) → s .domainPool .free ≡ i ∷ is → x .tracker ≡ []
       → tablesOf (state.withDomains (record { gens = s .domainPool .gens; free = is }) (set (s .domains) i (some x)) s)
-      ≡ withDomains (withDomainPool (tablesOf s) (allocated (poolOf (s .sizes .domains) (s .domainPool)))) (set (tablesOf s .domains) i (domainFor (s .sizes .slots) (some x)))
+      ≡ withInterface (withDomains (withDomainPool (tablesOf s) (allocated (poolOf (s .sizes .domains) (s .domainPool)))) (set (tablesOf s .domains) i (domainFor (s .sizes .slots) (some x)))) i (interfaceFor (x .interface))
   domain-opened x long h e t =
       let n = s .sizes .domains in
       let o = not-used (atSlot (s .domains) i) (first-unused n (slotUses (s .domains)) (s .domainPool) h i is e) in
       domain-set s long _ i (some x) (first-inside n (slotUses (s .domains)) (s .domainPool) h i is e) (t ∙ ap trackerOf (sym o))
-      ∙ ap (λ a. withDomains (withDomainPool (tablesOf s) a) (set (tablesOf s .domains) i (domainFor (s .sizes .slots) (some x)))) (sym (allocated-first n (slotUses (s .domains)) (s .domainPool) h i is e))
+      ∙ ap (λ a. withInterface (withDomains (withDomainPool (tablesOf s) a) (set (tablesOf s .domains) i (domainFor (s .sizes .slots) (some x)))) i (interfaceFor (x .interface))) (sym (allocated-first n (slotUses (s .domains)) (s .domainPool) h i is e))
 
   pub region-made : (g : state.Region) → length (s .regions) ≡ s .sizes .regions → PoolSound (s .sizes .regions) (slotUses (s .regions)) (s .regionPool) → s .regionPool .free ≡ i ∷ is → g .children ≡ [] → g .hash ≡ none
       → tablesOf (state.withRegions (record { gens = s .regionPool .gens; free = is }) (set (s .regions) i (some g)) s)

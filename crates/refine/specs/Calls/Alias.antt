@@ -44,7 +44,7 @@ module _ (s : State) (sound : Sound s) (h : Handle) (a : AccessRights) (l : ℕ)
 
   pub alias-region-refines : Agrees (aliasRegion h l a (tablesOf s)) (model.aliasRegion (handleIn h) l (accessFor a) s)
   unfolding aliasRegion model.aliasRegion
-  alias-region-refines = with-parent s sound a h l _ _ (λ d p t k.
+  alias-region-refines = with-parent s sound a _ h l _ _ (λ d p t k.
       agrees-check beyond _ (tablesOf t) _ _ _ (alias-test d p t k) (λ c.
       agrees-next _ _ (model.addChild d p (Alias p) (accessFor a) t) _ (add-child-refines t (k .room .agree) (k .room .base) (k .lists) d (is-live _ _ (k .room .at)) p (k .parent) (k .at) (Alias p) refl a) (aliased d p t k c) (λ n u (b, (j, v)).
       agrees-state (activate d a (tablesOf u)) (done n) (steps.activate d (accessFor a) u) (λ z. ok (n, z))

@@ -70,7 +70,7 @@ module _ (s : State) (sound : Sound s) (h : Handle) (a : AccessRights) (l : ℕ)
 
   pub carve-region-refines : Agrees (carveRegion h l a (tablesOf s)) (model.carveRegion (handleIn h) l (accessFor a) s)
   unfolding carveRegion model.carveRegion
-  carve-region-refines = with-parent s sound a h l _ _ (λ d p t k.
+  carve-region-refines = with-parent s sound a _ h l _ _ (λ d p t k.
       agrees-check beyond _ (tablesOf t) _ _ _ (carve-test d p t k) (λ c.
       agrees-next _ _ (model.addChild d p (Carve p) (accessFor a) t) _ (add-child-refines t (k .room .agree) (k .room .base) (k .lists) d (is-live _ _ (k .room .at)) p (k .parent) (k .at) (Carve p) refl a) (carved d p t k c) (λ n u (b, (j, v)).
       agrees-state (exchangeRights d (regionAt (tablesOf t) p .rights) a (tablesOf u)) (done n) (model.exchangeRights d (state.regionAt t p .rights) (accessFor a) u) (λ z. ok (n, z))

@@ -29,7 +29,7 @@ use Rattle.tables.specs.Links.{linkTo}
 use Rattle.domain.specs.Activate.{insert}
 use Rattle.segment.specs.Children.{insertChild}
 use Rattle.segment.specs.Regions.{capaFor, newRegion}
-use Rattle.checks.specs.Checks.{liveDomain, regionHeld, roomForRegion, capaOf}
+use Rattle.checks.specs.Checks.{callerWith, regionHeld, roomForRegion, capaOf}
 use Rattle.region_calls.specs.Calls.{heldRegion, addChild}
 use Rattle.decoded.specs.Tables.{capaSlot, tablesOf}
 use Rattle.refine.specs.Arenas.Pools.{handleIn}
@@ -43,7 +43,7 @@ use Rattle.refine.specs.Tree.RegionSteps.{new-region-refines}
 use Rattle.refine.specs.Calls.Bounds.{Bounded, regions-few}
 use Rattle.refine.specs.Calls.Checks.{Lists, room-refines}
 use Rattle.refine.specs.Calls.KeptLists.{sound-lists, domain-small, room-lists}
-use Rattle.refine.specs.Calls.SharedSteps.{Fit, from-domain, from-held, insert-here, region-of}
+use Rattle.refine.specs.Calls.SharedSteps.{Fit, from-caller, from-held, insert-here, region-of}
 use Rattle.refine.specs.Calls.NewRegion.{agree-children, agree-bounded}
 
 -- ---- a child of region h in slot p
@@ -97,13 +97,13 @@ module _ (s : State) (sound : Sound s) (a : AccessRights) where
     pub at : In (t .regions) p parent
     pub own : parent .owner ≡ d
 
-  pub with-parent : (h : Handle) (l : ℕ) (f : ℕ → ℕ → Tables → Effect) (k : ℕ → ℕ → State → Outcome (ℕ × State)) → ((d p : ℕ) (t : State) → Parent d p t → Agrees (f d p (tablesOf t)) (k d p t))
-      → Agrees (andThen (liveDomain h (tablesOf s)) (λ d s₁. andThen (regionHeld d l s₁) (λ p s₂. andThen (roomForRegion d a s₂) (λ u. f d p))))
-      (model.liveDomain s (handleIn h) >>= λ d. model.regionHeld s d l >>= λ p. model.roomForRegion d (accessFor a) s >>= λ t. k d p t)
-  with-parent h l f k j =
+  pub with-parent : (bit : ℕ) (h : Handle) (l : ℕ) (f : ℕ → ℕ → Tables → Effect) (k : ℕ → ℕ → State → Outcome (ℕ × State)) → ((d p : ℕ) (t : State) → Parent d p t → Agrees (f d p (tablesOf t)) (k d p t))
+      → Agrees (andThen (callerWith bit h (tablesOf s)) (λ d s₁. andThen (regionHeld d l s₁) (λ p s₂. andThen (roomForRegion d a s₂) (λ u. f d p))))
+      (model.callerWith bit s (handleIn h) >>= λ d. model.regionHeld s d l >>= λ p. model.roomForRegion d (accessFor a) s >>= λ t. k d p t)
+  with-parent bit h l f k j =
       let base = sound-base s sound in
       let lists = sound-lists s sound in
-      from-domain s base h _ _ (λ d x e.
+      from-caller s base bit h _ _ (λ d x e.
       from-held s sound d x e l _ _ (λ p g i own.
       agrees-on _ _ (model.roomForRegion d (accessFor a) s) (λ t. (0, t)) _ (room-refines s base d x e lists a)
       (both (room-agree s sound d x e (accessFor a)) (room-lists s lists d x e base (accessFor a))) (λ t (r, l₁).

@@ -13,7 +13,7 @@ use Rattle.model.specs.Sound.{Sound}
 use Rattle.tables.specs.Tables.{Tables}
 use Rattle.answers.specs.Answers.{Effect}
 use Rattle.region.specs.declared.AccessRights.{AccessRights}
-use Rattle.domain_calls.specs.Calls.{openDomain, openUnder, openChannel, setCoreMap}
+use Rattle.domain_calls.specs.Calls.{openDomain, openUnder, openChannel, setCoreMap, setInterface, freezeInterface}
 use Rattle.region_calls.specs.Calls.{createRootRegion, aliasRegion, carveRegion}
 use Rattle.capa_calls.specs.Calls.{send, revokeLocal, createRevokeCapa}
 use Rattle.decoded.specs.Tables.{handleFor, tablesOf}
@@ -21,6 +21,7 @@ use Rattle.refine.specs.Agrees.{Agrees, agrees-call, ok-then, bind-assoc
 use Rattle.refine.specs.Calls.Open.{open-domain-refines, open-under-refines}
 use Rattle.refine.specs.Calls.Channel.{open-channel-refines}
 use Rattle.refine.specs.Calls.SetCoreMap.{set-core-map-refines}
+use Rattle.refine.specs.Calls.Interface.{set-interface-refines, freeze-interface-refines}
 use Rattle.refine.specs.Calls.Root.{create-root-region-refines}
 use Rattle.refine.specs.Calls.Alias.{alias-region-refines}
 use Rattle.refine.specs.Calls.Carve.{carve-region-refines}
@@ -39,6 +40,8 @@ stepFor (model.Open none cores) t = openDomain cores t
 stepFor (model.Open (some h) cores) t = openUnder (handleFor h) cores t
 stepFor (model.Channel h to) t = openChannel (handleFor h) (handleFor to) t
 stepFor (model.SetCoreMap h cores) t = setCoreMap (handleFor h) cores t
+stepFor (model.SetInterface h word) t = setInterface (handleFor h) word t
+stepFor (model.FreezeInterface h) t = freezeInterface (handleFor h) t
 stepFor (model.Root h a) t = createRootRegion (handleFor h) (accessIn a) t
 stepFor (model.Alias h l a) t = aliasRegion (handleFor h) l (accessIn a) t
 stepFor (model.Carve h l a) t = carveRegion (handleFor h) l (accessIn a) t
@@ -71,6 +74,8 @@ module _ (s : State) (sound : Sound s) where
   call-refines (model.Open (some h) cores) w = agrees-call _ _ _ (replied _ Value.domain) (open-under-refines s sound (handleFor h) cores (w .1))
   call-refines (model.Channel h to) w = agrees-call _ _ _ (local-is _) (open-channel-refines s sound (handleFor h) (handleFor to))
   call-refines (model.SetCoreMap h cores) w = agrees-call _ _ _ (silent-is _) (set-core-map-refines s sound (handleFor h) cores)
+  call-refines (model.SetInterface h word) w = agrees-call _ _ _ (silent-is _) (set-interface-refines s sound (handleFor h) word)
+  call-refines (model.FreezeInterface h) w = agrees-call _ _ _ (silent-is _) (freeze-interface-refines s sound (handleFor h))
   call-refines (model.Root h a) w = agrees-call _ _ _ (local-is _) (create-root-region-refines s sound (handleFor h) (accessIn a) (w .1))
   call-refines (model.Alias h l a) w = agrees-call _ _ _ (local-is _) (alias-region-refines s sound (handleFor h) (accessIn a) l)
   call-refines (model.Carve h l a) w = agrees-call _ _ _ (local-is _) (carve-region-refines s sound (handleFor h) (accessIn a) l)

@@ -27,7 +27,6 @@ use Rattle.answers.specs.Answers.{Effect, done, refused, andThen}
 use Rattle.slots.specs.Capas.{capaAt}
 use Rattle.segment.specs.Regions.{sendRegion}
 use Rattle.segment.specs.Options.{applyOptions}
-use Rattle.checks.specs.Checks.{liveDomain}
 use Rattle.capa_calls.specs.Calls.{checkOptions, sendHeld, sendCapa, send}
 use Rattle.decoded.specs.Tables.{capaSlot, tablesOf}
 use Rattle.refine.specs.Arenas.Pools.{handleIn}
@@ -36,7 +35,7 @@ use Rattle.refine.specs.Calls.Sequence.{agrees-on}
 use Rattle.refine.specs.Calls.Activate.{plain}
 use Rattle.refine.specs.Calls.Checks.{target-held-refines, room-here}
 use Rattle.refine.specs.Calls.KeptLists.{sound-lists, capacity-lists}
-use Rattle.refine.specs.Calls.SharedSteps.{from-domain}
+use Rattle.refine.specs.Calls.SharedSteps.{from-caller}
 use Rattle.refine.specs.Calls.HeldSlot.{pair-then, sound-whole, from-region, both-of, looked, kept, moved}
 use Rattle.refine.specs.Calls.SendRegion.{send-region-refines}
 use Rattle.refine.specs.Calls.SendOptions.{optionsIn, check-options-refines, apply-options-is}
@@ -75,7 +74,7 @@ module _ (s : State) (sound : Sound s) (h : Handle) (l : ℕ) where
   send-refines target o hash =
       let base = sound-base s sound in
       let lists = sound-lists s sound in
-      from-domain s base h _ _ (λ d x e.
+      from-caller s base _ h _ _ (λ d x e.
       agrees-call _ _ _ (sym (bind-assoc (locals.capaAt s d target) _ _ ∙ bind-same (locals.capaAt s d target) _ _ (λ c. bind-assoc (model.asTarget c) _ _))) (
       agrees-on _ _ (locals.capaAt s d target >>= λ c. model.asTarget c >>= λ k. model.liveDomain s k) (λ to. (to, s)) _ (target-held-refines s base d x e lists target) (bind-any _ (λ c. bind-any _ (λ k. domain-live s k))) (λ to (y, at).
       agrees-on _ _ (hasCapacity to s) (λ u. (0, u)) _ (room-here s base to y at lists)

@@ -31,6 +31,6 @@ module _ (s : State) (sound : Sound s) where
       agrees-call _ _ _ (ok-then _ _) (
         refl,
         ap (λ (k : DomainHead). withHead (tablesOf s) d (record { manager = k .manager; cores = cores; tracker = k .tracker; head = k .head; count = k .count })) (head-read s (base .domains .size) d x e)
-            ∙ sym (head-put s (base .domains .size) d x e (state.withCores cores x) refl refl)
+            ∙ sym (head-put s (base .domains .size) d x e (state.withCores cores x) refl refl refl)
             ∙ ap (λ (y : Domain). tablesOf (state.putDomain d (state.withCores cores y) s)) (sym (domain-at s d x e)),
       )))

@@ -4,7 +4,9 @@ use mathlib.Core.Path.{_≡_, refl, sym, ap, _∙_}
 use Prim.Native.Nat.{ℕ}
 use lib.Dec.{eqb}
 use Rattle.model.specs.Lists.{atSlot, In}
-use Rattle.model.specs.Outcome.{Outcome, _>>=_}
+use Rattle.rights.specs.Rights.{has}
+use Rattle.refusals.specs.Refusals.{notAllowed}
+use Rattle.model.specs.Outcome.{Outcome, ok, _>>=_, require}
 use Rattle.model.specs.State as state
 use Rattle.model.specs.State.{State, Domain, Capa, region, regionRevoke, management, Kind, Root, Alias, Carve}
 use Rattle.model.specs.Pool.{handleOf}
@@ -14,8 +16,9 @@ use Rattle.model.specs.Layout.{kindWord}
 use Rattle.model.specs.Calls as model
 use Rattle.model.specs.Sound.{Sound}
 use Rattle.laws.specs.Accepted.{both}
+use Rattle.laws.specs.Caller.{caller}
 use Rattle.laws.specs.Tree.Slots.{live-is}
-use Rattle.laws.specs.Tree.Steps.{region-at}
+use Rattle.laws.specs.Tree.Steps.{domain-at, region-at}
 use Rattle.laws.specs.Keep.Base.{Base, sound-base}
 use Rattle.laws.specs.Keep.BaseSteps.{Live, listed-base}
 use Rattle.laws.specs.Keep.Locals.{capacity-all}
@@ -23,14 +26,16 @@ use Rattle.laws.specs.Keep.Checks.{domain-live, held-own}
 use Rattle.tables.specs.declared.Handle.{Handle}
 use Rattle.tables.specs.declared.Slot.{Slot}
 use Rattle.tables.specs.declared.RegionCapa.{RegionCapa}
-use Rattle.tables.specs.Tables.{Tables, regionAt}
+use Rattle.tables.specs.declared.Interface.{Interface}
+use Rattle.tables.specs.Tables.{Tables, regionAt, interfaceAt}
 use Rattle.answers.specs.Answers.{Effect, andThen}
 use Rattle.domain.specs.Activate.{reserve, insert}
-use Rattle.checks.specs.Checks.{liveDomain, regionHeld, capaOf}
+use Rattle.checks.specs.Checks.{liveDomain, callerWith, regionHeld, capaOf}
 use Rattle.decoded.specs.Tables.{poolOf, capaSlot, tablesOf}
 use Rattle.refine.specs.Arenas.Pools.{handleIn}
-use Rattle.refine.specs.Agrees.{Agrees, agrees-step}
-use Rattle.refine.specs.Calls.Sequence.{agrees-on}
+use Rattle.refine.specs.Agrees.{Agrees, agrees-step, agrees-call, ok-then, bind-assoc, then-bind}
+use Rattle.refine.specs.Calls.Sequence.{agrees-on, agrees-check}
+use Rattle.decoded.specs.Slots.Domains.{interface-read}
 use Rattle.decoded.specs.Tree.Regions.{region-read}
 use Rattle.refine.specs.Slots.ListSteps.{insert-refines}
 use Rattle.refine.specs.Calls.Checks.{Lists, live-domain-refines, region-held-refines, room-here}
@@ -40,6 +45,22 @@ use Rattle.refine.specs.Calls.KeptLists.{sound-lists, capacity-lists}
 pub from-domain : (s : State) → Base s → (h : Handle) (f : ℕ → Tables → Effect) (k : ℕ → Outcome (ℕ × State)) → ((d : ℕ) (x : Domain) → In (s .domains) d x → Agrees (f d (tablesOf s)) (k d))
     → Agrees (andThen (liveDomain h (tablesOf s)) f) (model.liveDomain s (handleIn h) >>= k)
 from-domain s base h f k j = agrees-on (liveDomain h (tablesOf s)) f (model.liveDomain s (handleIn h)) (λ d. (d, s)) k (live-domain-refines s base h) (domain-live s (handleIn h)) (λ d (x, e). j d x e)
+
+-- 3, 20: the code's test of the bit is the model's
+caller-refines : (s : State) → Base s → (bit : ℕ) (h : Handle) → Agrees (callerWith bit h (tablesOf s)) (model.callerWith bit s (handleIn h) >>= λ d. ok (d, s))
+unfolding callerWith model.callerWith
+caller-refines s base bit h =
+    agrees-call _ _ _ (bind-assoc (model.liveDomain s (handleIn h)) _ _) (
+    from-domain s base h _ _ (λ d x e.
+    let bits : has (interfaceAt (tablesOf s) d .word) bit ≡ has (state.domainAt s d .interface .word) bit = ap (λ (f : Interface). has (f .word) bit) (interface-read s (base .domains .size) d x e) ∙ ap (λ (y : Domain). has (y .interface .word) bit) (sym (domain-at s d x e)) in
+    agrees-call _ _ _ (then-bind (require (has (state.domainAt s d .interface .word) bit) notAllowed) _ _) (
+    agrees-check notAllowed _ (tablesOf s) _ _ _ bits (λ t. agrees-call _ _ _ (ok-then _ _) (refl, refl)))))
+
+-- and what follows for the caller d
+pub from-caller : (s : State) → Base s → (bit : ℕ) (h : Handle) (f : ℕ → Tables → Effect) (k : ℕ → Outcome (ℕ × State)) → ((d : ℕ) (x : Domain) → In (s .domains) d x → Agrees (f d (tablesOf s)) (k d))
+    → Agrees (andThen (callerWith bit h (tablesOf s)) f) (model.callerWith bit s (handleIn h) >>= k)
+from-caller s base bit h f k j =
+    agrees-on (callerWith bit h (tablesOf s)) f (model.callerWith bit s (handleIn h)) (λ d. (d, s)) k (caller-refines s base bit h) (caller bit s (handleIn h) (domain-live s (handleIn h))) (λ d (x, e). j d x e)
 
 -- the lists and the pools are sound, and domain d live
 abbrev pub Fit : ℕ → State → Type 0

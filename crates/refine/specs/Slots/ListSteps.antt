@@ -201,7 +201,7 @@ module _ (s : State) (long : length (s .domains) ≡ s .sizes .domains) (d : ℕ
       let e : take (length (slotsFor n (x .locals))) (padded (slotsFor n l)) ≡ slotsFor n l = take-at (slotsFor n l) _ (length (slotsFor n (x .locals))) (slots-long n l ∙ sym (slots-long n (x .locals))) in
       ap (λ (y : Domain). withDomains (tablesOf s) (set (tablesOf s .domains) d (putList y (listFor n l)))) (domain-row s long d x at)
       ∙ ap (λ (ss : List Slot). withDomains (tablesOf s) (set (tablesOf s .domains) d (record { head = headFor n (withLocals l x); slots = ss }))) e
-      ∙ sym (domain-put s long d x at (withLocals l x) refl)
+      ∙ sym (domain-put s long d x at (withLocals l x) refl refl)
 
   -- a step of the list, put back
   pub list-step : (f : SlotList → SlotList) (l : LocalList) → f (listFor (s .sizes .slots) (x .locals)) ≡ listFor (s .sizes .slots) l

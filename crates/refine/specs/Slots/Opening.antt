@@ -25,13 +25,13 @@ use Rattle.sizes.specs.Limits.{mostSlots}
 use Rattle.laws.specs.Parts.{up-length}
 use Rattle.tables.specs.declared.Slot.{Slot}
 use Rattle.tables.specs.declared.DomainHead.{DomainHead}
-use Rattle.tables.specs.Tables.{Tables, Domain, noDomain, noSlot, putHead, withHead, withDomains, withDomainPool}
+use Rattle.tables.specs.Tables.{Tables, Domain, noDomain, noSlot, putHead, withHead, withInterface, withDomains, withDomainPool}
 use Rattle.arena.specs.declared.Given.the-variants.{At, Full}
 use Rattle.arena.specs.Arena.{given}
 use Rattle.answers.specs.declared.Answer.the-variants.{Refused}
 use Rattle.slot_list.specs.declared.SlotList.{SlotList}
 use Rattle.stored_slots.specs.Record.{putList, withList}
-use Rattle.domain.specs.Opened.{freshFrom, freshList, newHead, taken, newDomain}
+use Rattle.domain.specs.Opened.{freshFrom, freshList, newHead, openInterface, taken, newDomain}
 use Rattle.decoded.specs.Rows.{map-up-length, getD-up}
 use Rattle.decoded.specs.Links.{after-top, after-under}
 use Rattle.decoded.specs.Tables.{handleFor, freeSlot, slotFor, slotsFor, domainFor, domainsFor, tablesOf}
@@ -83,7 +83,7 @@ module _ (n : ℕ) where
 
   -- a new domain
   abbrev pub opened : Option ℕ → ℕ → state.Domain
-  opened m cores = record { manager = m; cores = cores; locals = freshLocals n; tracker = [] }
+  opened m cores = record { manager = m; cores = cores; locals = freshLocals n; tracker = []; interface = state.openInterface }
 
   -- its record, from a record with as many slots
   fresh-row : (m : Option ℕ) (cores : ℕ) (y : Domain) → n ≤ mostSlots → length (y .slots) ≡ n
@@ -146,13 +146,14 @@ module _ (s : State) (long : length (s .domains) ≡ s .sizes .domains) (pool : 
         ap (λ (y : Domain). length (y .slots)) (getD-up (λ j. domainFor (s .sizes .slots) (atSlot (s .domains) j)) (s .sizes .domains) i noDomain inside)
         ∙ slots-many (s .sizes .slots) (atSlot (s .domains) i)
 
-    left-is : withList (withHead (taken (tablesOf s)) i (newHead (link m) cores)) i (freshList (s .sizes .slots)) ≡ tablesOf after
+    left-is : withInterface (withList (withHead (taken (tablesOf s)) i (newHead (link m) cores)) i (freshList (s .sizes .slots))) i openInterface ≡ tablesOf after
     unfolding withDomainPool tablesOf
     left-is =
         let n = s .sizes .slots in
         let t = tablesOf s in
-        both-put (taken t) i (newHead (link m) cores) (freshList n) (omega (arith, rows-many, inside))
-        ∙ ap (λ (y : Domain). withDomains (taken t) (set (t .domains) i y)) (fresh-row n m cores (getD (t .domains) i noDomain) high row-many)
+        ap (λ (u : Tables). withInterface u i openInterface)
+        (both-put (taken t) i (newHead (link m) cores) (freshList n) (omega (arith, rows-many, inside))
+        ∙ ap (λ (y : Domain). withDomains (taken t) (set (t .domains) i y)) (fresh-row n m cores (getD (t .domains) i noDomain) high row-many))
         ∙ sym (domain-opened s i is (opened n m cores) long pool e refl)
 
     opened-too : Agrees (newDomain (link m) cores (tablesOf s)) (ok (i, after))

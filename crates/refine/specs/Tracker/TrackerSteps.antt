@@ -15,12 +15,12 @@ use Rattle.model.specs.Sound.{recordUses}
 use Rattle.laws.specs.Words.SameTrackers.{firstSlot}
 use Rattle.laws.specs.Tree.Slots.{in-length}
 use Rattle.tables.specs.declared.Region.{Region}
-use Rattle.tables.specs.Tables.{Tables, Domain, noDomain, noRecord, putHead, withDomains, withHead, withRecords, withRecord}
+use Rattle.tables.specs.Tables.{Tables, Domain, noDomain, noRecord, putHead, withDomains, withHead, withRecords, withInterfaces, withRecord}
 use Rattle.tracker_records.specs.Links.{withFirst}
 use Rattle.decoded.specs.Rows.{set-up, set-table, set-two}
-use Rattle.decoded.specs.Tables.{recordFor, inTrackerFor, recordIn, headFor, domainFor, domainsFor, recordsFor, tablesOf}
+use Rattle.decoded.specs.Tables.{recordFor, inTrackerFor, recordIn, headFor, domainFor, slotInterface, domainsFor, recordsFor, tablesOf}
 use Rattle.decoded.specs.Tracker.Trackers.{trackerOf, first-same, row-later, row-before, record-unused, record-read, record-same}
-use Rattle.decoded.specs.Slots.Domains.{domain-row}
+use Rattle.decoded.specs.Slots.Domains.{interfaces-kept, domain-row}
 
 -- the domains with tracker l in domain x, slot d
 abbrev pub domainsWith : State → ℕ → state.Domain → List Record → List (Option state.Domain)
@@ -37,14 +37,15 @@ module _ (s : State) (long : length (s .domains) ≡ s .sizes .domains) (d : ℕ
   -- x's head names the first record; the rows are those of the new trackers
   tracker-put : tablesOf (putDomain d (withTracker l x) s)
       ≡ withRecords (withHead (tablesOf s) d (withFirst (headFor (s .sizes .slots) x) (link (firstSlot l)))) (recordsFor (s .sizes .records) (domainsWith s d x l))
-  unfolding tablesOf withRecords withHead withDomains domainsFor
+  unfolding tablesOf withRecords withInterfaces withHead withDomains domainsFor
   tracker-put =
       let t = tablesOf s in
       let n = s .sizes .slots in
       let h = withFirst (headFor n x) (link (firstSlot l)) in
       let r = set-table (λ j. domainFor n) (s .domains) (s .sizes .domains) d (some (withTracker l x)) long (omega (arith, here))
       ∙ ap (λ (z : Domain). set (t .domains) d (putHead z h)) (sym (domain-row s long d x at)) in
-      λ i. withRecords (withDomains t (r i)) (recordsFor (s .sizes .records) (domainsWith s d x l))
+      let f = interfaces-kept (s .domains) (s .sizes .domains) d (some (withTracker l x)) (ap slotInterface (sym at)) in
+      λ i. withInterfaces (withRecords (withDomains t (r i)) (recordsFor (s .sizes .records) (domainsWith s d x l))) (f i)
 
   -- with the same first record the head is as it was
   tracker-kept : firstSlot l ≡ firstSlot (x .tracker) → tablesOf (putDomain d (withTracker l x) s) ≡ withRecords (tablesOf s) (recordsFor (s .sizes .records) (domainsWith s d x l))
