@@ -51,7 +51,7 @@ former-length s h = omega (arith, words-length s h, ap length (words-former s h)
 
 -- the row of a slot by its free link, 0 where the slot is in use: open, and no interface where the slot is free
 abbrev pub openedRow : ℕ → List ℕ
-openedRow n = pick (eqb n 0) (26 ∷ 0 ∷ []) (0 ∷ 0 ∷ [])
+openedRow n = pick (eqb n 0) (openInterface .word ∷ 0 ∷ []) (0 ∷ 0 ∷ [])
 
 -- the domain pool's links stand from word 9 on, the number of domains is word 0
 abbrev pub openedRows : List ℕ → List ℕ
@@ -73,7 +73,7 @@ map-at f k (suc n) (suc i) r h = map-at f (suc k) n i r (omega arith) ∙ ap f (
 -- the row of a slot by what it holds
 abbrev slotRow : Option Domain → List ℕ
 slotRow none = 0 ∷ 0 ∷ []
-slotRow (some x) = 26 ∷ 0 ∷ []
+slotRow (some x) = openInterface .word ∷ 0 ∷ []
 
 slot-width : (o : Option Domain) → length (slotRow o) ≡ 2
 slot-width none = refl
@@ -83,7 +83,7 @@ opened-row : (o : Option Domain) → ((x : Domain) → o ≡ some x → x .inter
 opened-row none h = refl
 opened-row (some x) h = ap (λ (f : Interface). f .word ∷ oneIf (f .frozen) ∷ []) (h x refl)
 
-row-opened : (f : Interface) → f .word ∷ oneIf (f .frozen) ∷ [] ≡ 26 ∷ 0 ∷ [] → f ≡ openInterface
+row-opened : (f : Interface) → f .word ∷ oneIf (f .frozen) ∷ [] ≡ openInterface .word ∷ 0 ∷ [] → f ≡ openInterface
 row-opened f e = λ i. record { word = ap (λ r. getD r 0 0) e i; frozen = unset (f .frozen) (ap (λ r. getD r 1 0) e) i }
   where
     unset : (b : Bool) → oneIf b ≡ 0 → b ≡ false

@@ -1,20 +1,20 @@
 -- The new tables are built from the old words: copied, and an interface stored for each slot of the domain pool. They are then the words that the old ones
 -- tell (`rebuilt`).
 use mathlib.Core.Path.{_≡_, refl, sym, ap, subst, _∙_}
-use mathlib.Core.Bool.{Bool, true}
+use mathlib.Core.Bool.{Bool}
 use mathlib.Core.List.{List, [], _∷_, _++_, map, flatMap, append-assoc, append-nil}
 use Prim.Native.Nat.{ℕ, zero, suc, _+_, _*_, _≤_, _<_}
 use native.Mathlib.Numerals.{add-one}
 use native.Mathlib.Omega.{arith}
 use lib.Dec.{eqb, ltb}
 use lib.ListN.{length, getD, set, take, drop, length-append, length-set}
-use lib.Seq.{sets, sets-eq, length-sets, take-at, getD-take, getD-drop, getD-set-same, getD-set-other, ext-getD}
-use borrow.Author.Tests.{eqb-true, ne-eqb, lt-ltb}
+use lib.Seq.{take-at, getD-take, getD-drop, getD-set-same, getD-set-other, ext-getD}
+use borrow.Author.Tests.{ne-eqb, lt-ltb}
 use Rattle.base.specs.Cases.{pick, cmp, lt, ge}
-use Rattle.base.specs.Tests.{both, both-true}
+use Rattle.base.specs.Tests.{both}
 use Rattle.model.specs.Lists.{countUp}
 use Rattle.laws.specs.Parts.{cut}
-use Rattle.words.specs.Runs.{part, part-at, stored, stored-in, stored-out}
+use Rattle.words.specs.Runs.{part-at, stored}
 use Rattle.words.specs.Rows.{flat}
 use Rattle.words.specs.Cuts.{cuts, offset, join}
 use Rattle.sizes.specs.declared.Sizes.{Sizes}
@@ -26,9 +26,8 @@ use Rattle.tables.specs.Tables.{Arena, Tables, noInterface, withInterfaces, wit
 use Rattle.tables.specs.View.{view, ofParts, arenaOf, Sized, Left, interfaceOf, interfaceWords, headerWords, partsOf, layout}
 use Rattle.tables.specs.Header.{sizes-seen}
 use Rattle.tables.specs.Layout.{layout-view, words-are}
-use Rattle.tables.specs.Tests.{sized-true}
 use Rattle.arena.specs.Arena.{isFreeB}
-use Rattle.decoded.specs.Rows.{map-up-length, getD-up, each-any, flat-map, Read, flat-length}
+use Rattle.decoded.specs.Rows.{map-up-length, getD-up, each-any, flat-map, flat-length}
 use Rattle.decoded.specs.Canonical.Words.{view-shaped}
 use Rattle.converted.specs.Former.{openedRow, openedRows, rebuilt, flat-same}
 
@@ -113,7 +112,7 @@ unfolding interfaceFor
 row-is zero = refl
 row-is (suc n) = rw (lt-ltb 0 (suc n) (omega arith), ne-eqb (suc n) 0 (omega arith))
 
-domains-are : (t : List ℕ) → getD t 0 0 ≡ sizesOf t .domains
+pub domains-are : (t : List ℕ) → getD t 0 0 ≡ sizesOf t .domains
 unfolding sizesOf
 domains-are t = refl
 
@@ -124,12 +123,16 @@ link-seen t i h =
     let n = sizesOf t .domains in
     part-at (take (2 + (n + n)) (drop 7 t)) 2 n i h ∙ getD-take (2 + (n + n)) (drop 7 t) (2 + i) 0 (omega arith) ∙ getD-drop 7 t (2 + i) 0 ∙ ap (λ k. getD t k 0) (omega arith)
 
+-- a word of a list's first part
+pub front-at : (o r : List ℕ) (n : ℕ) → n < length o → getD (o ++ r) n 0 ≡ getD o n 0
+front-at o r n h = sym (getD-take (length o) (o ++ r) n 0 h) ∙ ap (λ l. getD l n 0) (take-at o r (length o) refl)
+
 -- ---- the law
 
 -- u begins with the old words, which are as many as the sections before the interfaces
 module _ (o r u : List ℕ) (z : Sized u) (begins : u ≡ o ++ r) (long : length o ≡ offset (widths (sizesOf u)) interfaceSection) where
   early : (n : ℕ) → n < length o → getD o n 0 ≡ getD u n 0
-  early n h = ap (λ l. getD l n 0) (sym (ap (take (length o)) begins ∙ take-at o r (length o) refl)) ∙ getD-take (length o) u n 0 h
+  early n h = sym (ap (λ l. getD l n 0) begins ∙ front-at o r n h)
 
   front-is : front (view u) ≡ o
   unfolding total offset

@@ -1,15 +1,15 @@
 -- The old words are copied into v: whether they fit there, as the code tests it, and what it then builds.
-use mathlib.Core.Path.{_≡_, refl, sym, ap, subst, _∙_}
+use mathlib.Core.Path.{_≡_, sym, ap, subst, _∙_}
 use mathlib.Core.Bool.{Bool, true, false, not}
-use mathlib.Core.List.{List, [], _++_}
+use mathlib.Core.List.{List, _++_}
 use Prim.Native.Nat.{ℕ, _+_, _≤_}
 use native.Mathlib.Omega.{arith}
 use lib.Dec.{eqb}
-use lib.ListN.{length, getD, drop}
-use lib.Seq.{sets, sets-eq, length-sets}
+use lib.ListN.{length, drop}
+use lib.Seq.{sets-eq, length-sets}
 use borrow.Author.Tests.{eqb-true, eq-eqb, ne-eqb, not-true, not-false}
 use Rattle.base.specs.Cases.{cmp, lt, ge}
-use Rattle.base.specs.Tests.{both, both-true, both-i, true-false}
+use Rattle.base.specs.Tests.{both, both-true, both-i}
 use Rattle.words.specs.Runs.{stored, stored-in, stored-out}
 use Rattle.words.specs.Cuts.{offset, offset-inside}
 use Rattle.sizes.specs.declared.Sizes.{Sizes}
@@ -21,7 +21,7 @@ use Rattle.tables.specs.Tests.{sized-true}
 use Rattle.converted.specs.Former.{rebuilt}
 use Rattle.converting.specs.Built.{openedAll, fitsB, built-words}
 
-stored-long : (o v : List ℕ) → length (stored v 0 o) ≡ length v
+pub stored-long : (o v : List ℕ) → length (stored v 0 o) ≡ length v
 stored-long o v = elim (cmp (length v) (0 + length o)) [
   | lt h ↦ ap length (stored-out v 0 o h)
   | ge h ↦ ap length (stored-in v 0 o h) ∙ length-sets v 0 o

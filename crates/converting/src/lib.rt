@@ -4,7 +4,12 @@ ghost use mathlib.Core.Bool.{true};
 ghost use Rattle.tables.specs.View.{view, Sized, Left};
 ghost use Rattle.converted.specs.Former.{rebuilt};
 ghost use Rattle.converting.specs.Built.{interfaceFor, openedAll, fitsB};
+ghost use Rattle.converting.specs.Exact.{convertsB};
+ghost use Rattle.converting.specs.Converts.{Converts};
+use frame::Reply;
+use frame::replies;
 use pools::Pool;
+use refusals::Refusal;
 use tables::Interface;
 
 // The interface of a slot: none where it is free, else the one that a domain opens with.
@@ -49,4 +54,36 @@ fn build(old: &[u64], v: &mut [u64]) -> bool
         return true;
     }
     false
+}
+
+// Whether the old tables can be converted in memory of these lengths; v is then the new ones. Old tables are never tested:
+// the new ones are, by the one test of lent tables.
+fn converts(old: &[u64], t: &[u64], v: &mut [u64], w: &mut [u64]) -> bool
+    ensures { λ r. ⌜ r ≡ convertsB (now (old .entry)) (now (t .entry)) (now (v .entry)) (now (w .entry)) ⌝ }
+    ensures { λ r. ⌜ (r ≡ true → now (v .exit) ≡ rebuilt (now (old .entry))) ⌝ }
+{
+    if t.len() == v.len() {
+        if build(old, v) {
+            return frame::admits(v, w);
+        }
+    }
+    false
+}
+
+// Makes of the last delivery's tables `old` this delivery's in t. Both work areas, as long as t, end all zero.
+pub fn convert(old: &[u64], t: &mut [u64], v: &mut [u64], w: &mut [u64]) -> Reply
+    ensures { λ r. ⌜ Converts (now (old .entry)) (now (t .entry)) (now (v .entry)) (now (w .entry)) r (now (t .exit)) (now (v .exit)) (now (w .exit)) ⌝ }
+{
+    if converts(old, t, v, w) {
+        words::copy(v, t);
+        words::clear(v);
+        words::clear(w);
+        return Reply {
+            refusal: 0,
+            value: 0,
+        };
+    }
+    words::clear(v);
+    words::clear(w);
+    replies::refused(Refusal::MEMORY)
 }
