@@ -1,0 +1,241 @@
+-- The last delivery's steps leave the interface of every domain that is there, and but for opening the domain pool: each puts a domain back as it was read,
+-- with another list, tracker or core map.
+use mathlib.Core.Path.{_≡_, refl, sym, ap, subst, _∙_}
+use Prim.Native.Nat.{ℕ, zero, suc}
+use mathlib.Core.Option.{Option, none, some, Option·getD}
+use mathlib.Core.List.{List, [], _∷_}
+use native.Mathlib.Decide.{ℕ-discrete}
+use lib.Dec.{eqb}
+use lib.ListN.{set}
+use lib.Seq.{getD-set-same, getD-set-other}
+use Rattle.rights.specs.Rights.{has, CLEANUP}
+use Rattle.model.specs.Lists.{exists, atSlot, In}
+use Rattle.model.specs.State.{State, Sizes, Pool, Handle, Capa, noCapa, region, regionRevoke, management, channel, Domain, noneDomain, Region, Kind, Root, Alias, Carve, Access, Update, SendOptions, domainAt, regionAt, putDomain}
+use Rattle.model.specs.Pool.{handleOf, isLive}
+use Rattle.model.specs.Locals.{hasCapacity, insertCapa, removeCapa, emptyCapa}
+use Rattle.model.specs.Updates.{isPermissionOf, push, pushPermission, pop}
+use Rattle.model.specs.Tracker.{Walk}
+use Rattle.model.specs.Tree.{Range, insertChild, removeChild}
+use Rattle.model.specs.Regions.{putWalk, activate, deactivate, newRegion, freeRegion, sendRanges, sendRegion, applyOptions, giveBack, leaveParent, revokeLeaf, revokeRegion}
+use Rattle.model.specs.Calls.{roomForRegion, openChannel, setCoreMap, createRootRegion, addChild, aliasRegion, exchangeRights, carveRegion, sendCapa, send, revokeUnlessRoot, revokeCapa, revoke, createRevokeCapa}
+use Rattle.laws.specs.Accepted.{All, accepted, refused, bind, bind-any, and-then, branch}
+use Rattle.laws.specs.Tree.Slots.{in-length}
+
+-- sizes z, domain pool p and domains ds are as in s, but for the domains' other parts
+pub record KeptFrom (s : State) (z : Sizes) (p : Pool) (ds : List (Option Domain)) : Type 0 where
+  pub sizes : z ≡ s .sizes
+  pub domainPool : p ≡ s .domainPool
+  pub interfaces : (d : ℕ) (x : Domain) → In (s .domains) d x → (y : Domain) × In ds d y × (y .interface ≡ x .interface)
+
+abbrev pub Keeps : State → State → Type 0
+Keeps s t = KeptFrom s (t .sizes) (t .domainPool) (t .domains)
+
+abbrev pub Keeps₁ : {A : Type 0} → State → A × State → Type 0
+Keeps₁ s x = Keeps s (x .1)
+
+pub kept-self : (s : State) → Keeps s s
+kept-self s = record { sizes = refl; domainPool = refl; interfaces = λ d x i. (x, i, refl) }
+
+-- a domain is put where one with the same interface is, or where none is
+put-at : (ds : List (Option Domain)) (d : ℕ) (x : Domain) → x .interface ≡ Option·getD (atSlot ds d) noneDomain .interface → (c : ℕ) (y : Domain) → In ds c y → (z : Domain) × In (set ds d (some x)) c z × (z .interface ≡ y .interface)
+put-at ds d x e c y i = elim (ℕ-discrete c d) [
+  | yes m ↦ let j : In ds d y = subst (λ k. In ds k y) m i in
+      (x, subst (λ k. In (set ds d (some x)) k x) (sym m) (getD-set-same ds d (some x) none (in-length ds d y j)), e ∙ ap (λ o. Option·getD o noneDomain .interface) j)
+  | no m ↦ (y, getD-set-other ds d c (some x) none m ∙ i, refl)
+]
+
+module _ (s₀ : State) where
+  put-kept : (d : ℕ) (x : Domain) (s : State) → x .interface ≡ domainAt s d .interface → Keeps s₀ s → Keeps s₀ (putDomain d x s)
+  put-kept d x s e h = record {
+    sizes = h .sizes;
+    domainPool = h .domainPool;
+    interfaces = λ c y i. let (z, j, f) = h .interfaces c y i in let (u, k, g) = put-at (s .domains) d x e c z j in (u, k, g ∙ f);
+  }
+
+  -- ---- a domain's list
+
+  pub capacity-kept : (d : ℕ) (s : State) → Keeps s₀ s → All (Keeps s₀) (hasCapacity d s)
+  unfolding hasCapacity
+  capacity-kept d s h = and-then _ (accepted (put-kept d _ s refl h))
+
+  pub insert-kept : (d : ℕ) (c : Capa) (s : State) → Keeps s₀ s → All (Keeps₁ s₀) (insertCapa d c s)
+  unfolding insertCapa
+  insert-kept d c s h = bind-any _ (λ x. accepted (put-kept d _ s refl h))
+
+  remove-kept : (d i : ℕ) (s : State) → Keeps s₀ s → Keeps s₀ (removeCapa d i s)
+  unfolding removeCapa
+  remove-kept d i s h = put-kept d _ s refl h
+
+  empty-kept : (d i : ℕ) (s : State) → Keeps s₀ s → Keeps s₀ (emptyCapa d i s)
+  unfolding emptyCapa
+  empty-kept d i s h = put-kept d _ s refl h
+
+  -- ---- queue and trackers
+
+  push-kept : (u : Update) (s : State) → Keeps s₀ s → All (Keeps s₀) (push u s)
+  unfolding push
+  push-kept u s h = and-then _ (accepted h)
+
+  permission-kept : (d : ℕ) (s : State) → Keeps s₀ s → All (Keeps s₀) (pushPermission d s)
+  unfolding pushPermission
+  permission-kept d s h = branch (exists (isPermissionOf (handleOf (s .domainPool) d)) (s .queue .items)) (accepted h) (push-kept _ s h)
+
+  walk-kept : (d : ℕ) (w : Walk) (s : State) → Keeps s₀ s → All (Keeps s₀) (putWalk d w s)
+  unfolding putWalk
+  walk-kept d w s h = let k = put-kept d _ s refl h in branch (w .changed) (permission-kept d _ k) (accepted k)
+
+  activate-kept : (d : ℕ) (a : Access) (s : State) → Keeps s₀ s → All (Keeps s₀) (activate d a s)
+  unfolding activate
+  activate-kept d a s h = bind-any _ (λ w. walk-kept d w s h)
+
+  deactivate-kept : (d : ℕ) (a : Access) (s : State) → Keeps s₀ s → All (Keeps s₀) (deactivate d a s)
+  unfolding deactivate
+  deactivate-kept d a s h = bind-any _ (λ w. walk-kept d w s h)
+
+  -- ---- regions
+
+  new-region-kept : (d : ℕ) (k : Kind) (a : Access) (s : State) → Keeps s₀ s → All (Keeps₁ s₀) (newRegion d k a s)
+  unfolding newRegion
+  new-region-kept d k a s h = bind-any _ (λ x. accepted h)
+
+  free-region-kept : (i : ℕ) (s : State) → Keeps s₀ s → All (Keeps s₀) (freeRegion i s)
+  unfolding freeRegion
+  free-region-kept i s h = bind-any _ (λ p. accepted h)
+
+  ranges-kept : (old new r : ℕ) (xs : List Range) (s : State) → Keeps s₀ s → All (Keeps s₀) (sendRanges old new r xs s)
+  unfolding sendRanges
+  ranges-kept old new r [] s h = accepted h
+  ranges-kept old new r (x ∷ xs) s h = bind (deactivate-kept old _ s h) (λ s₁ k. bind (activate-kept new _ s₁ k) (λ s₂ l. ranges-kept old new r xs s₂ l))
+
+  send-region-kept : (i new : ℕ) (s : State) → Keeps s₀ s → All (Keeps s₀) (sendRegion i new s)
+  unfolding sendRegion
+  send-region-kept i new s h = ranges-kept _ new _ _ _ h
+
+  options-kept : (i : ℕ) (o : SendOptions) (s : State) → Keeps s₀ s → Keeps s₀ (applyOptions i o s)
+  unfolding applyOptions
+  options-kept i o s h = go (o .flags)
+    where
+      go : (x : Option ℕ) → Keeps s₀ (applyOptions i (record { flags = x; hash = o .hash }) s)
+      go none = h
+      go (some f) = h
+
+  give-back-kept : (g : Region) (k : Kind) (s : State) → g .kind ≡ k → Keeps s₀ s → All (Keeps s₀) (giveBack g s)
+  unfolding giveBack
+  give-back-kept g Root s e h = rw (e, giveBack) (accepted h)
+  give-back-kept g (Alias p) s e h = rw (e, giveBack) (accepted h)
+  give-back-kept g (Carve p) s e h = rw (e, giveBack) (activate-kept _ _ s h)
+
+  leave-kept : (i : ℕ) (k : Kind) (s : State) → regionAt s i .kind ≡ k → Keeps s₀ s → Keeps s₀ (leaveParent i s)
+  unfolding leaveParent removeChild
+  leave-kept i Root s e h = rw (e, leaveParent) h
+  leave-kept i (Alias p) s e h = rw (e, leaveParent) h
+  leave-kept i (Carve p) s e h = rw (e, leaveParent) h
+
+  leaf-kept : (i : ℕ) (s : State) → Keeps s₀ s → All (Keeps s₀) (revokeLeaf i s)
+  unfolding revokeLeaf
+  leaf-kept i s h =
+      bind (deactivate-kept _ _ _ (leave-kept i _ s refl h)) (λ s₁ j.
+      bind (give-back-kept (regionAt s i) _ s₁ refl j) (λ s₂ k.
+      bind (free-region-kept i s₂ k) (λ s₃ l. branch (has (regionAt s i .rights) CLEANUP) (push-kept _ s₃ l) (accepted l))))
+
+  revoke-region-kept : (n i : ℕ) (s : State) → Keeps s₀ s → All (Keeps s₀) (revokeRegion n i s)
+  unfolding revokeRegion
+  revoke-region-kept zero i s h = accepted h
+  revoke-region-kept (suc n) i s h = go (regionAt s i .children) refl (λ j t k. revoke-region-kept n j t k)
+    where
+      go : (cs : List ℕ) → regionAt s i .children ≡ cs → ((j : ℕ) (t : State) → Keeps s₀ t → All (Keeps s₀) (revokeRegion n j t)) → All (Keeps s₀) (revokeRegion (suc n) i s)
+      go [] e ih = rw (e, revokeRegion) (leaf-kept i s h)
+      go (c ∷ cs) e ih = rw (e, revokeRegion) (bind (ih c s h) (λ s₁ k. ih i s₁ k))
+
+  room-kept : (d : ℕ) (a : Access) (s : State) → Keeps s₀ s → All (Keeps s₀) (roomForRegion d a s)
+  unfolding roomForRegion
+  room-kept d a s h = and-then _ (bind (capacity-kept d s h) (λ s₁ k. and-then _ (accepted k)))
+
+  child-kept : (d p : ℕ) (k : Kind) (a : Access) (s : State) → Keeps s₀ s → All (Keeps₁ s₀) (addChild d p k a s)
+  unfolding addChild insertChild
+  child-kept d p k a s h = bind (new-region-kept d k a s h) (λ x j. insert-kept d _ _ j)
+
+  -- ---- the calls but opening
+
+  pub channel-kept : (h to : Handle) (s : State) → Keeps s₀ s → All (Keeps₁ s₀) (openChannel h to s)
+  unfolding openChannel
+  channel-kept h to s q = bind-any _ (λ d. bind-any _ (λ t. bind (capacity-kept d s q) (λ s₁ k. insert-kept d _ s₁ k)))
+
+  pub set-core-map-kept : (h : Handle) (c : ℕ) (s : State) → Keeps s₀ s → All (Keeps s₀) (setCoreMap h c s)
+  unfolding setCoreMap
+  set-core-map-kept h c s q = bind-any _ (λ d. accepted (put-kept d _ s refl q))
+
+  pub root-kept : (h : Handle) (a : Access) (s : State) → Keeps s₀ s → All (Keeps₁ s₀) (createRootRegion h a s)
+  unfolding createRootRegion
+  root-kept h a s q =
+      bind-any _ (λ d.
+      bind (room-kept d a s q) (λ s₁ i.
+      bind (new-region-kept d Root a s₁ i) (λ x j.
+      bind (insert-kept d _ (x .1) j) (λ y k.
+      bind (activate-kept d a (y .1) k) (λ s₄ l. accepted l)))))
+
+  pub alias-kept : (h : Handle) (l : ℕ) (a : Access) (s : State) → Keeps s₀ s → All (Keeps₁ s₀) (aliasRegion h l a s)
+  unfolding aliasRegion
+  alias-kept h l a s q =
+      bind-any _ (λ d.
+      bind-any _ (λ p.
+      bind (room-kept d a s q) (λ s₁ i.
+      and-then _ (bind (child-kept d p (Alias p) a s₁ i) (λ x j.
+      bind (activate-kept d a (x .1) j) (λ s₃ k. accepted k))))))
+
+  exchange-kept : (d old : ℕ) (a : Access) (s : State) → Keeps s₀ s → All (Keeps s₀) (exchangeRights d old a s)
+  unfolding exchangeRights
+  exchange-kept d old a s q = branch (eqb old (a .rights)) (accepted q) (bind (deactivate-kept d _ s q) (λ s₁ k. activate-kept d a s₁ k))
+
+  pub carve-kept : (h : Handle) (l : ℕ) (a : Access) (s : State) → Keeps s₀ s → All (Keeps₁ s₀) (carveRegion h l a s)
+  unfolding carveRegion
+  carve-kept h l a s q =
+      bind-any _ (λ d.
+      bind-any _ (λ p.
+      bind (room-kept d a s q) (λ s₁ i.
+      and-then _ (bind (child-kept d p (Carve p) a s₁ i) (λ x j.
+      bind (exchange-kept d _ a (x .1) j) (λ s₃ k. accepted k))))))
+
+  send-capa-kept : (c : Capa) (to : ℕ) (o : SendOptions) (s : State) → Keeps s₀ s → All (Keeps s₀) (sendCapa c to o s)
+  unfolding sendCapa
+  send-capa-kept noCapa to o s q = accepted q
+  send-capa-kept (region h) to o s q = bind-any _ (λ i. and-then _ (bind (send-region-kept i to s q) (λ t k. accepted (options-kept i o t k))))
+  send-capa-kept (regionRevoke h) to o s q = accepted q
+  send-capa-kept (management h) to o s q = refused
+  send-capa-kept (channel h) to o s q = accepted q
+
+  pub send-kept : (h : Handle) (l t : ℕ) (o : SendOptions) (s : State) → Keeps s₀ s → All (Keeps₁ s₀) (send h l t o s)
+  unfolding send
+  send-kept h l t o s q =
+      bind-any _ (λ d.
+      bind-any _ (λ c.
+      bind-any _ (λ k.
+      bind-any _ (λ to.
+      bind (capacity-kept to s q) (λ s₁ i.
+      bind-any _ (λ c′.
+      bind (send-capa-kept c′ to o s₁ i) (λ s₂ j. insert-kept to c′ _ (remove-kept d l s₂ j))))))))
+
+  unless-root-kept : (i : ℕ) (s : State) → Keeps s₀ s → All (Keeps s₀) (revokeUnlessRoot i s)
+  unfolding revokeUnlessRoot
+  unless-root-kept i s q = and-then _ (revoke-region-kept _ i s q)
+
+  revoke-capa-kept : (c : Capa) (s : State) → Keeps s₀ s → All (Keeps s₀) (revokeCapa c s)
+  unfolding revokeCapa
+  revoke-capa-kept noCapa s q = accepted q
+  revoke-capa-kept (region h) s q = bind-any _ (λ i. unless-root-kept i s q)
+  revoke-capa-kept (regionRevoke h) s q = branch (isLive (s .regionPool) (s .regions) h) (unless-root-kept (h .slot) s q) (accepted q)
+  revoke-capa-kept (management h) s q = refused
+  revoke-capa-kept (channel h) s q = accepted q
+
+  pub revoke-kept : (h : Handle) (l : ℕ) (s : State) → Keeps s₀ s → All (Keeps s₀) (revoke h l s)
+  unfolding revoke
+  revoke-kept h l s q = bind-any _ (λ d. bind-any _ (λ c. bind (revoke-capa-kept c s q) (λ s₁ k. accepted (empty-kept d l s₁ k))))
+
+  pub create-revoke-capa-kept : (h : Handle) (l : ℕ) (s : State) → Keeps s₀ s → All (Keeps₁ s₀) (createRevokeCapa h l s)
+  unfolding createRevokeCapa
+  create-revoke-capa-kept h l s q = bind-any _ (λ d. bind-any _ (λ i. and-then _ (bind (capacity-kept d s q) (λ s₁ k. insert-kept d _ s₁ k))))
+
+  pub pop-kept : (s : State) (us : List Update) → s .queue .items ≡ us → Keeps s₀ s → Keeps s₀ (pop s .1)
+  unfolding pop
+  pop-kept s [] e h = rw (e, pop) h
+  pop-kept s (u ∷ us) e h = rw (e, pop) h

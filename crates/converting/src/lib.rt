@@ -1,0 +1,89 @@
+// The converter (document 02, request 2): the last delivery's tables become this delivery's.
+ghost use mathlib.Core.Path.{_≡_};
+ghost use mathlib.Core.Bool.{true};
+ghost use Rattle.tables.specs.View.{view, Sized, Left};
+ghost use Rattle.converted.specs.Former.{rebuilt};
+ghost use Rattle.converting.specs.Built.{interfaceFor, openedAll, fitsB};
+ghost use Rattle.converting.specs.Exact.{convertsB};
+ghost use Rattle.converting.specs.Converts.{Converts};
+use frame::Reply;
+use frame::replies;
+use pools::Pool;
+use refusals::Refusal;
+use tables::Interface;
+
+// The interface of a slot: none where it is free, else the one that a domain opens with.
+fn interface_of(free: bool) -> Interface
+    ensures { λ r. ⌜ r ≡ interfaceFor free ⌝ }
+{
+    if free {
+        return tables::no_interface();
+    }
+    Interface {
+        word: Interface::OPEN,
+        frozen: 0,
+    }
+}
+
+// Gives every slot its interface.
+fn open_all(v: &mut [u64])
+    requires { ⌜ Sized (now v) ⌝ }
+    ensures { λ _. ⌜ Left (now (v .exit)) (openedAll (view (now (v .entry)))) ⌝ }
+{
+    let n = words::size(v, sizes::DOMAINS);
+    let mut i = 0;
+    while i < n {
+        let free = pools::is_free_in(v, Pool::Domains, i);
+        tables::store_interface(v, i, interface_of(free));
+        i += 1;
+    }
+}
+
+// Builds the new tables in v. Whether the old ones are as many words as their sizes ask, and v as many as the new ones.
+fn build(old: &[u64], v: &mut [u64]) -> bool
+    ensures { λ r. ⌜ r ≡ fitsB (now (old .entry)) (now (v .entry)) ⌝ }
+    ensures { λ r. ⌜ (r ≡ true → now (v .exit) ≡ rebuilt (now (old .entry))) ⌝ }
+{
+    words::store(v, 0, old);
+    if !sizes::is_sized(v) {
+        return false;
+    }
+    let z = sizes::read_sizes(v);
+    if old.len() == sizes::interfaces_at(z) {
+        open_all(v);
+        return true;
+    }
+    false
+}
+
+// Whether the old tables can be converted in memory of these lengths; v is then the new ones. Old tables are never tested:
+// the new ones are, by the one test of lent tables.
+fn converts(old: &[u64], t: &[u64], v: &mut [u64], w: &mut [u64]) -> bool
+    ensures { λ r. ⌜ r ≡ convertsB (now (old .entry)) (now (t .entry)) (now (v .entry)) (now (w .entry)) ⌝ }
+    ensures { λ r. ⌜ (r ≡ true → now (v .exit) ≡ rebuilt (now (old .entry))) ⌝ }
+{
+    if t.len() == v.len() {
+        if build(old, v) {
+            return frame::admits(v, w);
+        }
+    }
+    false
+}
+
+// Makes of the last delivery's tables `old` this delivery's in t. Both work areas, as long as t, end all zero.
+pub fn convert(old: &[u64], t: &mut [u64], v: &mut [u64], w: &mut [u64]) -> Reply
+    ensures { λ r. ⌜ Converts (now (old .entry)) (now (t .entry)) (now (v .entry)) (now (w .entry)) r (now (t .exit)) (now (v .exit)) (now (w .exit)) ⌝ }
+{
+    if converts(old, t, v, w) {
+        words::copy(v, t);
+        words::clear(v);
+        words::clear(w);
+        return Reply {
+            refusal: 0,
+            value: 0,
+        };
+    }
+    words::clear(v);
+    words::clear(w);
+    replies::refused(Refusal::MEMORY)
+}
