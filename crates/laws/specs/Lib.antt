@@ -13,6 +13,7 @@ pub mod Options
 pub mod Kept
 pub mod KeptCalls
 pub mod Keep
+pub mod StepRefusals
 pub mod CallRefusals
 pub mod Codes
 pub mod Capas
