@@ -4,6 +4,5 @@ pub mod Former
 pub mod Unique
 pub mod Calls
 pub mod Refusals
-pub mod Kept
 pub mod Opened
 pub mod Theorem

@@ -16,19 +16,19 @@ use Rattle.model.specs.State.{State, Sizes, Pool, Handle, Capa, Domain, noneDom
 use Rattle.model.specs.Locals.{hasCapacity, insertCapa}
 use Rattle.model.specs.Calls.{newDomain, openDomain}
 use Rattle.model.specs.Making.{makeTables, makeIn}
-use Rattle.model.specs.Perform.{Step, Call, Value, Answer, performStep, perform, after, step, run}
+use Rattle.model.specs.Perform.{Call, Value, Answer, performStep, perform, after, step, run}
 use Rattle.model.specs.CallWords.{CallWords}
 use Rattle.model.specs.Sound.{slotUses, Sound}
 use Rattle.model.specs.Converting.{AsOpened}
 use Rattle.laws.specs.Accepted.{All, accepted, bind, bind-any, and-then, both, weaken}
 use Rattle.laws.specs.Empty.{free-slot}
+use Rattle.laws.specs.Interfaces.{Keeps, Keeps₁, InterfaceCase, making, opening, setting, freezing, keeping, interface-case}
 use Rattle.laws.specs.SoundKept.{sound-kept, step-sound}
 use Rattle.laws.specs.Tree.Slots.{live-is}
 use Rattle.laws.specs.Keep.Checks.{domain-live}
 use Rattle.book.specs.Slots.{some-set}
 use Rattle.converted.specs.Calls.{IsFormer, NotNew}
 use Rattle.converted.specs.Refusals.{not-new}
-use Rattle.converted.specs.Kept.{Keeps, Keeps₁, kept-self, channel-kept, set-core-map-kept, root-kept, alias-kept, carve-kept, send-kept, revoke-kept, create-revoke-capa-kept, pop-kept}
 
 -- beside an answer
 abbrev Opened₁ : {A : Type 0} → A × State → Type 0
@@ -107,22 +107,13 @@ module _ (s : State) (h : Sound s) (o : AsOpened s) where
   by-kept : (c : Call) → CallWords c → All (Keeps₁ s) (perform s c) → All Opened₁ (perform s c)
   by-kept c w k = weaken (both k (sound-kept s c h w)) (λ x (a, b). kept-opened s (x .1) a h b o)
 
-  perform-opened : (c : Call) → CallWords c → IsFormer c → All Opened₁ (perform s c)
+  perform-opened : (c : Call) → CallWords c → IsFormer c → InterfaceCase s c → All Opened₁ (perform s c)
   unfolding perform performStep makeIn
-  perform-opened (Call.Make z) w f = bind (bind (made-opened z) (λ t k. and-then {Q = AsOpened} _ (accepted k))) (λ t k. accepted k)
-  perform-opened (Call.Do (Step.Open m cores)) w f = bind (open-opened m cores s o) (λ x k. accepted k)
-  perform-opened (Call.Do (Step.Channel a b)) w f = by-kept (Call.Do (Step.Channel a b)) w (bind (channel-kept s a b s (kept-self s)) (λ x k. accepted k))
-  perform-opened (Call.Do (Step.SetCoreMap a c)) w f = by-kept (Call.Do (Step.SetCoreMap a c)) w (bind (set-core-map-kept s a c s (kept-self s)) (λ x k. accepted k))
-  perform-opened (Call.Do (Step.SetInterface a c)) w f = absurd f
-  perform-opened (Call.Do (Step.FreezeInterface a)) w f = absurd f
-  perform-opened (Call.Do (Step.Root a r)) w f = by-kept (Call.Do (Step.Root a r)) w (bind (root-kept s a r s (kept-self s)) (λ x k. accepted k))
-  perform-opened (Call.Do (Step.Alias a l r)) w f = by-kept (Call.Do (Step.Alias a l r)) w (bind (alias-kept s a l r s (kept-self s)) (λ x k. accepted k))
-  perform-opened (Call.Do (Step.Carve a l r)) w f = by-kept (Call.Do (Step.Carve a l r)) w (bind (carve-kept s a l r s (kept-self s)) (λ x k. accepted k))
-  perform-opened (Call.Do (Step.Send a l t p)) w f = by-kept (Call.Do (Step.Send a l t p)) w (bind (send-kept s a l t p s (kept-self s)) (λ x k. accepted k))
-  perform-opened (Call.Do (Step.Revoke a l)) w f = by-kept (Call.Do (Step.Revoke a l)) w (bind (revoke-kept s a l s (kept-self s)) (λ x k. accepted k))
-  perform-opened (Call.Do (Step.CreateRevokeCapa a l)) w f = by-kept (Call.Do (Step.CreateRevokeCapa a l)) w (bind (create-revoke-capa-kept s a l s (kept-self s)) (λ x k. accepted k))
-  perform-opened Call.Pop w f = by-kept Call.Pop w (bind {P = Keeps₁ s} (accepted (pop-kept s s _ refl (kept-self s))) (λ x k. accepted k))
-  perform-opened (Call.Read r) w f = bind-any _ (λ x. accepted o)
+  perform-opened c w f (making z) = bind (bind (made-opened z) (λ t k. and-then {Q = AsOpened} _ (accepted k))) (λ t k. accepted k)
+  perform-opened c w f (opening m cores) = bind (open-opened m cores s o) (λ x k. accepted k)
+  perform-opened c w f (setting a word) = absurd f
+  perform-opened c w f (freezing a) = absurd f
+  perform-opened c w f (keeping b k) = by-kept b w k
 
 -- a refused call leaves the state
 after-opened : (s : State) (m : Outcome (Value × State)) → AsOpened s → All Opened₁ m → ((r : Refusal) → m ≡ refuse r → NotNew (Answer.no r)) → AsOpened (after s m .1) × NotNew (after s m .0)
@@ -131,7 +122,7 @@ after-opened s (refuse r) o k n = (o, n r refl)
 
 step-opened : (s : State) (c : Call) → CallWords c → IsFormer c → Sound s → AsOpened s → AsOpened (step s c .1) × NotNew (step s c .0)
 unfolding step
-step-opened s c w f h o = after-opened s (perform s c) o (perform-opened s h o c w f) (not-new s o c f)
+step-opened s c w f h o = after-opened s (perform s c) o (perform-opened s h o c w f (interface-case s c)) (not-new s o c f)
 
 -- THEOREM: after any list of the last delivery's calls. Of tables that are not sound it need not hold: a region's owner may be a free slot there.
 pub run-opened : (s : State) (cs : List Call) → Each CallWords cs → Each IsFormer cs → Sound s → AsOpened s → AsOpened (run s cs .1) × Each NotNew (run s cs .0)

@@ -8,7 +8,6 @@ pub mod Regions
 pub mod Calls
 pub mod Bits
 pub mod Example
-pub mod Kept
 pub mod Freeze
 pub mod Reword
 pub mod Places

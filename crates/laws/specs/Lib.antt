@@ -12,6 +12,7 @@ pub mod Tree
 pub mod Options
 pub mod Kept
 pub mod KeptCalls
+pub mod Interfaces
 pub mod Keep
 pub mod StepRefusals
 pub mod CallRefusals

@@ -1,16 +1,16 @@
--- The last delivery's steps leave the interface of every domain that is there, and but for opening the domain pool: each puts a domain back as it was read,
--- with another list, tracker or core map.
-use mathlib.Core.Path.{_≡_, refl, sym, ap, subst, _∙_}
+-- A law: no call but making, opening, setting and freezing changes the interface of a domain that is there, or the domain pool. Each step puts a domain
+-- back as it was read, with another list, tracker or core map.
+use mathlib.Core.Path.{_≡_, refl, sym, ap, _∙_}
 use Prim.Native.Nat.{ℕ, zero, suc}
-use mathlib.Core.Option.{Option, none, some, Option·getD}
+use mathlib.Core.Option.{Option, none, some}
 use mathlib.Core.List.{List, [], _∷_}
 use native.Mathlib.Decide.{ℕ-discrete}
 use lib.Dec.{eqb}
 use lib.ListN.{set}
 use lib.Seq.{getD-set-same, getD-set-other}
 use Rattle.rights.specs.Rights.{has, CLEANUP}
-use Rattle.model.specs.Lists.{exists, atSlot, In}
-use Rattle.model.specs.State.{State, Sizes, Pool, Handle, Capa, noCapa, region, regionRevoke, management, channel, Domain, noneDomain, Region, Kind, Root, Alias, Carve, Access, Update, SendOptions, domainAt, regionAt, putDomain}
+use Rattle.model.specs.Lists.{exists, In}
+use Rattle.model.specs.State.{State, Sizes, Pool, Handle, Capa, noCapa, region, regionRevoke, management, channel, Domain, Region, Kind, Root, Alias, Carve, Access, Update, SendOptions, domainAt, regionAt, putDomain}
 use Rattle.model.specs.Pool.{handleOf, isLive}
 use Rattle.model.specs.Locals.{hasCapacity, insertCapa, removeCapa, emptyCapa}
 use Rattle.model.specs.Updates.{isPermissionOf, push, pushPermission, pop}
@@ -18,14 +18,20 @@ use Rattle.model.specs.Tracker.{Walk}
 use Rattle.model.specs.Tree.{Range, insertChild, removeChild}
 use Rattle.model.specs.Regions.{putWalk, activate, deactivate, newRegion, freeRegion, sendRanges, sendRegion, applyOptions, giveBack, leaveParent, revokeLeaf, revokeRegion}
 use Rattle.model.specs.Calls.{roomForRegion, openChannel, setCoreMap, createRootRegion, addChild, aliasRegion, exchangeRights, carveRegion, sendCapa, send, revokeUnlessRoot, revokeCapa, revoke, createRevokeCapa}
+use Rattle.model.specs.Perform.{Step, Call, performStep, perform}
 use Rattle.laws.specs.Accepted.{All, accepted, refused, bind, bind-any, and-then, branch}
 use Rattle.laws.specs.Tree.Slots.{in-length}
+use Rattle.laws.specs.Tree.Steps.{domain-at}
+
+-- slot d has a domain with x's interface
+abbrev pub SameInterface : List (Option Domain) → ℕ → Domain → Type 0
+SameInterface ds d x = (y : Domain) × In ds d y × (y .interface ≡ x .interface)
 
 -- sizes z, domain pool p and domains ds are as in s, but for the domains' other parts
 pub record KeptFrom (s : State) (z : Sizes) (p : Pool) (ds : List (Option Domain)) : Type 0 where
   pub sizes : z ≡ s .sizes
   pub domainPool : p ≡ s .domainPool
-  pub interfaces : (d : ℕ) (x : Domain) → In (s .domains) d x → (y : Domain) × In ds d y × (y .interface ≡ x .interface)
+  pub interfaces : (d : ℕ) (x : Domain) → In (s .domains) d x → SameInterface ds d x
 
 abbrev pub Keeps : State → State → Type 0
 Keeps s t = KeptFrom s (t .sizes) (t .domainPool) (t .domains)
@@ -36,20 +42,23 @@ Keeps₁ s x = Keeps s (x .1)
 pub kept-self : (s : State) → Keeps s s
 kept-self s = record { sizes = refl; domainPool = refl; interfaces = λ d x i. (x, i, refl) }
 
--- a domain is put where one with the same interface is, or where none is
-put-at : (ds : List (Option Domain)) (d : ℕ) (x : Domain) → x .interface ≡ Option·getD (atSlot ds d) noneDomain .interface → (c : ℕ) (y : Domain) → In ds c y → (z : Domain) × In (set ds d (some x)) c z × (z .interface ≡ y .interface)
-put-at ds d x e c y i = elim (ℕ-discrete c d) [
-  | yes m ↦ let j : In ds d y = subst (λ k. In ds k y) m i in
-      (x, subst (λ k. In (set ds d (some x)) k x) (sym m) (getD-set-same ds d (some x) none (in-length ds d y j)), e ∙ ap (λ o. Option·getD o noneDomain .interface) j)
-  | no m ↦ (y, getD-set-other ds d c (some x) none m ∙ i, refl)
+-- slot e is written: over domain x only with x's interface
+pub put-same : (ds : List (Option Domain)) (e : ℕ) (y : Domain) (d : ℕ) (x : Domain) → In ds d x → (d ≡ e → y .interface ≡ x .interface) → SameInterface (set ds e (some y)) d x
+put-same ds e y d x i k = elim (ℕ-discrete d e) [
+  | yes m ↦ (y, rw (sym m) (getD-set-same ds d (some y) none (in-length ds d x i)), k m)
+  | no m ↦ (x, getD-set-other ds e d (some y) none m ∙ i, refl)
 ]
 
+-- what is read at slot e, where d is e
+pub read-interface : (s : State) (d : ℕ) (x : Domain) → In (s .domains) d x → (e : ℕ) → d ≡ e → domainAt s e .interface ≡ x .interface
+read-interface s d x i e m = ap (λ k. domainAt s k .interface) (sym m) ∙ ap (λ (z : Domain). z .interface) (domain-at s d x i)
+
 module _ (s₀ : State) where
-  put-kept : (d : ℕ) (x : Domain) (s : State) → x .interface ≡ domainAt s d .interface → Keeps s₀ s → Keeps s₀ (putDomain d x s)
-  put-kept d x s e h = record {
+  put-kept : (e : ℕ) (y : Domain) (s : State) → y .interface ≡ domainAt s e .interface → Keeps s₀ s → Keeps s₀ (putDomain e y s)
+  put-kept e y s q h = record {
     sizes = h .sizes;
     domainPool = h .domainPool;
-    interfaces = λ c y i. let (z, j, f) = h .interfaces c y i in let (u, k, g) = put-at (s .domains) d x e c z j in (u, k, g ∙ f);
+    interfaces = λ d x i. let (z, j, f) = h .interfaces d x i in let (u, k, g) = put-same (s .domains) e y d z j (λ m. q ∙ read-interface s d z j e m) in (u, k, g ∙ f);
   }
 
   -- ---- a domain's list
@@ -155,17 +164,17 @@ module _ (s₀ : State) where
   unfolding addChild insertChild
   child-kept d p k a s h = bind (new-region-kept d k a s h) (λ x j. insert-kept d _ _ j)
 
-  -- ---- the calls but opening
+  -- ---- the calls
 
-  pub channel-kept : (h to : Handle) (s : State) → Keeps s₀ s → All (Keeps₁ s₀) (openChannel h to s)
+  channel-kept : (h to : Handle) (s : State) → Keeps s₀ s → All (Keeps₁ s₀) (openChannel h to s)
   unfolding openChannel
   channel-kept h to s q = bind-any _ (λ d. bind-any _ (λ t. bind (capacity-kept d s q) (λ s₁ k. insert-kept d _ s₁ k)))
 
-  pub set-core-map-kept : (h : Handle) (c : ℕ) (s : State) → Keeps s₀ s → All (Keeps s₀) (setCoreMap h c s)
+  set-core-map-kept : (h : Handle) (c : ℕ) (s : State) → Keeps s₀ s → All (Keeps s₀) (setCoreMap h c s)
   unfolding setCoreMap
   set-core-map-kept h c s q = bind-any _ (λ d. accepted (put-kept d _ s refl q))
 
-  pub root-kept : (h : Handle) (a : Access) (s : State) → Keeps s₀ s → All (Keeps₁ s₀) (createRootRegion h a s)
+  root-kept : (h : Handle) (a : Access) (s : State) → Keeps s₀ s → All (Keeps₁ s₀) (createRootRegion h a s)
   unfolding createRootRegion
   root-kept h a s q =
       bind-any _ (λ d.
@@ -174,7 +183,7 @@ module _ (s₀ : State) where
       bind (insert-kept d _ (x .1) j) (λ y k.
       bind (activate-kept d a (y .1) k) (λ s₄ l. accepted l)))))
 
-  pub alias-kept : (h : Handle) (l : ℕ) (a : Access) (s : State) → Keeps s₀ s → All (Keeps₁ s₀) (aliasRegion h l a s)
+  alias-kept : (h : Handle) (l : ℕ) (a : Access) (s : State) → Keeps s₀ s → All (Keeps₁ s₀) (aliasRegion h l a s)
   unfolding aliasRegion
   alias-kept h l a s q =
       bind-any _ (λ d.
@@ -187,7 +196,7 @@ module _ (s₀ : State) where
   unfolding exchangeRights
   exchange-kept d old a s q = branch (eqb old (a .rights)) (accepted q) (bind (deactivate-kept d _ s q) (λ s₁ k. activate-kept d a s₁ k))
 
-  pub carve-kept : (h : Handle) (l : ℕ) (a : Access) (s : State) → Keeps s₀ s → All (Keeps₁ s₀) (carveRegion h l a s)
+  carve-kept : (h : Handle) (l : ℕ) (a : Access) (s : State) → Keeps s₀ s → All (Keeps₁ s₀) (carveRegion h l a s)
   unfolding carveRegion
   carve-kept h l a s q =
       bind-any _ (λ d.
@@ -204,7 +213,7 @@ module _ (s₀ : State) where
   send-capa-kept (management h) to o s q = refused
   send-capa-kept (channel h) to o s q = accepted q
 
-  pub send-kept : (h : Handle) (l t : ℕ) (o : SendOptions) (s : State) → Keeps s₀ s → All (Keeps₁ s₀) (send h l t o s)
+  send-kept : (h : Handle) (l t : ℕ) (o : SendOptions) (s : State) → Keeps s₀ s → All (Keeps₁ s₀) (send h l t o s)
   unfolding send
   send-kept h l t o s q =
       bind-any _ (λ d.
@@ -227,15 +236,42 @@ module _ (s₀ : State) where
   revoke-capa-kept (management h) s q = refused
   revoke-capa-kept (channel h) s q = accepted q
 
-  pub revoke-kept : (h : Handle) (l : ℕ) (s : State) → Keeps s₀ s → All (Keeps s₀) (revoke h l s)
+  revoke-kept : (h : Handle) (l : ℕ) (s : State) → Keeps s₀ s → All (Keeps s₀) (revoke h l s)
   unfolding revoke
   revoke-kept h l s q = bind-any _ (λ d. bind-any _ (λ c. bind (revoke-capa-kept c s q) (λ s₁ k. accepted (empty-kept d l s₁ k))))
 
-  pub create-revoke-capa-kept : (h : Handle) (l : ℕ) (s : State) → Keeps s₀ s → All (Keeps₁ s₀) (createRevokeCapa h l s)
+  create-revoke-capa-kept : (h : Handle) (l : ℕ) (s : State) → Keeps s₀ s → All (Keeps₁ s₀) (createRevokeCapa h l s)
   unfolding createRevokeCapa
   create-revoke-capa-kept h l s q = bind-any _ (λ d. bind-any _ (λ i. and-then _ (bind (capacity-kept d s q) (λ s₁ k. insert-kept d _ s₁ k))))
 
-  pub pop-kept : (s : State) (us : List Update) → s .queue .items ≡ us → Keeps s₀ s → Keeps s₀ (pop s .1)
+  pop-kept : (s : State) (us : List Update) → s .queue .items ≡ us → Keeps s₀ s → Keeps s₀ (pop s .1)
   unfolding pop
   pop-kept s [] e h = rw (e, pop) h
   pop-kept s (u ∷ us) e h = rw (e, pop) h
+
+-- ---- all calls
+
+-- What a call can do to interfaces: four kinds of calls have a law of their own, and every other keeps those that are there.
+pub data InterfaceCase (s : State) : Call → Type 0 where
+  making : (z : Sizes) → InterfaceCase s (Call.Make z)
+  opening : (m : Option Handle) (cores : ℕ) → InterfaceCase s (Call.Do (Step.Open m cores))
+  setting : (h : Handle) (word : ℕ) → InterfaceCase s (Call.Do (Step.SetInterface h word))
+  freezing : (h : Handle) → InterfaceCase s (Call.Do (Step.FreezeInterface h))
+  keeping : (c : Call) → All (Keeps₁ s) (perform s c) → InterfaceCase s c
+
+pub interface-case : (s : State) (c : Call) → InterfaceCase s c
+unfolding perform performStep
+interface-case s (Call.Make z) = making z
+interface-case s (Call.Do (Step.Open m cores)) = opening m cores
+interface-case s (Call.Do (Step.SetInterface h word)) = setting h word
+interface-case s (Call.Do (Step.FreezeInterface h)) = freezing h
+interface-case s (Call.Do (Step.Channel h to)) = keeping _ (bind (channel-kept s h to s (kept-self s)) (λ x k. accepted k))
+interface-case s (Call.Do (Step.SetCoreMap h cores)) = keeping _ (bind (set-core-map-kept s h cores s (kept-self s)) (λ x k. accepted k))
+interface-case s (Call.Do (Step.Root h a)) = keeping _ (bind (root-kept s h a s (kept-self s)) (λ x k. accepted k))
+interface-case s (Call.Do (Step.Alias h l a)) = keeping _ (bind (alias-kept s h l a s (kept-self s)) (λ x k. accepted k))
+interface-case s (Call.Do (Step.Carve h l a)) = keeping _ (bind (carve-kept s h l a s (kept-self s)) (λ x k. accepted k))
+interface-case s (Call.Do (Step.Send h l t o)) = keeping _ (bind (send-kept s h l t o s (kept-self s)) (λ x k. accepted k))
+interface-case s (Call.Do (Step.Revoke h l)) = keeping _ (bind (revoke-kept s h l s (kept-self s)) (λ x k. accepted k))
+interface-case s (Call.Do (Step.CreateRevokeCapa h l)) = keeping _ (bind (create-revoke-capa-kept s h l s (kept-self s)) (λ x k. accepted k))
+interface-case s Call.Pop = keeping _ (bind {P = Keeps₁ s} (accepted (pop-kept s s _ refl (kept-self s))) (λ x k. accepted k))
+interface-case s (Call.Read r) = keeping _ (bind-any _ (λ x. accepted (kept-self s)))
