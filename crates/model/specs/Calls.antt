@@ -89,13 +89,14 @@ openDomain (some h) cores s = do
   (l, s₃) ← insertCapa m (management (handleOf (s₂ .domainPool) i)) s₂
   ok (handleOf (s₃ .domainPool) i, s₃)
 
--- "open a channel (a Channel capability to a domain, put in another's list or its own; platform only)". The answer, here and below, is the local slot.
+-- "open a channel (a Channel capability to a domain, put in another's list or its own; platform only)". Here and below a call that
+-- gives a slot answers the local slot.
 unfoldable pub openChannel : Handle → Handle → State → Outcome (ℕ × State)
-openChannel h to s = do
+openChannel h k s = do
   d ← liveDomain s h  -- 3
-  t ← liveDomain s to  -- 3
+  to ← liveDomain s k  -- 3
   s₁ ← hasCapacity d s  -- 12
-  insertCapa d (channel to) s₁
+  insertCapa d (channel k) s₁
 
 -- "set a core map"
 unfoldable pub setCoreMap : Handle → ℕ → State → Outcome State
@@ -188,7 +189,8 @@ sendCapa (management h) to o s = refuse notCarried  -- 10
 sendCapa (channel h) to o s = ok s
 
 -- **Send**: "Moves the slot". The target's list is swept, if full, before the sent slot is looked at; where it is
--- the sender's own, the sweep may free that slot.
+-- the sender's own, the sweep may free that slot: a dead region gives 4 then, not 6. The sent slot is freed before one is taken, so that what is sent to
+-- oneself comes back to its slot.
 unfoldable pub send : Handle → ℕ → ℕ → SendOptions → State → Outcome (ℕ × State)
 send h l target o s = do
   d ← callerWith SEND s h  -- 3, 20

@@ -11,7 +11,8 @@ use Rattle.model.specs.Perform.{Value, Answer}
 use Rattle.model.specs.Sound.{Sound}
 use Rattle.model.specs.Memory.{zeroed}
 
--- The last delivery's tables had all sections but the last, the interfaces: its words of a state are the first of this delivery's.
+-- The last delivery's tables had all sections but the last, the interfaces: its words of a state are the first of this delivery's. The sizes are the stored
+-- ones, so that this delivery's own tables, 2 D words longer, give 1.
 abbrev pub formerLength : Sizes → ℕ
 formerLength z = lengthFor z - 2 * z .domains
 
@@ -22,7 +23,8 @@ formerWords s = take (formerLength (s .sizes)) (words s)
 abbrev pub AsOpened : State → Type 0
 AsOpened s = (d : ℕ) (x : Domain) → In (s .domains) d x → x .interface ≡ openInterface
 
--- o are the last delivery's tables of the sound state s, and the new tables t and both work areas v and w have the length of this delivery's.
+-- o are the last delivery's tables of the sound state s, and the new tables t and both work areas v and w have the length of this delivery's:
+-- the new words are built in v and tested with w before t is written.
 pub record Convertible (o t v w : List ℕ) (s : State) : Type 0 where
   pub sound : Sound s
   pub opened : AsOpened s

@@ -11,7 +11,7 @@ use Rattle.model.specs.Fields.{Field, get, passes, each}
 
 -- ---- what is stored
 
--- Does the range up to, but not including, `to` hold address a?
+-- Does the range from `from` up to, but not including, `to` hold address a?
 abbrev pub holds : ℕ → ℕ → ℕ → Bool
 holds from to a = leb from a && ltb a to
 

@@ -28,7 +28,8 @@ writePlace s = (s .queue .readPlace + length (s .queue .items)) % (s .sizes .upd
 abbrev pub headerWords : State → List ℕ
 headerWords s = s .sizes .domains ∷ s .sizes .slots ∷ s .sizes .regions ∷ s .sizes .records ∷ s .sizes .updates ∷ s .queue .readPlace ∷ writePlace s ∷ []
 
--- ---- 2. domain pool, 3. region pool, 4. record pool, each over n slots: 2 + 2n words
+-- ---- 2. domain pool, 3. region pool, 4. record pool, each over n slots, n being D, R or T: 2 + 2n words. Pools store the next free slot + 1, a domain's list
+-- the slot itself.
 
 -- 0 for a slot in use; for a free slot 1 + the free slot after it, and 1 for the last one (1 is slot 0 too: the count tells)
 abbrev pub freeLink : List ℕ → ℕ → ℕ
@@ -52,7 +53,7 @@ capaWords (channel h) = 5 ∷ h .slot ∷ h .generation ∷ []
 abbrev pub slotWords : LocalList → ℕ → List ℕ
 slotWords l i = elim (atSlot (l .held) i) [ none ↦ 1 ∷ slotOr0 (afterIn (l .free) i) ∷ 0 ∷ [] | some c ↦ capaWords c ]
 
--- manager (link), core map, first tracker record (link), head, count, then S slots; a free domain's record is all zero
+-- manager (link), core map, first tracker record (link), head, count, then the n = S slots; a free domain's record is all zero
 abbrev pub domainWords : ℕ → Option Domain → List ℕ
 domainWords n none = replicate (5 + 3 * n) 0
 domainWords n (some x) =
@@ -108,7 +109,7 @@ updateWords none = 0 ∷ 0 ∷ 0 ∷ 0 ∷ []
 updateWords (some (permission h cores)) = 1 ∷ h .slot ∷ h .generation ∷ cores ∷ []
 updateWords (some (cleanup a b)) = 2 ∷ a ∷ b ∷ 0 ∷ []
 
--- Place k: the queue's first update stands at the read place, the others follow it, going round. The read place is below n + 1, so that `-` is exact.
+-- Place k: the queue's first update stands at the read place, the others follow it, going round. n is U; the read place is below n + 1, so that `-` is exact.
 abbrev pub placeWords : ℕ → Queue → ℕ → List ℕ
 placeWords n q k = updateWords (getElem? (q .items) ((k + (n + 1) - q .readPlace) % (n + 1)))
 
@@ -128,7 +129,7 @@ interfaceWords (some x) = x .interface .word ∷ oneIf (x .interface .frozen) �
 
 -- ---- the whole
 
--- The ten sections.
+-- The ten sections. The ninth starts at word 17 + 7 D + 3 D S + 10 R + 11 T + 4 U, the tenth 5 R words further on.
 unfoldable pub words : State → List ℕ
 words s =
     headerWords s

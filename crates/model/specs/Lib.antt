@@ -1,4 +1,5 @@
--- The trusted text, in the order to read it, after Rights.antt of crate rights and Refusals.antt of crate refusals; what stands below `Checked` is proved of it.
+-- The trusted text. Read this head first, then Rights.antt of crate rights and Refusals.antt of crate refusals, then the files below in their order; what
+-- stands below `Checked` is proved of them.
 --
 -- How to read it. In comments "…" quotes document 01, or document 02 where a request is named, `…` names the Rust or a definition, **…** names a paragraph
 -- of document 01, and a number such as 12 is a refusal (crate `refusals` has their names).
@@ -18,9 +19,13 @@
 --   eqb, ltb, leb, &&, ||     the tests =, <, ≤; and, or of tests
 -- `abbrev`, `unfoldable`, `pub`, `infix`, {ℓ}, Type 0, « », a type's name before a form's (`Step.Open`) and `use` lines matter to the checker alone.
 -- At their edges: getD l i d is d past the end of l, and getElem? l i is none; set l i x is l past its end; Option·getD o d is d where o is none; m - n is 0
--- where n is more than m; m / n is without the rest, which is m % n. Signs of one rank are done from left to right. flatMap f l is the lists f x one
+-- where n is more than m; m / n is without the rest, which is m % n. Arithmetic signs of one rank are done from left to right. flatMap f l is the lists f x one
 -- behind the other. A refusal r is its number, r .0. Records have no update: a function that changes one part says the others again, each
 -- from the old value.
+-- A name with a capital first is a type, a fact or a form, all capitals a flag: `hashWords` gives words, `HashWords` says that they are below 2^64.
+-- Letters: s state, d domain slot, x domain, h handle, i slot, g region, p pool or a parent's slot, q tracker record or the queue, c capability, l local slot or
+-- list, r rights, k counts, n a number of slots. a is a range with rights up to Calls, an address from Counts on. What looks at the state mostly takes it first,
+-- what changes it last, and so do readings.
 pub mod Lists
 pub mod Outcome
 pub mod State

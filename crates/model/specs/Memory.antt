@@ -61,7 +61,8 @@ pub data After (t w : List ℕ) : Call → Answer → List ℕ → List ℕ → 
   -- the holders' order is left open
   held : (a : ℕ) (s : State) (l : List ℕ) → Lent t w s → IsHolders a s l → After t w (Call.Read (Reading.Holders a)) (Answer.yes (Value.domainList l)) t (zeroed w)
 
--- A reading whose list l is written into a lent run (**Reading**): "the answer is the whole number of records"; refused, the run is as found.
+-- A reading whose list l is written into a lent run (**Reading**): "the answer is the whole number of records", which `values` has of the list, too; refused,
+-- the run is as found.
 pub data Filled {A : Type 0} (t w : List ℕ) (c : Call) (reply : List A → Value) (run : List A) : Answer → List ℕ → List ℕ → List A → Type 0 where
   filled : (l : List A) (t′ w′ : List ℕ) → After t w c (Answer.yes (reply l)) t′ w′ → Filled t w c reply run (Answer.yes (Value.number (length l))) t′ w′ (fillRun l run)
   untouched : (r : Refusal) (t′ w′ : List ℕ) → After t w c (Answer.no r) t′ w′ → Filled t w c reply run (Answer.no r) t′ w′ run

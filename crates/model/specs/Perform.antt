@@ -60,12 +60,12 @@ pub data Answer : Type 0 where
   yes : Value → Answer
   no : Refusal → Answer
 
--- What an exported call returns (Replies.antt of crate frame) has document 01's number of the answer: the refusal's, or 0 for an accepted call;
+-- What an exported call returns (Replies.antt of crate frame) has document 01's number of the answer: the refusal's, or 0 for an accepted call.
 abbrev pub code : Answer → ℕ
 code (Answer.yes r) = 0
 code (Answer.no r) = Refusals.number r
 
--- and the values of an accepted call's answer. Of a list the "whole number of records"; of a pop the words of docs/TABLES.md.
+-- It has the values of an accepted call's answer, too. Of a list the "whole number of records"; of a pop the words of docs/TABLES.md.
 abbrev pub values : Value → List ℕ
 values done = []
 values (domain h) = h .slot ∷ h .generation ∷ []
@@ -106,7 +106,8 @@ readTables s (Refcount h from to) = getRefcount h from to s >>= λ n. ok (number
 readTables s (CoreMap h) = coreMap h s >>= λ n. ok (number n)
 readTables s (Holders a) = ok (domainList (holders a s))
 
--- What a call does: the reply and the new state, or the refusal. A making is in the memory that holds s; after a reading the state is as it was.
+-- What a call does: the reply and the new state, or the refusal. A making is in the memory that holds s, so that it gives 1 unless the new
+-- sizes need as many words; after a reading the state is as it was.
 unfoldable pub perform : State → Call → Outcome (Value × State)
 perform s (Make z) = let n = lengthFor (s .sizes) in silent (makeIn n n z)
 perform s (Do c) = performStep s c

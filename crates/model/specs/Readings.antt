@@ -54,7 +54,7 @@ coreMap h s = do
 
 -- ---- the holders of an address
 
--- "live domains with reach above 0 there"
+-- "live domains with reach above 0 there": is domain d one, at address a?
 abbrev pub isHolder : State → ℕ → ℕ → Bool
 isHolder s a d = isSome (atSlot (s .domains) d) && ltb 0 (storedCounts s d a .reach)
 

@@ -79,8 +79,8 @@ revokeLeaf i s = do
   s₃ ← freeRegion i s₂
   if has (g .rights) CLEANUP then push (cleanup (g .start) (g .end)) s₃ else ok s₃
 
--- **Revoke**: "Children go first, head child by head child, to any depth." n is spent one by one, a child and what is left
--- of its siblings each get one less: as many as there are live regions at and below i suffice. Calls give the number of all live ones, so that the first
+-- **Revoke**: "Children go first, head child by head child, to any depth." The head child, and then i again
+-- without it, each get one less than n: as many as there are live regions at and below i suffice. Calls give the number of all live ones, so that the first
 -- equation is never reached (`revoke-all`, crate laws).
 unfoldable pub revokeRegion : ℕ → ℕ → State → Outcome State
 revokeRegion zero i s = ok s

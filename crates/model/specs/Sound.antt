@@ -117,7 +117,7 @@ pub record ManagerSound (domainPool : Pool) (domains : List (Option Domain)) (d 
   pub oneManagement : (e : ℕ) (y : Domain) → In domains e y → countIf (isManagementOf (handleOf domainPool d)) (y .locals .held) ≡ oneIf (names (x .manager) e)
   pub managed : Managed domains d
 
--- "live or older than its slot's generation". Past the pool's end the generation reads as 0, and nothing is older.
+-- "live or older than its slot's generation". Past the pool's end the generation reads as 0, and nothing is older. So a handle's numbers are words.
 abbrev pub LiveOrOlder : {A : Type 0} → Pool → List (Option A) → Handle → Type 0
 LiveOrOlder p l h = T (isLive p l h || ltb (h .generation) (getD (p .gens) (h .slot) 0))
 
@@ -130,7 +130,7 @@ HandleFit rp rs dp ds (some (regionRevoke h)) = LiveOrOlder rp rs h
 HandleFit rp rs dp ds (some (management h)) = LiveOrOlder dp ds h
 HandleFit rp rs dp ds (some (channel h)) = LiveOrOlder dp ds h
 
--- "no RegionRevoke names a live root"
+-- "no RegionRevoke names a live root"; of a dead handle nothing is asked, whatever its slot holds now
 abbrev pub RevokeFit : Pool → List (Option Region) → Option Capa → Type 0
 RevokeFit rp rs none = Unit {0}
 RevokeFit rp rs (some noCapa) = Unit {0}
@@ -159,7 +159,7 @@ Merged [] = Unit {0}
 Merged (q ∷ []) = Unit {0}
 Merged (q ∷ n ∷ l) = T (not (mergeable q n)) × Merged (n ∷ l)
 
--- The tracker of domain d: "each tracker record is on one list" stands with the record pool.
+-- The tracker of domain d: "each tracker record is on one list" stands with the record pool. That a record's numbers are words follows from the regions'.
 pub record TrackerSound (regions : List (Option Region)) (d : ℕ) (l : List Record) : Type 0 where
   -- "ordered, nonempty", "fully merged", "with reach above 0"
   pub rising : Rising 0 l

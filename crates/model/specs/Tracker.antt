@@ -88,7 +88,7 @@ addTo r from to q p = if meets from to q then raiseInside r from to q p else ok 
 
 -- **Tracker**, gain: the range with rights r, from left to right (`add_region`). The gap before a record is filled, up to `to` at most, before the record
 -- is cut. Behind the record the walk goes on from its end: so nothing is filled twice, and nothing behind a record that ends past `to`.
--- With a record 4 to 6, a gain of 2 to 10 fills 2 to 4, raises 4 to 6, and goes on with 6 to 10.
+-- With a record 4 to 6, a gain of 2 to 10 fills 2 to 4, raises 4 to 6, and goes on with 6 to 10. A new record is a change: its reach was 0 there.
 unfoldable pub addRegion : ℕ → ℕ → ℕ → List Record → Pool → Outcome Walk
 addRegion r from to [] p = do
   (new, p₁) ← fillGap r from to p

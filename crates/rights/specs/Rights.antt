@@ -1,4 +1,5 @@
--- The rights word (document 01, "The call, from the entry down"): a number below 256, one bit for each of eight flags.
+-- The rights word (document 01, "The call, from the entry down"): a number below 256, one bit for each of eight flags. The head of Lib.antt of crate model
+-- explains the notation.
 use Prim.Native.Nat.{ℕ, _/_, _%_}
 use mathlib.Core.Bool.{Bool}
 use lib.Dec.{eqb}
