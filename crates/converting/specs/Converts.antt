@@ -1,5 +1,4 @@
--- What the converter promises: the model's `Converted` (crate model, Converting) of the memory that it is handed, and the answer as the record that is
--- returned.
+-- Why the converter keeps its promise, `Converts` (Replies.antt of crate frame): what its code finds is exact.
 use mathlib.Core.Path.{_≡_, refl, sym, ap, subst, _∙_}
 use mathlib.Core.Bool.{Bool, true, false}
 use mathlib.Core.List.{List}
@@ -17,17 +16,11 @@ use Rattle.laws.specs.Words.Length.{words-length}
 use Rattle.words.specs.Copies.{copied}
 use Rattle.answers.specs.declared.Answer.the-variants.{Refused}
 use Rattle.frame.specs.declared.replies.Reply.{Reply}
-use Rattle.frame.specs.Replies.{replyOf}
+use Rattle.frame.specs.Replies.{replyOf, Converts}
 use Rattle.frame.specs.Finish.{replyFor, copy-back}
 use Rattle.converted.specs.Former.{rebuilt}
 use Rattle.converted.specs.Unique.{convertible-words, converted-unique}
 use Rattle.converting.specs.Exact.{convertsB, test-convertible, convertible-test}
-
--- From the old tables o, the new tables t and the work areas v and w it returns r, and leaves t′, v′ and w′.
-pub record Converts (o t v w : List ℕ) (r : Reply) (t′ v′ w′ : List ℕ) : Type 0 where
-  pub answer : Answer
-  pub converts : Converted o t v w answer t′ v′ w′
-  pub reply : r ≡ replyOf answer
 
 -- THEOREM: what it returns and leaves is settled
 pub converts-unique : {o t v w : List ℕ} {r r′ : Reply} {t₁ v₁ w₁ t₂ v₂ w₂ : List ℕ} → Converts o t v w r t₁ v₁ w₁ → Converts o t v w r′ t₂ v₂ w₂ → (r ≡ r′) × (t₁ ≡ t₂) × (v₁ ≡ v₂) × (w₁ ≡ w₂)

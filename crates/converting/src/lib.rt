@@ -5,7 +5,7 @@ ghost use Rattle.tables.specs.View.{view, Sized, Left};
 ghost use Rattle.converted.specs.Former.{rebuilt};
 ghost use Rattle.converting.specs.Built.{interfaceFor, openedAll, fitsB};
 ghost use Rattle.converting.specs.Exact.{convertsB};
-ghost use Rattle.converting.specs.Converts.{Converts};
+ghost use Rattle.frame.specs.Replies.{Converts};
 use frame::Reply;
 use frame::replies;
 use pools::Pool;

@@ -1,5 +1,5 @@
 // Tables of the last delivery made this delivery's.
-ghost use Rattle.converting.specs.Converts.{Converts};
+ghost use Rattle.frame.specs.Replies.{Converts};
 use frame::Reply;
 
 // `old` is only read; v and w are two work areas, each as long as the new tables t.

@@ -6,6 +6,7 @@ use mathlib.Core.List.{List, [], map}
 use lib.ListN.{getD}
 use Rattle.model.specs.State.{Handle, Access}
 use Rattle.model.specs.Perform.{Call, Answer, code, values}
+use Rattle.model.specs.Converting.{Converted}
 use Rattle.model.specs.Memory.{After, AfterPermissions, AfterHolders}
 use Rattle.readings.specs.declared.Permission.{Permission}
 use Rattle.frame.specs.declared.replies.Reply.{Reply}
@@ -51,4 +52,10 @@ pub record ListsPermissions (t w : List ℕ) (h : Handle) (run : List Permission
 pub record ListsHolders (t w : List ℕ) (a : ℕ) (run : List ℕ) (r : Reply) (w′ run′ : List ℕ) : Type 0 where
   pub answer : Answer
   pub after : AfterHolders t w a run answer t w′ run′
+  pub reply : r ≡ replyOf answer
+
+-- The converter: from the old tables o, the new tables t and the work areas v and w it returns r, and leaves t′, v′ and w′.
+pub record Converts (o t v w : List ℕ) (r : Reply) (t′ v′ w′ : List ℕ) : Type 0 where
+  pub answer : Answer
+  pub converts : Converted o t v w answer t′ v′ w′
   pub reply : r ≡ replyOf answer
