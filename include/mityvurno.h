@@ -154,12 +154,14 @@ typedef struct {
 mityvurno_reply mityvurno_make_tables(MITYVURNO_LENT, uint64_t domains, uint64_t slots, uint64_t regions, uint64_t records,
                                       uint64_t updates);
 
-/* Tables of the last delivery, `old`, become tables of this one in `t`: the same entries and handles, and every domain has the interface that
- * it opens with. `old` is only read. The lengths: MITYVURNO_FORMER_WORDS of `old`; MITYVURNO_WORDS of `t`, `v` and `w`, by the sizes that
- * `old` stores. What `t` held before does not matter; `v` and `w` are two work areas, zero afterwards. Wrong lengths and old tables that are
- * not sound give 1, and `t` is as found. Older tables go through each delivery's converter in turn. Refusals: none but 1. */
-mityvurno_reply mityvurno_convert_tables(const uint64_t *MITYVURNO_APART old, size_t old_words, uint64_t *MITYVURNO_APART t, size_t t_words,
-                                         uint64_t *MITYVURNO_APART v, size_t v_words, uint64_t *MITYVURNO_APART w, size_t w_words);
+/* Tables of the last delivery, `old`, become tables of this one in `t`: the same entries and handles, and every domain has the interface
+ * that it opens with. `old` is only read. The lengths: MITYVURNO_FORMER_WORDS of `old`; MITYVURNO_WORDS of `t`, `v` and `w`, by the
+ * sizes that `old` stores. What `t` held before does not matter; `v` and `w` are two work areas, zero afterwards. Wrong lengths and old
+ * tables that are not sound give 1, and `t` is as found. Older tables go through each delivery's converter in turn. Refusals: none but
+ * 1. */
+mityvurno_reply mityvurno_convert_tables(const uint64_t *MITYVURNO_APART old, size_t old_words, uint64_t *MITYVURNO_APART t,
+                                         size_t t_words, uint64_t *MITYVURNO_APART v, size_t v_words, uint64_t *MITYVURNO_APART w,
+                                         size_t w_words);
 
 /* A domain without a manager; `cores` is its core map. Refusals: 15. */
 mityvurno_domain_reply mityvurno_open_domain(MITYVURNO_LENT, uint64_t cores);
@@ -173,9 +175,9 @@ mityvurno_reply mityvurno_open_channel(MITYVURNO_LENT, uint64_t domain, uint64_t
 /* The domain's core map. Refusals: 3. */
 mityvurno_reply mityvurno_set_core_map(MITYVURNO_LENT, uint64_t domain, uint64_t generation, uint64_t cores);
 
-/* Platform only. The word of the domain's interface, any 64 bits, in place of the one that stands. A domain opens with MITYVURNO_MAY_SEND,
- * MITYVURNO_MAY_ALIAS and MITYVURNO_MAY_CARVE, whatever its manager's word. A domain without a bit gets 20 for alias, carve or send; nothing
- * else asks for one: what a domain holds it can still revoke, and others can send to it. Refusals: 3, 21. */
+/* Platform only. The word of the domain's interface, any 64 bits, in place of the one that stands. A domain opens with
+ * MITYVURNO_MAY_SEND, MITYVURNO_MAY_ALIAS and MITYVURNO_MAY_CARVE, whatever its manager's word. A domain without a bit gets 20 for
+ * alias, carve or send; nothing else asks for one: what a domain holds it can still revoke, and others can send to it. Refusals: 3, 21. */
 mityvurno_reply mityvurno_set_interface(MITYVURNO_LENT, uint64_t domain, uint64_t generation, uint64_t word);
 
 /* Platform only. The word stays as it is from now on: no call but making lifts the freeze. Freezing twice is accepted. Refusals: 3. */
@@ -196,10 +198,10 @@ mityvurno_reply mityvurno_carve_region(MITYVURNO_LENT, uint64_t domain, uint64_t
  * rights and its stored hash stay. Refusals: 3, 20; of the target 4, 5, 3, 12; of the sent slot 4, 10, 6; 13, 14, 16. */
 mityvurno_reply mityvurno_send(MITYVURNO_LENT, uint64_t domain, uint64_t generation, uint64_t local, uint64_t target);
 
-/* The same with a flag word, without a hash and with one of 32 bytes, which are read only. Where `local` holds a region, the flags join its
- * rights for good, and its stored hash becomes the one given, or none; flags 0 do that as well. Where it holds anything else, flags and
- * hash are not looked at. The hash may lie anywhere that is not written in the call.
- * Refusals: 3, 20; of the target 4, 5, 3, 12; of the sent slot 4, 10, 6, 18, and 19 where no hash is given; 13, 14, 16. */
+/* The same with a flag word, without a hash and with one of 32 bytes, which are read only. Where `local` holds a region, the flags join
+ * its rights for good, and its stored hash becomes the one given, or none; flags 0 do that as well. Where it holds anything else, flags
+ * and hash are not looked at. The hash may lie anywhere that is not written in the call. Refusals: 3, 20; of the target 4, 5, 3, 12; of
+ * the sent slot 4, 10, 6, 18, and 19 where no hash is given; 13, 14, 16. */
 mityvurno_reply mityvurno_send_with_flags(MITYVURNO_LENT, uint64_t domain, uint64_t generation, uint64_t local, uint64_t target,
                                           uint8_t flags);
 mityvurno_reply mityvurno_send_with_hash(MITYVURNO_LENT, uint64_t domain, uint64_t generation, uint64_t local, uint64_t target,
