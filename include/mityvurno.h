@@ -177,7 +177,8 @@ mityvurno_reply mityvurno_set_core_map(MITYVURNO_LENT, uint64_t domain, uint64_t
 
 /* Platform only. The word of the domain's interface, any 64 bits, in place of the one that stands. A domain opens with
  * MITYVURNO_MAY_SEND, MITYVURNO_MAY_ALIAS and MITYVURNO_MAY_CARVE, whatever its manager's word. A domain without a bit gets 20 for
- * alias, carve or send; nothing else asks for one: what a domain holds it can still revoke, and others can send to it. Refusals: 3, 21. */
+ * alias, carve or send; nothing else asks for one: what a domain holds it can still revoke, and others can send to it.
+ * Refusals: 3, 21. */
 mityvurno_reply mityvurno_set_interface(MITYVURNO_LENT, uint64_t domain, uint64_t generation, uint64_t word);
 
 /* Platform only. The word stays as it is from now on: no call but making lifts the freeze. Freezing twice is accepted. Refusals: 3. */
