@@ -28,7 +28,7 @@ fn domain_at(t: &[u64], i: usize) -> usize
     )
 }
 
-fn head_of(p: &[u64]) -> DomainHead
+pub fn head_of(p: &[u64]) -> DomainHead
     requires { ⌜ length (now p) ≡ headWidth ⌝ }
     ensures { λ r. ⌜ r ≡ headOf (now (p .entry)) ⌝ }
 {
@@ -74,7 +74,7 @@ fn slot_at(t: &[u64], i: usize, j: usize) -> usize
     }
 }
 
-fn slot_of(p: &[u64]) -> Slot
+pub fn slot_of(p: &[u64]) -> Slot
     requires { ⌜ length (now p) ≡ slotWidth ⌝ }
     ensures { λ r. ⌜ r ≡ slotOf (now (p .entry)) ⌝ }
 {

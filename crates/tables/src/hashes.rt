@@ -18,7 +18,7 @@ fn hash_at(t: &[u64], i: usize) -> usize
     rows::row_at(t, sizes::hashes_at(z), z.regions, HASH_WIDTH, i)
 }
 
-fn hash_of(p: &[u64]) -> RegionHash
+pub fn hash_of(p: &[u64]) -> RegionHash
     requires { ⌜ length (now p) ≡ hashWidth ⌝ }
     ensures { λ r. ⌜ r ≡ hashOf (now (p .entry)) ⌝ }
 {

@@ -18,7 +18,7 @@ fn interface_at(t: &[u64], i: usize) -> usize
     rows::row_at(t, sizes::interfaces_at(z), z.domains, INTERFACE_WIDTH, i)
 }
 
-fn interface_of(p: &[u64]) -> Interface
+pub fn interface_of(p: &[u64]) -> Interface
     requires { ⌜ length (now p) ≡ interfaceWidth ⌝ }
     ensures { λ r. ⌜ r ≡ interfaceOf (now (p .entry)) ⌝ }
 {

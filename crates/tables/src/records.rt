@@ -18,7 +18,7 @@ fn record_at(t: &[u64], i: usize) -> usize
     rows::row_at(t, sizes::records_at(z), z.records, RECORD_WIDTH, i)
 }
 
-fn record_of(p: &[u64]) -> Region
+pub fn record_of(p: &[u64]) -> Region
     requires { ⌜ length (now p) ≡ recordWidth ⌝ }
     ensures { λ r. ⌜ r ≡ recordOf (now (p .entry)) ⌝ }
 {

@@ -18,7 +18,7 @@ fn region_at(t: &[u64], i: usize) -> usize
     rows::row_at(t, sizes::regions_at(z), z.regions, REGION_WIDTH, i)
 }
 
-fn region_of(p: &[u64]) -> RegionCapa
+pub fn region_of(p: &[u64]) -> RegionCapa
     requires { ⌜ length (now p) ≡ regionWidth ⌝ }
     ensures { λ r. ⌜ r ≡ regionOf (now (p .entry)) ⌝ }
 {
