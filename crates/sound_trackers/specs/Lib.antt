@@ -1,4 +1,1 @@
-pub mod Chains
-pub mod Tally
 pub mod Trackers
-pub mod Laws
