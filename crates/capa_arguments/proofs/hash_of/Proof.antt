@@ -1,7 +1,7 @@
 -- Each word is a number of eight bytes.
 use borrow.Author.Needs.{needs}
-use Rattle.call.proofs.hash_of.Statement.{statement}
-use Rattle.call.proofs.hash_of.Tie as tie
+use Rattle.capa_arguments.proofs.hash_of.Statement.{statement}
+use Rattle.capa_arguments.proofs.hash_of.Tie as tie
 
 eight-requires : tie.Need-eight-requires
 eight-requires c κs = search needs

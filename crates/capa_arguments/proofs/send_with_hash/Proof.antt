@@ -1,7 +1,7 @@
 -- The hash by its bytes.
 use borrow.Author.Needs.{needs}
-use Rattle.call.proofs.send_with_hash.Statement.{statement}
-use Rattle.call.proofs.send_with_hash.Tie as tie
+use Rattle.capa_arguments.proofs.send_with_hash.Statement.{statement}
+use Rattle.capa_arguments.proofs.send_with_hash.Tie as tie
 
 hash-of-requires : tie.Need-hash-of-requires
 hash-of-requires c κs = search needs
