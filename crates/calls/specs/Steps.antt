@@ -2,8 +2,10 @@
 use Rattle.tables.specs.Tables.{Tables}
 use Rattle.answers.specs.Answers.{Effect}
 use Rattle.domain_calls.specs.Calls.{openDomain, openUnder, openChannel, setCoreMap, setInterface, freezeInterface}
-use Rattle.region_calls.specs.Calls.{createRootRegion, aliasRegion, carveRegion}
-use Rattle.capa_calls.specs.Calls.{send, revokeLocal, createRevokeCapa}
+use Rattle.region_calls.specs.Calls.{createRootRegion, aliasRegion}
+use Rattle.carve_calls.specs.Calls.{carveRegion}
+use Rattle.send_calls.specs.Calls.{send}
+use Rattle.revoke_calls.specs.Calls.{revokeLocal, createRevokeCapa}
 use Rattle.call.specs.declared.Call.{Call}
 use Rattle.call.specs.declared.Call.the-variants.{Open, OpenUnder, Channel, SetCoreMap, SetInterface, FreezeInterface, Root, Alias, Carve, Send, Revoke, CreateRevokeCapa}
 

@@ -20,9 +20,9 @@ pub fn step(t: &mut [u64], call: Call) -> Answer
         Call::FreezeInterface(h) => domain_calls::freeze_interface(t, h),
         Call::Root(h, a) => region_calls::create_root_region(t, h, a),
         Call::Alias(x) => region_calls::alias_region(t, x.domain, x.local, x.access),
-        Call::Carve(x) => region_calls::carve_region(t, x.domain, x.local, x.access),
-        Call::Send(h, local, target, o) => capa_calls::send(t, h, local, target, o),
-        Call::Revoke(h, local) => capa_calls::revoke(t, h, local),
-        Call::CreateRevokeCapa(h, local) => capa_calls::create_revoke_capa(t, h, local),
+        Call::Carve(x) => carve_calls::carve_region(t, x.domain, x.local, x.access),
+        Call::Send(h, local, target, o) => send_calls::send(t, h, local, target, o),
+        Call::Revoke(h, local) => revoke_calls::revoke(t, h, local),
+        Call::CreateRevokeCapa(h, local) => revoke_calls::create_revoke_capa(t, h, local),
     }
 }

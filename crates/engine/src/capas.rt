@@ -17,7 +17,11 @@ pub extern "C" fn mityvurno_send(
 ) -> Reply
     ensures { λ r. ⌜ Returns replyOf (now (t .entry)) (now (w .entry)) (Call.Do (Step.Send (handle domain generation) local target noOptions)) r (now (t .exit)) (now (w .exit)) ⌝ }
 {
-    frame::run(t, w, call::send(domain, generation, local, target))
+    frame::run(
+        t,
+        w,
+        capa_arguments::send(domain, generation, local, target),
+    )
 }
 
 // With a flag word and no hash: the flags join the rights of a region that is sent, and its stored hash is cleared.
@@ -36,7 +40,7 @@ pub extern "C" fn mityvurno_send_with_flags(
     frame::run(
         t,
         w,
-        call::send_with_flags(domain, generation, local, target, flags),
+        capa_arguments::send_with_flags(domain, generation, local, target, flags),
     )
 }
 
@@ -57,7 +61,7 @@ pub extern "C" fn mityvurno_send_with_hash(
     frame::run(
         t,
         w,
-        call::send_with_hash(domain, generation, local, target, flags, hash),
+        capa_arguments::send_with_hash(domain, generation, local, target, flags, hash),
     )
 }
 
@@ -71,7 +75,7 @@ pub extern "C" fn mityvurno_revoke(
 ) -> Reply
     ensures { λ r. ⌜ Returns replyOf (now (t .entry)) (now (w .entry)) (Call.Do (Step.Revoke (handle domain generation) local)) r (now (t .exit)) (now (w .exit)) ⌝ }
 {
-    frame::run(t, w, call::revoke(domain, generation, local))
+    frame::run(t, w, capa_arguments::revoke(domain, generation, local))
 }
 
 // The value is the local slot of the RegionRevoke.
@@ -85,5 +89,9 @@ pub extern "C" fn mityvurno_create_revoke_capa(
 ) -> Reply
     ensures { λ r. ⌜ Returns replyOf (now (t .entry)) (now (w .entry)) (Call.Do (Step.CreateRevokeCapa (handle domain generation) local)) r (now (t .exit)) (now (w .exit)) ⌝ }
 {
-    frame::run(t, w, call::create_revoke_capa(domain, generation, local))
+    frame::run(
+        t,
+        w,
+        capa_arguments::create_revoke_capa(domain, generation, local),
+    )
 }

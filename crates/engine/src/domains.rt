@@ -40,7 +40,11 @@ pub extern "C" fn mityvurno_open_channel(
 ) -> Reply
     ensures { λ r. ⌜ Returns replyOf (now (t .entry)) (now (w .entry)) (Call.Do (Step.Channel (handle domain generation) (handle to «to_generation»))) r (now (t .exit)) (now (w .exit)) ⌝ }
 {
-    frame::run(t, w, call::channel(domain, generation, to, to_generation))
+    frame::run(
+        t,
+        w,
+        domain_arguments::channel(domain, generation, to, to_generation),
+    )
 }
 
 #[no_mangle]
@@ -53,7 +57,11 @@ pub extern "C" fn mityvurno_set_core_map(
 ) -> Reply
     ensures { λ r. ⌜ Returns replyOf (now (t .entry)) (now (w .entry)) (Call.Do (Step.SetCoreMap (handle domain generation) cores)) r (now (t .exit)) (now (w .exit)) ⌝ }
 {
-    frame::run(t, w, call::set_core_map(domain, generation, cores))
+    frame::run_unkept(
+        t,
+        w,
+        domain_arguments::set_core_map(domain, generation, cores),
+    )
 }
 
 // The word of the domain's interface, in place of the one that stands.
@@ -67,7 +75,11 @@ pub extern "C" fn mityvurno_set_interface(
 ) -> Reply
     ensures { λ r. ⌜ Returns replyOf (now (t .entry)) (now (w .entry)) (Call.Do (Step.SetInterface (handle domain generation) word)) r (now (t .exit)) (now (w .exit)) ⌝ }
 {
-    frame::run(t, w, call::set_interface(domain, generation, word))
+    frame::run_unkept(
+        t,
+        w,
+        domain_arguments::set_interface(domain, generation, word),
+    )
 }
 
 // The word stays as it is from now on.
@@ -80,5 +92,5 @@ pub extern "C" fn mityvurno_freeze_interface(
 ) -> Reply
     ensures { λ r. ⌜ Returns replyOf (now (t .entry)) (now (w .entry)) (Call.Do (Step.FreezeInterface (handle domain generation))) r (now (t .exit)) (now (w .exit)) ⌝ }
 {
-    frame::run(t, w, call::freeze_interface(domain, generation))
+    frame::run_unkept(t, w, domain_arguments::freeze_interface(domain, generation))
 }

@@ -16,7 +16,11 @@ pub extern "C" fn mityvurno_create_root_region(
 ) -> Reply
     ensures { λ r. ⌜ Returns replyOf (now (t .entry)) (now (w .entry)) (Call.Do (Step.Root (handle domain generation) (access start end rights))) r (now (t .exit)) (now (w .exit)) ⌝ }
 {
-    frame::run(t, w, call::root(domain, generation, start, end, rights))
+    frame::run(
+        t,
+        w,
+        region_arguments::root(domain, generation, start, end, rights),
+    )
 }
 
 #[no_mangle]
@@ -35,7 +39,7 @@ pub extern "C" fn mityvurno_alias_region(
     frame::run(
         t,
         w,
-        call::alias(domain, generation, local, start, end, rights),
+        region_arguments::alias(domain, generation, local, start, end, rights),
     )
 }
 
@@ -55,6 +59,6 @@ pub extern "C" fn mityvurno_carve_region(
     frame::run(
         t,
         w,
-        call::carve(domain, generation, local, start, end, rights),
+        region_arguments::carve(domain, generation, local, start, end, rights),
     )
 }

@@ -130,6 +130,10 @@ pub admitted-sized : (t w : List ℕ) → (b : Bool) → b ≡ admitted t w → 
 unfolding isSound
 admitted-sized t w b e h = sized-true t (both-true (sizedB t) _ (parts t w (sym e ∙ h) .1) .0)
 
+-- and the work area as long as they
+pub admitted-long : (t w : List ℕ) → (b : Bool) → b ≡ admitted t w → b ≡ true → length w ≡ length t
+admitted-long t w b e h = parts t w (sym e ∙ h) .0
+
 -- the lent memory is refused
 pub memory-returns : {R : Type 0} (f : Answer → R) (t w : List ℕ) (c : Call) → NotMake c → (b : Bool) → b ≡ admitted t w → b ≡ false
     → (r : R) (w₂ : List ℕ) → r ≡ f (Answer.no memory) → w₂ ≡ kept t w → Returns f t w c r t w₂

@@ -1,11 +1,13 @@
 // What every call does before and after its own work: test the lent memory, keep a copy of the tables, put it back, clear the work area.
 ghost use mathlib.Core.Path.{_≡_};
+ghost use mathlib.Core.Bool.{true};
 ghost use Rattle.model.specs.Perform.{Call};
 ghost use Rattle.model.specs.CallWords.{StepWords};
 ghost use Rattle.model.specs.Memory.{zeroed};
 ghost use Rattle.call.specs.Steps.{stepNamed};
 ghost use Rattle.frame.specs.Finish.{admitted, kept, finished, replyFor};
 ghost use Rattle.frame.specs.Replies.{replyOf, Returns};
+ghost use Rattle.frame.specs.Unkept.{checksFirst};
 use answers::Answer;
 use refusals::Refusal;
 
@@ -62,6 +64,19 @@ pub fn run(t: &mut [u64], w: &mut [u64], call: call::Call) -> Reply
     if begin(t, w) {
         let a = calls::step(t, call);
         return finish(t, w, a);
+    }
+    replies::refused(Refusal::MEMORY)
+}
+
+// The same for a call that is refused, if at all, before its first change: nothing has to be put back, so no copy is kept.
+pub fn run_unkept(t: &mut [u64], w: &mut [u64], call: call::Call) -> Reply
+    requires { ⌜ StepWords (stepNamed call) ⌝ }
+    requires { ⌜ checksFirst (stepNamed call) ≡ true ⌝ }
+    ensures { λ r. ⌜ Returns replyOf (now (t .entry)) (now (w .entry)) (Call.Do (stepNamed call)) r (now (t .exit)) (now (w .exit)) ⌝ }
+{
+    if admits(t, w) {
+        let a = calls::step(t, call);
+        return replies::reply_for(a);
     }
     replies::refused(Refusal::MEMORY)
 }

@@ -3,6 +3,7 @@
 ghost use mathlib.Core.Path.{_≡_};
 ghost use Rattle.answers.specs.declared.Answer.the-variants.{Refused};
 ghost use Rattle.frame.specs.Finish.{replyFor};
+use answers::Answer;
 use refusals::Refusal;
 
 // The value is a local slot, or a number that was read.
@@ -36,6 +37,15 @@ pub fn refused(r: Refusal) -> Reply
     Reply {
         refusal: r.0,
         value: 0,
+    }
+}
+
+pub fn reply_for(a: Answer) -> Reply
+    ensures { λ x. ⌜ x ≡ replyFor a ⌝ }
+{
+    match a {
+        Answer::Done(value) => Reply { refusal: 0, value },
+        Answer::Refused(r) => refused(r),
     }
 }
 

@@ -29,7 +29,7 @@ fn opened(t: &[u64], r: Reply) -> DomainReply
 pub fn open_domain(t: &mut [u64], w: &mut [u64], cores: u64) -> DomainReply
     ensures { λ r. ⌜ Returns domainReplyOf (now (t .entry)) (now (w .entry)) (Call.Do (Step.Open none cores)) r (now (t .exit)) (now (w .exit)) ⌝ }
 {
-    let r = frame::run(t, w, call::open(cores));
+    let r = frame::run(t, w, domain_arguments::open(cores));
     opened(t, r)
 }
 
@@ -43,6 +43,10 @@ pub fn open_under(
 ) -> DomainReply
     ensures { λ r. ⌜ Returns domainReplyOf (now (t .entry)) (now (w .entry)) (Call.Do (Step.Open (some (handle manager generation)) cores)) r (now (t .exit)) (now (w .exit)) ⌝ }
 {
-    let r = frame::run(t, w, call::open_under(manager, generation, cores));
+    let r = frame::run(
+        t,
+        w,
+        domain_arguments::open_under(manager, generation, cores),
+    );
     opened(t, r)
 }

@@ -1,19 +1,18 @@
--- Roots, aliases and carves on the tables, each call as the model has it, check by check.
-use mathlib.Core.Bool.{true, false}
+-- Roots and aliases on the tables, each call as the model has it, check by check.
+use mathlib.Core.Bool.{true}
 use Prim.Native.Nat.{ℕ}
-use lib.Dec.{eqb}
 use Rattle.base.specs.Cases.{pick}
 use Rattle.tables.specs.declared.Handle.{Handle}
-use Rattle.tables.specs.Kinds.{REGION, ROOT, ALIAS, CARVE}
+use Rattle.tables.specs.Kinds.{REGION, ROOT, ALIAS}
 use Rattle.tables.specs.Interface as interface
-use Rattle.tables.specs.Tables.{Tables, regionAt}
+use Rattle.tables.specs.Tables.{Tables}
 use Rattle.refusals.specs.Refusals.{beyond}
 use Rattle.answers.specs.Answers.{Effect, done, refused, andThen}
 use Rattle.region.specs.declared.AccessRights.{AccessRights}
 use Rattle.tables.specs.Links.{linkTo}
-use Rattle.domain.specs.Activate.{insert, activate, deactivate}
+use Rattle.domain.specs.Activate.{insert, activate}
 use Rattle.segment.specs.Children.{insertChild, checkChild}
-use Rattle.segment.specs.Regions.{access, capaFor, newRegion}
+use Rattle.segment.specs.Regions.{capaFor, newRegion}
 use Rattle.checks.specs.Checks.{liveDomain, callerWith, regionHeld, roomForRegion, capaOf}
 
 -- region i in domain d's list
@@ -38,16 +37,3 @@ aliasRegion h l a s =
     andThen (regionHeld d l s₁) (λ p s₂.
     andThen (roomForRegion d a s₂) (λ u s₃.
     pick (checkChild true s₃ p a) (andThen (addChild d p ALIAS a s₃) (λ n s₄. andThen (activate d a s₄) (λ v. done n))) (refused beyond s₃))))
-
--- the range is lost with the parent's rights and gained with its own, where these differ
-unfoldable pub exchangeRights : ℕ → ℕ → AccessRights → Tables → Effect
-exchangeRights d old a s =
-    pick (eqb old (a .ops .0)) (done 0 s) (andThen (deactivate d (access (a .start) (a .end) old) s) (λ v. activate d a))
-
-unfoldable pub carveRegion : Handle → ℕ → AccessRights → Tables → Effect
-carveRegion h l a s =
-    andThen (callerWith interface.CARVE h s) (λ d s₁.
-    andThen (regionHeld d l s₁) (λ p s₂.
-    andThen (roomForRegion d a s₂) (λ u s₃.
-    pick (checkChild false s₃ p a)
-    (andThen (addChild d p CARVE a s₃) (λ n s₄. andThen (exchangeRights d (regionAt s₃ p .rights) a s₄) (λ v. done n))) (refused beyond s₃))))

@@ -1,12 +1,12 @@
 -- The later steps of a call as one step, after the checks: what the code has a function for. Each call is its checks and then its part.
 use mathlib.Core.Path.{_≡_, refl}
-use mathlib.Core.Bool.{true, false}
+use mathlib.Core.Bool.{true}
 use Prim.Native.Nat.{ℕ}
 use Rattle.base.specs.Cases.{pick}
 use Rattle.tables.specs.declared.Handle.{Handle}
-use Rattle.tables.specs.Kinds.{ROOT, ALIAS, CARVE}
+use Rattle.tables.specs.Kinds.{ROOT, ALIAS}
 use Rattle.tables.specs.Interface as interface
-use Rattle.tables.specs.Tables.{Tables, regionAt}
+use Rattle.tables.specs.Tables.{Tables}
 use Rattle.refusals.specs.Refusals.{beyond}
 use Rattle.answers.specs.Answers.{Effect, done, refused, andThen}
 use Rattle.region.specs.declared.AccessRights.{AccessRights}
@@ -14,7 +14,7 @@ use Rattle.domain.specs.Activate.{activate}
 use Rattle.segment.specs.Children.{checkChild}
 use Rattle.segment.specs.Regions.{capaFor, newRegion}
 use Rattle.checks.specs.Checks.{liveDomain, callerWith, regionHeld, roomForRegion}
-use Rattle.region_calls.specs.Calls.{heldRegion, createRootRegion, addChild, aliasRegion, exchangeRights, carveRegion}
+use Rattle.region_calls.specs.Calls.{heldRegion, createRootRegion, addChild, aliasRegion}
 
 unfoldable pub rooted : ℕ → AccessRights → Tables → Effect
 rooted d a s =
@@ -24,11 +24,6 @@ unfoldable pub aliased : ℕ → ℕ → AccessRights → Tables → Effect
 aliased d p a s =
     pick (checkChild true s p a) (andThen (addChild d p ALIAS a s) (λ n s₁. andThen (activate d a s₁) (λ v. done n))) (refused beyond s)
 
-unfoldable pub carved : ℕ → ℕ → AccessRights → Tables → Effect
-carved d p a s =
-    pick (checkChild false s p a)
-    (andThen (addChild d p CARVE a s) (λ n s₁. andThen (exchangeRights d (regionAt s p .rights) a s₁) (λ v. done n))) (refused beyond s)
-
 pub root-is : (h : Handle) (a : AccessRights) (s : Tables) → createRootRegion h a s ≡ andThen (liveDomain h s) (λ d s₁. andThen (roomForRegion d a s₁) (λ u. rooted d a))
 unfolding createRootRegion rooted
 root-is h a s = refl
@@ -37,7 +32,3 @@ module _ (h : Handle) (l : ℕ) (a : AccessRights) (s : Tables) where
   pub alias-is : aliasRegion h l a s ≡ andThen (callerWith interface.ALIAS h s) (λ d s₁. andThen (regionHeld d l s₁) (λ p s₂. andThen (roomForRegion d a s₂) (λ u. aliased d p a)))
   unfolding aliasRegion aliased
   alias-is = refl
-
-  pub carve-is : carveRegion h l a s ≡ andThen (callerWith interface.CARVE h s) (λ d s₁. andThen (regionHeld d l s₁) (λ p s₂. andThen (roomForRegion d a s₂) (λ u. carved d p a)))
-  unfolding carveRegion carved
-  carve-is = refl

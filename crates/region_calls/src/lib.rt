@@ -1,8 +1,8 @@
-// Regions: roots, aliases, carves.
+// Roots and aliases.
 ghost use mathlib.Core.Path.{_≡_};
 ghost use Rattle.tables.specs.View.{view, Sized, Left};
-ghost use Rattle.region_calls.specs.Calls.{heldRegion, createRootRegion, addChild, aliasRegion, exchangeRights, carveRegion};
-ghost use Rattle.region_calls.specs.Parts.{rooted, aliased, carved};
+ghost use Rattle.region_calls.specs.Calls.{heldRegion, createRootRegion, addChild, aliasRegion};
+ghost use Rattle.region_calls.specs.Parts.{rooted, aliased};
 use answers::Answer;
 use refusals::Refusal;
 use region::AccessRights;
@@ -27,8 +27,6 @@ fn hold(t: &mut [u64], d: usize, i: u64) -> Answer
     };
     domain::insert(t, d, capa)
 }
-
-// ---- Roots
 
 fn root(t: &mut [u64], d: usize, a: AccessRights) -> Answer
     requires { ⌜ Sized (now t) ⌝ }
@@ -61,10 +59,8 @@ pub fn create_root_region(t: &mut [u64], h: Handle, a: AccessRights) -> Answer
     }
 }
 
-// ---- Aliases
-
 // A child of region p, of that kind, in domain d's list.
-fn add_child(t: &mut [u64], d: usize, p: usize, kind: u64, a: AccessRights) -> Answer
+pub fn add_child(t: &mut [u64], d: usize, p: usize, kind: u64, a: AccessRights) -> Answer
     requires { ⌜ Sized (now t) ⌝ }
     ensures { λ r. ⌜ r ≡ addChild d p kind a (view (now (t .entry))) .answer ⌝ }
     ensures { λ _. ⌜ Left (now (t .exit)) (addChild d p kind a (view (now (t .entry))) .tables) ⌝ }
@@ -105,60 +101,6 @@ pub fn alias_region(t: &mut [u64], h: Handle, l: usize, a: AccessRights) -> Answ
         Answer::Done(d) => match checks::region_held(t, d as usize, l) {
             Answer::Done(p) => match checks::room_for_region(t, d as usize, a) {
                 Answer::Done(u) => alias(t, d as usize, p as usize, a),
-                Answer::Refused(r) => Answer::Refused(r),
-            },
-            Answer::Refused(r) => Answer::Refused(r),
-        },
-        Answer::Refused(r) => Answer::Refused(r),
-    }
-}
-
-// ---- Carves
-
-// The range is lost with the parent's rights `old` and gained with its own, where these differ.
-fn exchange_rights(t: &mut [u64], d: usize, old: u64, a: AccessRights) -> Answer
-    requires { ⌜ Sized (now t) ⌝ }
-    ensures { λ r. ⌜ r ≡ exchangeRights d old a (view (now (t .entry))) .answer ⌝ }
-    ensures { λ _. ⌜ Left (now (t .exit)) (exchangeRights d old a (view (now (t .entry))) .tables) ⌝ }
-{
-    let ops = a.ops;
-    if old == ops.0 as u64 {
-        return Answer::Done(0);
-    }
-    match domain::deactivate_region(t, d, segment::access(a.start, a.end, old)) {
-        Answer::Done(v) => domain::activate_region(t, d, a),
-        Answer::Refused(r) => Answer::Refused(r),
-    }
-}
-
-// 8, and the carve of region p.
-fn carve(t: &mut [u64], d: usize, p: usize, a: AccessRights) -> Answer
-    requires { ⌜ Sized (now t) ⌝ }
-    ensures { λ r. ⌜ r ≡ carved d p a (view (now (t .entry))) .answer ⌝ }
-    ensures { λ _. ⌜ Left (now (t .exit)) (carved d p a (view (now (t .entry))) .tables) ⌝ }
-{
-    if !segment::check_carve(t, p, a) {
-        return Answer::Refused(Refusal::BEYOND);
-    }
-    let parent = tables::load_region(t, p);
-    match add_child(t, d, p, RegionCapa::CARVE, a) {
-        Answer::Done(n) => match exchange_rights(t, d, parent.rights, a) {
-            Answer::Done(v) => Answer::Done(n),
-            Answer::Refused(r) => Answer::Refused(r),
-        },
-        Answer::Refused(r) => Answer::Refused(r),
-    }
-}
-
-pub fn carve_region(t: &mut [u64], h: Handle, l: usize, a: AccessRights) -> Answer
-    requires { ⌜ Sized (now t) ⌝ }
-    ensures { λ r. ⌜ r ≡ carveRegion h l a (view (now (t .entry))) .answer ⌝ }
-    ensures { λ _. ⌜ Left (now (t .exit)) (carveRegion h l a (view (now (t .entry))) .tables) ⌝ }
-{
-    match checks::caller_with(t, h, Interface::CARVE) {
-        Answer::Done(d) => match checks::region_held(t, d as usize, l) {
-            Answer::Done(p) => match checks::room_for_region(t, d as usize, a) {
-                Answer::Done(u) => carve(t, d as usize, p as usize, a),
                 Answer::Refused(r) => Answer::Refused(r),
             },
             Answer::Refused(r) => Answer::Refused(r),

@@ -26,7 +26,8 @@ use Rattle.region.specs.declared.AccessRights.{AccessRights}
 use Rattle.domain.specs.Activate.{activate, deactivate}
 use Rattle.segment.specs.Children.{checkChild}
 use Rattle.segment.specs.Regions.{access}
-use Rattle.region_calls.specs.Calls.{addChild, exchangeRights, carveRegion}
+use Rattle.region_calls.specs.Calls.{addChild}
+use Rattle.carve_calls.specs.Calls.{exchangeRights, carveRegion}
 use Rattle.decoded.specs.Tables.{tablesOf}
 use Rattle.refine.specs.Arenas.Pools.{handleIn}
 use Rattle.refine.specs.Agrees.{Agrees, agrees-call, agrees-state, bind-assoc}

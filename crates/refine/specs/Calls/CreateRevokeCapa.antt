@@ -11,7 +11,7 @@ use Rattle.laws.specs.Tree.Slots.{is-live}
 use Rattle.laws.specs.Keep.Base.{Base, sound-base}
 use Rattle.tables.specs.declared.Handle.{Handle}
 use Rattle.tables.specs.Tables.{regionAt}
-use Rattle.capa_calls.specs.Calls.{createRevokeCapa}
+use Rattle.revoke_calls.specs.Calls.{createRevokeCapa}
 use Rattle.decoded.specs.Tables.{tablesOf}
 use Rattle.refine.specs.Arenas.Pools.{handleIn}
 use Rattle.refine.specs.Agrees.{Agrees}

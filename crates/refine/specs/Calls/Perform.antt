@@ -14,8 +14,10 @@ use Rattle.tables.specs.Tables.{Tables}
 use Rattle.answers.specs.Answers.{Effect}
 use Rattle.region.specs.declared.AccessRights.{AccessRights}
 use Rattle.domain_calls.specs.Calls.{openDomain, openUnder, openChannel, setCoreMap, setInterface, freezeInterface}
-use Rattle.region_calls.specs.Calls.{createRootRegion, aliasRegion, carveRegion}
-use Rattle.capa_calls.specs.Calls.{send, revokeLocal, createRevokeCapa}
+use Rattle.region_calls.specs.Calls.{createRootRegion, aliasRegion}
+use Rattle.carve_calls.specs.Calls.{carveRegion}
+use Rattle.send_calls.specs.Calls.{send}
+use Rattle.revoke_calls.specs.Calls.{revokeLocal, createRevokeCapa}
 use Rattle.decoded.specs.Tables.{handleFor, tablesOf}
 use Rattle.refine.specs.Agrees.{Agrees, agrees-call, ok-then, bind-assoc, bind-same, bind-ok}
 use Rattle.refine.specs.Calls.Open.{open-domain-refines, open-under-refines}

@@ -31,7 +31,7 @@ use Rattle.answers.specs.Answers.{Effect, done, refused, andThen}
 use Rattle.slots.specs.Capas.{capaAt}
 use Rattle.revocation.specs.Revoke.{revoke}
 use Rattle.checks.specs.Checks.{liveDomain, liveRegion}
-use Rattle.capa_calls.specs.Calls.{revokeUnlessRoot, revokeCapa, revokeLocal}
+use Rattle.revoke_calls.specs.Calls.{revokeUnlessRoot, revokeCapa, revokeLocal}
 use Rattle.decoded.specs.Tables.{handleFor, capaSlot, tablesOf}
 use Rattle.refine.specs.Arenas.Pools.{handleIn}
 use Rattle.refine.specs.Agrees.{Agrees, agrees-call, ok-then, bind-assoc, then-bind}

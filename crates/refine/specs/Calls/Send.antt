@@ -27,7 +27,8 @@ use Rattle.answers.specs.Answers.{Effect, done, refused, andThen}
 use Rattle.slots.specs.Capas.{capaAt}
 use Rattle.segment.specs.Regions.{sendRegion}
 use Rattle.segment.specs.Options.{applyOptions}
-use Rattle.capa_calls.specs.Calls.{checkOptions, sendHeld, sendCapa, send}
+use Rattle.send_options.specs.Options.{checkOptions}
+use Rattle.send_calls.specs.Calls.{sendHeld, sendCapa, send}
 use Rattle.decoded.specs.Tables.{capaSlot, tablesOf}
 use Rattle.refine.specs.Arenas.Pools.{handleIn}
 use Rattle.refine.specs.Agrees.{Agrees, agrees-done, agrees-call, ok-then, bind-assoc, bind-same, then-bind}

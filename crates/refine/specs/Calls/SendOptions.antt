@@ -22,7 +22,7 @@ use Rattle.answers.specs.Answers.{Effect, andThen}
 use Rattle.segment.specs.declared.SendOptions.{SendOptions}
 use Rattle.segment.specs.declared.SendOptions.the-variants as options
 use Rattle.segment.specs.Options.{withRights, addHcv, withOptions, applyOptions}
-use Rattle.capa_calls.specs.Calls.{flagsAnswer, optionsAnswer, checkOptions}
+use Rattle.send_options.specs.Options.{flagsAnswer, optionsAnswer, checkOptions}
 use Rattle.decoded.specs.Tables.{regionFor, hashFor, regionHashFor, tablesOf}
 use Rattle.decoded.specs.Tree.Regions.{region-read, region-put}
 use Rattle.refine.specs.Agrees.{Agrees}
