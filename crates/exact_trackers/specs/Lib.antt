@@ -1,12 +1,4 @@
-pub mod Tests
-pub mod Carved
+-- That the test of the trackers is exact.
+pub mod Regions
 pub mod Slots
-pub mod Sums
-pub mod Tallied
-pub mod Agreement
-pub mod Stored
-pub mod Records
-pub mod Points
-pub mod Everywhere
-pub mod Edges
 pub mod Law

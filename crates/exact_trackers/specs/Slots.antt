@@ -1,121 +1,119 @@
--- The Region slots of a domain: which region a slot names, and by how many slots of a domain a region is named.
+-- The pieces gathered over a domain's slots are those that crate `sweep` lists over its capability list: a slot names a live region exactly where
+-- what is read from it does.
 use mathlib.Core.Path.{_≡_, refl, sym, ap, _∙_}
-use Prim.Native.Nat.{ℕ, zero, suc, _≤_, _<_}
+use Prim.Native.Nat.{ℕ, zero, suc, _+_}
 use mathlib.Core.Bool.{Bool, true, false, _&&_}
-use mathlib.Core.Option.{none}
-use mathlib.Core.List.{map}
+use mathlib.Core.Option.{Option, none, some}
+use mathlib.Core.List.{List, [], _∷_, _++_, map}
 use native.Mathlib.Omega.{arith}
 use native.Mathlib.Decide.{ℕ-discrete}
-use borrow.Author.Tests.{eqb-true, lt-ltb, le-ltb, eq-eqb}
-use lib.Dec.{eqb}
-use lib.ListN.{length, getD, length-map, List·getD-map}
-use Rattle.base.specs.Tests.{both, true-false, both-i}
-use Rattle.base.specs.Lists.{getD-any}
-use Rattle.model.specs.Lists.{oneIf, countIf, atSlot, In}
+use lib.Dec.{eqb, ltb}
+use lib.ListN.{length, getD, List·getD-eq-default}
+use borrow.Author.Tests.{ltb-true, lt-ltb, le-ltb, eq-eqb, ne-eqb}
+use Rattle.base.specs.Cases.{lt, ge, cmp, holds, fails, test, pick}
+use Rattle.base.specs.Tests.{both, both-true}
+use Rattle.model.specs.Lists.{if_then_else_, isSome, atSlot, In}
 use Rattle.model.specs.State as state
 use Rattle.model.specs.State.{Pool}
-use Rattle.model.specs.Pool.{handleOf}
-use Rattle.model.specs.Sound.{OwnerSound, isRegionOf}
-use Rattle.laws.specs.Tree.Sum.{sum, sum-same, sum-find}
-use Rattle.laws.specs.Tree.Slots.{count-sum}
+use Rattle.model.specs.Pool.{isLive}
+use Rattle.laws.specs.Tree.Facts.{Regions}
 use Rattle.tables.specs.declared.Handle.{Handle}
 use Rattle.tables.specs.declared.Slot.{Slot}
-use Rattle.tables.specs.Tables.{Tables, noDomain, noSlot, slotAt}
+use Rattle.tables.specs.Kinds.{REGION}
+use Rattle.tables.specs.Tables.{Tables, noDomain, noSlot, slotAt, regionAt}
 use Rattle.arena.specs.Arena.{liveB}
 use Rattle.decoded.specs.Shape.{Shaped}
-use Rattle.decoded.specs.Decode.Read.{taken, capaFrom, heldIn, poolFrom, domainRead, domainsFrom, regionsFrom}
-use Rattle.decoded.specs.Canonical.Pools.{table-in}
+use Rattle.decoded.specs.Decode.Read.{taken, poolFrom, handleFrom, capaFrom, heldIn, domainRead, domainsFrom, regionRead, regionsFrom}
+use Rattle.decoded.specs.Canonical.Pools.{table-in, table-slot, table-used, regions-many}
 use Rattle.decoded.specs.Canonical.Law.{each-at}
-use Rattle.decoded.specs.Canonical.Pools.{table-in}
-use Rattle.decoded.specs.Canonical.Law.{each-at}
-use Rattle.sound_trackers.specs.Tally.{namesB}
-use Rattle.exact_trackers.specs.Carved.{region-in}
-
--- ---- what a slot names
-
-pub not-region : (n : ℕ) (h : Handle) → (n ≡ 2 → ⊥) → (k : state.Handle) → isRegionOf k (capaFrom n h) ≡ false
-not-region zero h ne k = refl
-not-region (suc zero) h ne k = refl
-not-region (suc (suc zero)) h ne k = absurd (ne refl)
-not-region (suc (suc (suc zero))) h ne k = refl
-not-region (suc (suc (suc (suc zero)))) h ne k = refl
-not-region (suc (suc (suc (suc (suc zero))))) h ne k = refl
-not-region (suc (suc (suc (suc (suc (suc n)))))) h ne k = refl
+use Rattle.sweep.specs.Slots as sweep
+use Rattle.sweep.specs.Slots.{listed}
+use Rattle.sound_pieces.specs.Pieces.{regionPieces, namesB, slotPieces, slotsPieces, domainPieces}
+use Rattle.exact_trackers.specs.Regions.{pieces-are}
 
 abbrev pub regionPool : Tables → Pool
 regionPool v = poolFrom (v .sizes .regions) (v .regionPool)
 
--- the slot has the Region capability of region i
-abbrev pub namesSlot : Tables → Slot → ℕ → Bool
-namesSlot v x i = isRegionOf (handleOf (regionPool v) i) (heldIn x)
-
-pub names-region : (v : Tables) (x : Slot) (i : ℕ) → x .kind ≡ 2 → namesSlot v x i ≡ (eqb i (x .handle .slot) && eqb (getD (v .regionPool .gens) i 0) (x .handle .generation))
-unfolding poolFrom
-names-region v x i e = ap (λ n. isRegionOf (handleOf (regionPool v) i) (capaFrom n (x .handle))) e
-
 -- ---- live handles
 
+and-both : (a b c : Bool) → both a (both b c) ≡ both a b && c
+and-both true true c = refl
+and-both true false c = refl
+and-both false b c = refl
+
 module _ (v : Tables) (shaped : Shaped v) where
-  pub live-is : (h : Handle) → h .slot < v .sizes .regions → liveB (v .regionPool) h ≡ both (taken (v .regionPool) (h .slot)) (eqb (getD (v .regionPool .gens) (h .slot) 0) (h .generation))
-  unfolding liveB
-  live-is h k = rw (lt-ltb (h .slot) (length (v .regionPool .links)) (omega (arith, shaped .regionPool .links)))
+  some-is : (i : ℕ) → isSome (atSlot (regionsFrom v) i) ≡ both (ltb i (length (v .regionPool .links))) (taken (v .regionPool) i)
+  unfolding regionsFrom
+  some-is i = elim (cmp i (v .sizes .regions)) [
+    | lt h ↦ ap isSome (table-slot (v .sizes .regions) (v .regionPool) (regionRead v) i h) ∙ by (taken (v .regionPool) i) ∙ sym (rw (lt-ltb i (length (v .regionPool .links)) (omega (arith, shaped .regionPool .links))) refl)
+    | ge h ↦ ap isSome (List·getD-eq-default (regionsFrom v) none (omega (arith, regions-many v))) ∙ sym (rw (le-ltb i (length (v .regionPool .links)) (omega (arith, shaped .regionPool .links))) refl)
+  ]
+    where
+      by : (b : Bool) → isSome (if b then some (regionRead v i) else none) ≡ b
+      by true = refl
+      by false = refl
 
-  pub live-not : (h : Handle) → v .sizes .regions ≤ h .slot → liveB (v .regionPool) h ≡ false
-  unfolding liveB
-  live-not h k = rw (le-ltb (h .slot) (length (v .regionPool .links)) (omega (arith, shaped .regionPool .links)))
+  live-is : (h : Handle) → liveB (v .regionPool) h ≡ isLive (regionPool v) (regionsFrom v) (handleFrom h)
+  unfolding liveB poolFrom
+  live-is h = and-both (ltb (h .slot) (length (v .regionPool .links))) (taken (v .regionPool) (h .slot)) (eqb (getD (v .regionPool .gens) (h .slot) 0) (h .generation)) ∙ ap (λ (b : Bool). b && eqb (getD (v .regionPool .gens) (h .slot) 0) (h .generation)) (sym (some-is (h .slot)))
 
-  two : (b c : Bool) → (b && c) ≡ true → (b ≡ true) × (c ≡ true)
-  two true c e = (refl, e)
-  two false c e = absurd (true-false e refl)
+  live-used : (h : Handle) → liveB (v .regionPool) h ≡ true → In (regionsFrom v) (h .slot) (regionRead v (h .slot))
+  unfolding liveB regionsFrom
+  live-used h t =
+      let i = h .slot in
+      let a = both-true (ltb i (length (v .regionPool .links))) _ t in
+      let b = both-true (taken (v .regionPool) i) _ (a .1) in
+      table-used (v .sizes .regions) (v .regionPool) (regionRead v) i (omega (arith, ltb-true i (length (v .regionPool .links)) (a .0), shaped .regionPool .links)) (b .0)
 
-  -- a slot that has the capability of a live region names it
-  pub names-live : (x : Slot) (i : ℕ) (g : state.Region) → In (regionsFrom v) i g → namesSlot v x i ≡ true → (namesB v x ≡ true) × (x .handle .slot ≡ i)
-  unfolding namesB
-  names-live x i g at t = elim (ℕ-discrete (x .kind) 2) [
-    | no ne ↦ absurd (true-false t (not-region (x .kind) (x .handle) ne (handleOf (regionPool v) i)))
-    | yes e ↦
-        let w = two (eqb i (x .handle .slot)) (eqb (getD (v .regionPool .gens) i 0) (x .handle .generation)) (sym (names-region v x i e) ∙ t) in
-        let z : x .handle .slot ≡ i = sym (eqb-true i (x .handle .slot) (w .0)) in
-        let r = region-in v i g at in
-        (rw (eq-eqb (x .kind) 2 e) (live-is (x .handle) (omega (arith, r .0)) ∙ rw z (both-i (taken (v .regionPool) i) (eqb (getD (v .regionPool .gens) i 0) (x .handle .generation)) (r .1) (w .1))), z)
+-- ---- one slot
+
+-- what is no Region capability has no pieces
+not-region : (rp : Pool) (rs : List (Option state.Region)) (n : ℕ) (h : Handle) → (n ≡ REGION → ⊥) → sweep.slotPieces rp rs (capaFrom n h) ≡ []
+not-region rp rs zero h ne = refl
+not-region rp rs (suc zero) h ne = refl
+not-region rp rs (suc (suc zero)) h ne = absurd (ne refl)
+not-region rp rs (suc (suc (suc zero))) h ne = refl
+not-region rp rs (suc (suc (suc (suc zero)))) h ne = refl
+not-region rp rs (suc (suc (suc (suc (suc zero))))) h ne = refl
+not-region rp rs (suc (suc (suc (suc (suc (suc n)))))) h ne = refl
+
+module _ (v : Tables) (shaped : Shaped v) (sound : Regions (regionsFrom v)) where
+  abbrev rs : List (Option state.Region)
+  rs = regionsFrom v
+
+  -- the region that a handle names, if it is live
+  handle-is : (h : Handle) → pick (liveB (v .regionPool) h) (regionPieces (regionAt v) (v .sizes .regions) (h .slot)) [] ≡ sweep.slotPieces (regionPool v) rs (capaFrom REGION h)
+  handle-is h = elim (test (liveB (v .regionPool) h)) [
+    | holds t ↦ rw (sym (live-is v shaped h), t) (pieces-are v sound (h .slot) (live-used v shaped h t))
+    | fails t ↦ rw (sym (live-is v shaped h), t) refl
   ]
 
--- ---- the slots of domain d
+  slot-is : (x : Slot) → slotPieces (v .regionPool) (regionAt v) (v .sizes .regions) x ≡ sweep.slotPieces (regionPool v) rs (heldIn x)
+  unfolding slotPieces namesB
+  slot-is x = elim (ℕ-discrete (x .kind) REGION) [
+    | yes e ↦ rw (eq-eqb (x .kind) REGION e) (handle-is (x .handle) ∙ ap (λ n. sweep.slotPieces (regionPool v) rs (capaFrom n (x .handle))) (sym e))
+    | no ne ↦ rw (ne-eqb (x .kind) REGION ne) (sym (not-region (regionPool v) rs (x .kind) (x .handle) ne))
+  ]
 
-module _ (v : Tables) (shaped : Shaped v) (d : ℕ) (x : state.Domain) (at : In (domainsFrom v) d x) where
-  held-is : x .locals .held ≡ map heldIn (getD (v .domains) d noDomain .slots)
-  unfolding domainsFrom
-  held-is = ap (λ (y : state.Domain). y .locals .held) (sym (table-in (v .sizes .domains) (v .domainPool) (domainRead v) d x at .2))
+  -- ---- the slots of a list, which stand from j on
 
-  pub domain-low : d < v .sizes .domains
-  unfolding domainsFrom
-  domain-low = table-in (v .sizes .domains) (v .domainPool) (domainRead v) d x at .0
+  slots-are : (g : ℕ → Slot) (l : List Slot) (j : ℕ) → ((k : ℕ) → g (j + k) ≡ getD l k noSlot) → slotsPieces (v .regionPool) (regionAt v) (v .sizes .regions) g (length l) j ≡ listed (regionPool v) rs (map heldIn l)
+  unfolding slotsPieces
+  slots-are g [] j h = refl
+  slots-are g (x ∷ l) j h =
+      let z : j ≡ j + 0 = omega arith in
+      let first = ap (slotPieces (v .regionPool) (regionAt v) (v .sizes .regions)) (ap g z ∙ h 0) ∙ slot-is x in
+      let rest = slots-are g l (suc j) (λ k. let z : suc j + k ≡ j + suc k = omega arith in ap g z ∙ h (suc k)) in
+      λ i. first i ++ rest i
 
-  many : length (getD (v .domains) d noDomain .slots) ≡ v .sizes .slots
-  many = each-at _ (v .domains) (shaped .slots) d noDomain (omega (arith, shaped .domains, domain-low))
+  -- ---- domain d
 
-  held-at : (j : ℕ) → j < v .sizes .slots → atSlot (x .locals .held) j ≡ heldIn (slotAt v d j)
-  unfolding slotAt
-  held-at j h =
+  pub domain-is : (d : ℕ) (x : state.Domain) → In (domainsFrom v) d x → domainPieces v d ≡ listed (regionPool v) rs (x .locals .held)
+  unfolding domainPieces slotAt domainsFrom
+  domain-is d x at =
+      let r = table-in (v .sizes .domains) (v .domainPool) (domainRead v) d x at in
       let l = getD (v .domains) d noDomain .slots in
-      ap (λ m. atSlot m j) held-is
-      ∙ getD-any (map heldIn l) j none (heldIn noSlot) (omega (arith, length-map l heldIn, many))
-      ∙ List·getD-map heldIn l j noSlot
-
-  pub named : (i : ℕ) → sum (λ j. oneIf (namesSlot v (slotAt v d j) i)) (v .sizes .slots) ≡ countIf (isRegionOf (handleOf (regionPool v) i)) (x .locals .held)
-  named i =
-      let n : length (x .locals .held) ≡ v .sizes .slots = ap length held-is ∙ length-map (getD (v .domains) d noDomain .slots) heldIn ∙ many in
-      sym (count-sum (isRegionOf (handleOf (regionPool v) i)) (x .locals .held)
-      ∙ ap (sum (λ j. oneIf (isRegionOf (handleOf (regionPool v) i) (atSlot (x .locals .held) j)))) n
-      ∙ sum-same _ _ (v .sizes .slots) (λ j h. ap (λ o. oneIf (isRegionOf (handleOf (regionPool v) i) o)) (held-at j h)))
-
-  -- a region of d's is named by a slot of d's
-  pub naming : (i : ℕ) (g : state.Region) → OwnerSound (regionPool v) (domainsFrom v) i g → g .owner ≡ d → (j : ℕ) × (j < v .sizes .slots) × (namesSlot v (slotAt v d j) i ≡ true)
-  naming i g own e =
-      let n = named i ∙ own .oneSlot d x at ∙ ap oneIf (eq-eqb (g .owner) d e) in
-      let r = sum-find (λ j. oneIf (namesSlot v (slotAt v d j) i)) (v .sizes .slots) (omega arith) in
-      (r .at, r .low, so (namesSlot v (slotAt v d (r .at)) i) (r .counts))
-    where
-      so : (b : Bool) → 0 < oneIf b → b ≡ true
-      so true h = refl
-      so false h = absurd (omega arith)
+      let many : length l ≡ v .sizes .slots = each-at _ (v .domains) (shaped .slots) d noDomain (omega (arith, shaped .domains, r .0)) in
+      ap (λ m. slotsPieces (v .regionPool) (regionAt v) (v .sizes .regions) (slotAt v d) m 0) (sym many)
+      ∙ slots-are (slotAt v d) l 0 (λ k. let z : 0 + k ≡ k = omega arith in ap (slotAt v d) z)
+      ∙ ap (λ (y : state.Domain). listed (regionPool v) rs (y .locals .held)) (r .2)

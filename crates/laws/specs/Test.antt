@@ -1,6 +1,3 @@
--- Clauses of the computed test of soundness: paths up a tree, and the points at which a tracker is tested.
+-- What tests of soundness lean on: a test of all members of a list, and paths up a tree.
 pub mod Lists
 pub mod Paths
-pub mod Floor
-pub mod Points
-pub mod Edges
