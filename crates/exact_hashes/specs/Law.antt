@@ -1,7 +1,7 @@
 -- A law: the test of the regions' hashes (document 02, request 1) is exact. It holds exactly where the clauses of `WellFormed` about them do.
 use mathlib.Core.Path.{_≡_, refl, sym, ap, _∙_}
 use mathlib.Core.Logic.{_↔_}
-use mathlib.Core.Bool.{true, false}
+use mathlib.Core.Bool.{Bool, true, false}
 use Prim.Native.Nat.{ℕ, zero, suc, _<_}
 use native.Mathlib.Omega.{arith}
 use borrow.Author.Tests.{eqb-true, eq-eqb, ne-eqb}
@@ -10,6 +10,7 @@ use Rattle.base.specs.Cases.{holds, fails, test}
 use Rattle.base.specs.Tests.{both, both-true, all-at, at-all}
 use Rattle.tables.specs.declared.RegionHash.{RegionHash}
 use Rattle.tables.specs.Tables.{Tables, noHash, hashAt}
+use Rattle.arena.specs.Arena.{isFreeB}
 use Rattle.decoded.specs.Decode.Read.{taken}
 use Rattle.decoded.specs.Canonical.WellFormed.{HashWellFormed, hashRow}
 use Rattle.decoded.specs.Canonical.Pools.{taken-used, not-taken}
@@ -69,19 +70,23 @@ zero-fits x e = zero-hash x e
 
 -- ---- all rows
 
+-- what the test asks of slot i
+abbrev holdsAt : Tables → ℕ → Bool
+holdsAt v i = rowHolds (v .regionPool .links) (hashAt v) i
+
 module _ (v : Tables) where
   hold-clauses : hashesHold v ≡ true → HashClauses v
-  unfolding hashesHold rowHolds hashAt
+  unfolding hashesHold rowHolds hashAt isFreeB
   hold-clauses h =
-      let at : (i : ℕ) → i < v .sizes .regions → rowHolds v i ≡ true = λ i b. all-at (rowHolds v) 0 (v .sizes .regions) h i (omega arith) (omega arith) in
+      let at : (i : ℕ) → i < v .sizes .regions → holdsAt v i ≡ true = λ i b. all-at (holdsAt v) 0 (v .sizes .regions) h i (omega arith) (omega arith) in
       record {
         hashesUsed = λ i b t. fits-well-formed (hashRow v i) (ap (λ f. hashFits f (hashRow v i)) (sym (taken-used (v .regionPool) i t)) ∙ at i b);
         hashesFree = λ i b t. fits-zero (hashRow v i) (ap (λ f. hashFits f (hashRow v i)) (sym (not-taken (v .regionPool) i t)) ∙ at i b);
       }
 
   clauses-hold : HashClauses v → hashesHold v ≡ true
-  unfolding hashesHold rowHolds hashAt
-  clauses-hold c = at-all (rowHolds v) 0 (v .sizes .regions) (λ i a b. elim (test (taken (v .regionPool) i)) [
+  unfolding hashesHold rowHolds hashAt isFreeB
+  clauses-hold c = at-all (holdsAt v) 0 (v .sizes .regions) (λ i a b. elim (test (taken (v .regionPool) i)) [
     | holds t ↦ ap (λ f. hashFits f (hashRow v i)) (taken-used (v .regionPool) i t) ∙ well-formed-go (hashRow v i .given) (hashRow v i) refl (c .hashesUsed i (omega arith) t)
     | fails t ↦ ap (λ f. hashFits f (hashRow v i)) (not-taken (v .regionPool) i t) ∙ zero-fits (hashRow v i) (c .hashesFree i (omega arith) t)
   ])

@@ -1,11 +1,11 @@
 -- A law: the test of the region tree is exact. Tables that pass it have the clauses of the tree, where the pools have passed theirs; and tables
 -- that are well formed and sound pass it.
-use mathlib.Core.Path.{_≡_, refl, ap, subst, _∙_}
+use mathlib.Core.Path.{_≡_, ap, subst, _∙_}
 use mathlib.Core.Logic.{_⊎_, inl, inr}
-use mathlib.Core.Bool.{Bool, true}
+use mathlib.Core.Bool.{true}
 use mathlib.Core.Option.{Option, some}
 use mathlib.Core.List.{List}
-use Prim.Native.Nat.{ℕ, zero, suc, _-_, _≤_, _<_}
+use Prim.Native.Nat.{ℕ, suc, _-_, _≤_, _<_}
 use native.Mathlib.Omega.{arith}
 use lib.ListN.{replicate}
 use Rattle.base.specs.Tests.{both-true}
@@ -23,8 +23,8 @@ use Rattle.decoded.specs.Shape.{Shaped}
 use Rattle.decoded.specs.Decode.Read.{kindFrom, taken, regionRead, regionsFrom, stateOf}
 use Rattle.decoded.specs.Canonical.WellFormed.{OutsideWellFormed, RegionWellFormed, regionRow}
 use Rattle.decoded.specs.Canonical.Sound.{parent-is}
-use Rattle.sound_tree.specs.Tree.{oneIf, tallyFrom, isChild, childCount, rowsHold, listsHold, rootsHold, treeHolds}
-use Rattle.sound_tree.specs.Turns.{one-few}
+use Rattle.sound_tree.specs.Tree.{isChild, childCount, rowsHold, listsHold, rootsHold, treeHolds}
+use Rattle.sound_tree.specs.Turns.{tally-few}
 use Rattle.exact_tree.specs.Lists.{many, Listed, lists-facts, facts-lists, tells, child-sum}
 use Rattle.exact_tree.specs.Rows.{Used, used, blank, PoolClauses, RegionWords, slot, RowFacts, rows-facts, facts-rows}
 use Rattle.exact_tree.specs.Roots.{roots-lead, climbs-all}
@@ -36,10 +36,6 @@ use Rattle.exact_tree.specs.Back.{rows-of, listed, members, climb-any}
 pub record TreeClauses (v : Tables) : Type 0 where
   pub regionsUsed : (i : ℕ) → i < v .sizes .regions → taken (v .regionPool) i ≡ true → RegionWellFormed (regionRow v i)
   pub regions : (i : ℕ) (g : state.Region) → In (stateOf v .regions) i g → RegionSound (stateOf v .regions) i g
-
-few-children : (f : ℕ → Bool) (m k : ℕ) → tallyFrom f m k ≤ m
-few-children f zero k = omega arith
-few-children f (suc m) k = omega (arith, few-children f m (suc k), one-few (oneIf (f k)) (f k) refl)
 
 -- the way on from a region that leads to a root
 leads-on : (rs : List (Option state.Region)) (i p : ℕ) (g : state.Region) → In rs i g → parentOf (g .kind) ≡ some p → Rooted rs i → Rooted rs p
@@ -61,7 +57,7 @@ module _ (v : Tables) (s : Shaped v) (pools : PoolClauses v) (t : treeHolds v �
 
   lists : (sum (many (regionRow v) size) size ≡ childCount (regionRow v) size) × ((j : ℕ) → 0 ≤ j → j < size → Listed (regionRow v) size j)
   unfolding listsHold regionAt childCount
-  lists = lists-facts (regionRow v) size size 0 (childCount (regionRow v) size) (childCount (regionRow v) size) (few-children (isChild (regionRow v)) size 0) (parts .1) (omega arith) (omega arith)
+  lists = lists-facts (regionRow v) size size 0 (childCount (regionRow v) size) (childCount (regionRow v) size) (tally-few (isChild (regionRow v)) size 0) (parts .1) (omega arith) (omega arith)
 
   below : (k : ℕ) → k < size → Listed (regionRow v) size k
   below k b = lists .1 k (omega arith) b

@@ -1,22 +1,23 @@
 -- The test of the rows: what it says of each region in use, and that it says no more.
-use mathlib.Core.Path.{_≡_, refl, sym, ap, _∙_}
+use mathlib.Core.Path.{_≡_, refl}
 use mathlib.Core.Bool.{Bool, true, false}
-use Prim.Native.Nat.{ℕ, zero, suc, _+_, _-_, _≤_, _<_}
+use Prim.Native.Nat.{ℕ, _-_, _≤_, _<_}
 use native.Mathlib.Omega.{arith}
 use borrow.Author.Tests.{eqb-true, eqb-false, ltb-true, leb-true, eq-eqb, ne-eqb, lt-ltb, le-leb}
 use lib.Dec.{eqb, ltb}
 use lib.ListN.{List·getD-eq-default}
 use Rattle.base.specs.Cases.{lt, ge, cmp, holds, fails, test}
-use Rattle.base.specs.Tests.{both, both-true, true-false}
+use Rattle.base.specs.Tests.{both, both-true, true-false, all-at, at-all}
 use Rattle.rights.specs.Rights.{allowed}
 use Rattle.model.specs.State.{Word, HashWords}
 use Rattle.tables.specs.declared.RegionCapa.{RegionCapa}
 use Rattle.tables.specs.Tables.{Tables, noRegion, regionAt}
+use Rattle.arena.specs.Arena.{isFreeB}
 use Rattle.decoded.specs.Shape.{Shaped}
 use Rattle.decoded.specs.Decode.Read.{taken, hashFrom}
 use Rattle.decoded.specs.Canonical.WellFormed.{regionRow, hashRow}
 use Rattle.decoded.specs.Canonical.Pools.{taken-used, not-taken}
-use Rattle.sound_tree.specs.Tree.{allFrom, rightsFit, inParent, placeFits, rowFits, regionFits, rowsHold}
+use Rattle.sound_tree.specs.Tree.{rightsFit, inParent, placeFits, rowFits, regionFits, slotFits, rowsHold}
 
 -- ---- slots in use
 
@@ -106,6 +107,10 @@ fits-facts g e =
     let c = both-true _ _ (b .1) in
     (leb-true _ _ (k .0), leb-true _ _ (k .1), ltb-true _ _ (b .0), ltb-true _ _ (c .0), ltb-true _ _ (c .1))
 
+-- what the test asks of slot i
+abbrev fits : Tables → ℕ → Bool
+fits v i = slotFits (v .regionPool .links) (regionAt v) i
+
 module _ (v : Tables) (i : ℕ) where
   abbrev own : RegionCapa
   own = regionRow v i
@@ -113,8 +118,8 @@ module _ (v : Tables) (i : ℕ) where
   abbrev up : RegionCapa
   up = regionRow v (own .parent - 1)
 
-  row-facts : Used v i → regionFits v i ≡ true → RowFacts v i
-  unfolding regionFits regionAt
+  row-facts : Used v i → fits v i ≡ true → RowFacts v i
+  unfolding slotFits regionFits regionAt isFreeB
   row-facts u e =
       let f : both (rowFits own) (placeFits own up) ≡ true = rw (taken-used (v .regionPool) i (u .is)) at e in
       let a = both-true (rowFits own) (placeFits own up) f in
@@ -143,8 +148,8 @@ module _ (v : Tables) (i : ℕ) where
       two : (k : ℕ) → (k ≡ 1 → ⊥) → 1 ≤ k → 2 ≤ k
       two k ne h = elim (cmp k 2) [ lt u ↦ absurd (ne (omega arith)) | ge u ↦ u ]
 
-  facts-row : (Used v i → RowFacts v i) → i < v .sizes .regions → regionFits v i ≡ true
-  unfolding regionFits regionAt rowFits
+  facts-row : (Used v i → RowFacts v i) → i < v .sizes .regions → fits v i ≡ true
+  unfolding slotFits regionFits regionAt rowFits isFreeB
   facts-row h b = elim (test (taken (v .regionPool) i)) [
     | fails t ↦ rw (not-taken (v .regionPool) i t)
     | holds t ↦
@@ -154,25 +159,11 @@ module _ (v : Tables) (i : ℕ) where
 
 -- ---- all rows
 
-all-at : (f : ℕ → Bool) (m k i : ℕ) → allFrom f m k ≡ true → k ≤ i → i < k + m → f i ≡ true
-all-at f zero k i e h b = absurd (omega arith)
-all-at f (suc m) k i e h b = elim (test (f k)) [
-  | fails t ↦ absurd (true-false (rw t at e) refl)
-  | holds t ↦ elim (cmp k i) [
-    | lt u ↦ all-at f m (suc k) i (rw t at e) u (omega arith)
-    | ge u ↦ let z : k ≡ i = omega arith in ap f (sym z) ∙ t
-  ]
-]
-
-at-all : (f : ℕ → Bool) (m k : ℕ) → ((i : ℕ) → i < k + m → f i ≡ true) → allFrom f m k ≡ true
-at-all f zero k h = refl
-at-all f (suc m) k h = rw (h k (omega arith)) (at-all f m (suc k) (λ i b. h i (omega arith)))
-
 module _ (v : Tables) where
   pub rows-facts : rowsHold v ≡ true → (i : ℕ) → Used v i → RowFacts v i
   unfolding rowsHold
-  rows-facts e i u = row-facts v i u (all-at (regionFits v) (v .sizes .regions) 0 i e (omega arith) (omega (arith, u .below)))
+  rows-facts e i u = row-facts v i u (all-at (fits v) 0 (v .sizes .regions) e i (omega arith) (omega (arith, u .below)))
 
   pub facts-rows : ((i : ℕ) → Used v i → RowFacts v i) → rowsHold v ≡ true
   unfolding rowsHold
-  facts-rows h = at-all (regionFits v) (v .sizes .regions) 0 (λ i b. facts-row v i (h i) (omega arith))
+  facts-rows h = at-all (fits v) 0 (v .sizes .regions) (λ i a b. facts-row v i (h i) (omega arith))

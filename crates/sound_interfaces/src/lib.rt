@@ -1,6 +1,7 @@
 // The test of the domains' interfaces in lent tables (document 02, request 2). Any words may stand in the tables.
 ghost use mathlib.Core.Path.{_≡_};
 ghost use Rattle.tables.specs.View.{view, Sized};
+ghost use Rattle.sections.specs.Rows.{interfaceIn};
 ghost use Rattle.sound_interfaces.specs.Interfaces.{interfaceFits, rowHolds, interfacesHold};
 use pools::Pool;
 use tables::Interface;
@@ -14,12 +15,11 @@ fn interface_fits(free: bool, x: Interface) -> bool
     x.frozen <= 1
 }
 
-fn row_holds(t: &[u64], i: usize) -> bool
-    requires { ⌜ Sized (now t) ⌝ }
-    ensures { λ r. ⌜ r ≡ rowHolds (view (now (t .entry))) i ⌝ }
+fn row_holds(links: &[u64], p: &[u64], i: usize) -> bool
+    ensures { λ r. ⌜ r ≡ rowHolds (now (links .entry)) (interfaceIn (now (p .entry))) i ⌝ }
 {
-    let free = pools::is_free_in(t, Pool::Domains, i);
-    interface_fits(free, tables::load_interface(t, i))
+    let free = 0 < words::word(links, i);
+    interface_fits(free, sections::interface_in(p, i))
 }
 
 // Whether each domain in use has a word that is frozen or not, and each free slot two zeros.
@@ -28,9 +28,11 @@ pub fn interfaces_hold(t: &[u64]) -> bool
     ensures { λ r. ⌜ r ≡ interfacesHold (view (now (t .entry))) ⌝ }
 {
     let n = words::size(t, sizes::DOMAINS);
+    let links = sections::links_of(t, Pool::Domains);
+    let p = sections::interfaces_of(t);
     let mut i = 0;
     while i < n {
-        let holds = row_holds(t, i);
+        let holds = row_holds(links, p, i);
         if !holds {
             return false;
         }

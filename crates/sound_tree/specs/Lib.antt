@@ -1,3 +1,4 @@
 pub mod Tree
 pub mod Turns
 pub mod Ways
+pub mod Whole

@@ -7,19 +7,13 @@ use Prim.Native.Nat.{ℕ, zero, suc, _+_, _-_}
 use lib.Dec.{eqb, leb, ltb}
 use lib.ListN.{getD, set, replicate, drop}
 use Rattle.base.specs.Cases.{pick}
-use Rattle.base.specs.Tests.{both}
+use Rattle.base.specs.Tests.{both, allFrom}
 use Rattle.rights.specs.Rights.{allowed}
 use Rattle.tables.specs.declared.RegionCapa.{RegionCapa}
 use Rattle.tables.specs.Kinds.{ROOT, ALIAS, CARVE}
 use Rattle.tables.specs.Tables.{Tables, regionAt}
 use Rattle.sizes.specs.Sizes.{total}
-use Rattle.arena.specs.Arena.{isFreeB}
 use Rattle.sound_tree.specs.declared.Run.{Run}
-
--- the test at n slots, from slot k on
-abbrev pub allFrom : (ℕ → Bool) → ℕ → ℕ → Bool
-allFrom f zero k = true
-allFrom f (suc n) k = pick (f k) (allFrom f n (suc k)) false
 
 -- 1 where the test holds, else 0
 unfoldable pub oneIf : Bool → ℕ
@@ -48,9 +42,13 @@ placeFits g h = pick (eqb (g .kind) ROOT) (both (eqb (g .parent) 0) (eqb (g .nex
 unfoldable pub rowFits : RegionCapa → Bool
 rowFits g = both (both (leb ROOT (g .kind)) (leb (g .kind) CARVE)) (both (ltb 0 (g .owner)) (both (ltb (g .start) (g .end)) (ltb (g .rights) 256)))
 
--- a region in use
-unfoldable pub regionFits : Tables → ℕ → Bool
-regionFits v i = pick (isFreeB (v .regionPool) i) true (both (rowFits (regionAt v i)) (placeFits (regionAt v i) (regionAt v (regionAt v i .parent - 1))))
+-- the row g of a slot that is free, or of a region in use
+unfoldable pub regionFits : (ℕ → RegionCapa) → Bool → RegionCapa → Bool
+regionFits row free g = pick free true (both (rowFits g) (placeFits g (row (g .parent - 1))))
+
+-- slot i, by the links of the pool and the rows
+unfoldable pub slotFits : List ℕ → (ℕ → RegionCapa) → ℕ → Bool
+slotFits links row i = regionFits row (ltb 0 (getD links i 0)) (row i)
 
 -- ---- child lists
 
@@ -95,6 +93,11 @@ isChild row i = ltb ROOT (row i .kind)
 unfoldable pub childCount : (ℕ → RegionCapa) → ℕ → ℕ
 childCount row n = tallyFrom (isChild row) n 0
 
+-- The children counted while n rows from slot k on are tested, `many` before them: one more than there are; 0 where a row is not fit.
+abbrev pub countFrom : List ℕ → (ℕ → RegionCapa) → ℕ → ℕ → ℕ → ℕ
+countFrom links row many zero k = many + 1
+countFrom links row many (suc n) k = pick (slotFits links row k) (countFrom links row (many + oneIf (isChild row k)) n (suc k)) 0
+
 -- ---- "without circles"
 
 -- The words w have 1 for a region that is known to lead to a root.
@@ -116,9 +119,10 @@ abbrev pub rootedFrom : (ℕ → RegionCapa) → ℕ → List ℕ → ℕ → �
 rootedFrom row m w zero k = true
 rootedFrom row m w (suc n) k = pick (climbFrom row w m k) (rootedFrom row m (markFrom row w m k) n (suc k)) false
 
--- the words w without those that stand for the regions of the tables t
-unfoldable pub beyond : List ℕ → List ℕ → List ℕ
-beyond t w = drop (getD t 2 0) w
+-- the words that this leaves
+abbrev pub marksFrom : (ℕ → RegionCapa) → ℕ → List ℕ → ℕ → ℕ → List ℕ
+marksFrom row m w zero k = w
+marksFrom row m w (suc n) k = pick (climbFrom row w m k) (marksFrom row m (markFrom row w m k) n (suc k)) w
 
 -- the first n words 0
 unfoldable pub cleared : ℕ → List ℕ → List ℕ
@@ -127,7 +131,7 @@ cleared n w = replicate n 0 ++ drop n w
 -- ---- the whole
 
 unfoldable pub rowsHold : Tables → Bool
-rowsHold v = allFrom (regionFits v) (v .sizes .regions) 0
+rowsHold v = allFrom (slotFits (v .regionPool .links) (regionAt v)) 0 (v .sizes .regions)
 
 unfoldable pub listsHold : Tables → Bool
 listsHold v = listsFrom (regionAt v) (childCount (regionAt v) (v .sizes .regions)) (v .sizes .regions) 0

@@ -3,48 +3,19 @@ use mathlib.Core.Path.{_≡_, refl, sym, _∙_}
 use mathlib.Core.Bool.{Bool, true, false}
 use mathlib.Core.List.{List}
 use Prim.Native.Nat.{ℕ, zero, suc, _+_, _-_, _<_, _≤_}
-use native.Mathlib.Nat.{zero-add}
 use native.Mathlib.Numerals.{add-one}
 use native.Mathlib.Omega.{arith}
 use borrow.Author.Tests.{lt-ltb}
 use lib.Dec.{eqb, ltb}
-use lib.ListN.{length, getD}
-use Rattle.base.specs.Cases.{pick}
-use Rattle.words.specs.Cuts.{offset}
+use lib.ListN.{getD}
+use Rattle.base.specs.Cases.{pick, test, holds, fails}
+use Rattle.base.specs.Tests.{allFrom}
 use Rattle.tables.specs.declared.RegionCapa.{RegionCapa}
-use Rattle.tables.specs.Tables.{regionAt}
-use Rattle.sizes.specs.Sizes.{sizesOf, total}
-use Rattle.tables.specs.View.{view, Sized}
-use Rattle.tables.specs.Header.{regions-seen}
+use Rattle.tables.specs.Kinds.{ROOT}
 use Rattle.sound_tree.specs.declared.Run.{Run}
-use Rattle.sound_tree.specs.Tree.{allFrom, oneIf, tallyFrom, regionFits, rowsHold, isChild, childCount, listsHold, childFits, after, walkFrom, walked, listsFrom}
+use Rattle.sound_tree.specs.Tree.{oneIf, tallyFrom, regionFits, slotFits, isChild, countFrom, childFits, after, walkFrom, walked, listsFrom}
 
-pub regions-few : (t : List ℕ) (n : ℕ) → Sized t → n ≡ getD t 2 0 → n ≤ 1024
-unfolding sizesOf
-regions-few t n s e = omega (arith, s .limits .regions-high)
-
--- there are fewer regions than words
-pub regions-fit : (t : List ℕ) (n : ℕ) → Sized t → n ≡ getD t 2 0 → n ≤ length t
-unfolding sizesOf total offset
-regions-fit t n s e = omega (arith, s .exact)
-
--- ---- over the slots
-
-module _ (f : ℕ → Bool) (n i : ℕ) where
-  pub all-turn : (b : Bool) → i < n → b ≡ f i → b ≡ true → allFrom f (n - (i + 1)) (i + 1) ≡ allFrom f (n - i) i
-  all-turn b h e y = let k : n - i ≡ suc (n - suc i) = omega arith in rw (k, add-one, ← e, y)
-
-  pub all-stop : (b : Bool) → i < n → b ≡ f i → b ≡ false → false ≡ allFrom f (n - i) i
-  all-stop b h e y = let k : n - i ≡ suc (n - suc i) = omega arith in rw (k, ← e, y)
-
-  pub all-end : n ≤ i → true ≡ allFrom f (n - i) i
-  all-end h = let k : n - i ≡ 0 = omega arith in rw k
-
-  pub tally-turn : i < n → tallyFrom f (n - i) i ≡ oneIf (f i) + tallyFrom f (n - (i + 1)) (i + 1)
-  tally-turn h = let k : n - i ≡ suc (n - suc i) = omega arith in rw (k, add-one)
-
-  pub tally-end : n ≤ i → tallyFrom f (n - i) i ≡ 0
-  tally-end h = let k : n - i ≡ 0 = omega arith in rw k
+-- ---- the rows
 
 few : (b : Bool) → oneIf b ≤ 1
 unfolding oneIf
@@ -54,21 +25,39 @@ few false = omega arith
 pub one-few : (m : ℕ) (b : Bool) → m ≡ oneIf b → m ≤ 1
 one-few m b e = omega (arith, few b)
 
-pub rows-begin : (t : List ℕ) (n : ℕ) → n ≡ getD t 2 0 → allFrom (regionFits (view t)) (n - 0) 0 ≡ rowsHold (view t)
-unfolding rowsHold
-rows-begin t n e = let k : n - 0 ≡ view t .sizes .regions = omega (arith, regions-seen t n e) in rw k
+pub tally-few : (f : ℕ → Bool) (n k : ℕ) → tallyFrom f n k ≤ n
+tally-few f zero k = omega arith
+tally-few f (suc n) k = omega (arith, few (f k), tally-few f n (suc k))
 
-pub count-begin : (row : ℕ → RegionCapa) (n : ℕ) → 0 + tallyFrom (isChild row) (n - 0) 0 ≡ childCount row n
-unfolding childCount
-count-begin row n = let k : n - 0 ≡ n = omega arith in rw (k, zero-add)
+module _ (links : List ℕ) (row : ℕ → RegionCapa) where
+  -- row g of slot i, which is free or not, is fit or not
+  module _ (n i many : ℕ) (free b : Bool) (g : RegionCapa) (h : i < n) (eg : g ≡ row i) (ef : free ≡ ltb 0 (getD links i 0)) (eb : b ≡ regionFits row free g) where
+    fit : b ≡ slotFits links row i
+    unfolding slotFits
+    fit = eb ∙ rw (eg, ef)
 
-pub count-turn : (row : ℕ → RegionCapa) (n i many m x : ℕ) (r : RegionCapa) → i < n → r ≡ row i → m ≡ oneIf (ltb 1 (r .kind)) → many + tallyFrom (isChild row) (n - i) i ≡ x → many + m + tallyFrom (isChild row) (n - (i + 1)) (i + 1) ≡ x
-count-turn row n i many m x r h e f g =
-    let u : m ≡ oneIf (isChild row i) = f ∙ rw e in
-    omega (arith, tally-turn (isChild row) n i h)
+    pub count-turn : (m : ℕ) → b ≡ true → m ≡ oneIf (ltb ROOT (g .kind)) → countFrom links row (many + m) (n - (i + 1)) (i + 1) ≡ countFrom links row many (n - i) i
+    count-turn m y e =
+        let k : n - i ≡ suc (n - suc i) = omega arith in
+        let u : m ≡ oneIf (isChild row i) = e ∙ rw eg in
+        rw (k, add-one, ← fit, y, u)
 
-pub count-end : (row : ℕ → RegionCapa) (n i many x : ℕ) → n ≤ i → many + tallyFrom (isChild row) (n - i) i ≡ x → many ≡ x
-count-end row n i many x h g = omega (arith, tally-end (isChild row) n i h)
+    pub count-stop : b ≡ false → 0 ≡ countFrom links row many (n - i) i
+    count-stop y = let k : n - i ≡ suc (n - suc i) = omega arith in rw (k, ← fit, y)
+
+  pub count-end : (n i many : ℕ) → n ≤ i → many + 1 ≡ countFrom links row many (n - i) i
+  count-end n i many h = let k : n - i ≡ 0 = omega arith in rw k
+
+  -- the rows tested, and the children counted
+  pub count-is : (many n k : ℕ) → countFrom links row many n k ≡ pick (allFrom (slotFits links row) k n) (many + tallyFrom (isChild row) n k + 1) 0
+  unfolding allFrom
+  count-is many zero k = omega arith
+  count-is many (suc n) k =
+      let z : many + oneIf (isChild row k) + tallyFrom (isChild row) n (suc k) ≡ many + (oneIf (isChild row k) + tallyFrom (isChild row) n (suc k)) = omega arith in
+      elim (test (slotFits links row k)) [
+        | holds t ↦ rw (t, ← z) (count-is (many + oneIf (isChild row k)) n (suc k))
+        | fails t ↦ rw t
+      ]
 
 -- ---- a child list
 
@@ -115,13 +104,6 @@ module _ (row : ℕ → RegionCapa) (n left i m : ℕ) (h : i < n) (e : m ≡ wa
 
   pub lists-stop : m ≡ 0 → false ≡ listsFrom row left (n - i) i
   lists-stop z = let k : n - i ≡ suc (n - suc i) = omega arith in rw (k, ← e, z)
-
-pub lists-begin : (t : List ℕ) (n left : ℕ) → n ≡ getD t 2 0 → left ≡ childCount (regionAt (view t)) n → listsFrom (regionAt (view t)) left (n - 0) 0 ≡ listsHold (view t)
-unfolding listsHold
-lists-begin t n left e f =
-    let k : n - 0 ≡ n = omega arith in
-    let z : n ≡ view t .sizes .regions = regions-seen t n e in
-    rw (k, f, z)
 
 pub lists-end : (row : ℕ → RegionCapa) (n left i : ℕ) → n ≤ i → eqb left 0 ≡ listsFrom row left (n - i) i
 lists-end row n left i h = let k : n - i ≡ 0 = omega arith in rw k

@@ -1,26 +1,20 @@
 -- The ways up that the test follows: one turn of each loop, and where the marks stand.
 use mathlib.Core.Path.{_≡_, refl, sym, ap, _∙_}
 use mathlib.Core.Bool.{Bool, true, false}
-use mathlib.Core.List.{List, [], _++_}
+use mathlib.Core.List.{List, _++_}
 use Prim.Native.Nat.{ℕ, zero, suc, _+_, _-_, _<_, _≤_}
 use native.Mathlib.Numerals.{add-one}
 use native.Mathlib.Omega.{arith}
 use borrow.Author.Tests.{lt-ltb}
 use lib.Dec.{ltb}
 use borrow.Rule.Slice.PartMut.{putMid}
-use lib.ListN.{length, getD, set, replicate, take, drop, length-take, length-replicate, replicate-append-replicate, List·getD-eq-default}
+use lib.ListN.{length, getD, set, replicate, take, drop, length-take, length-replicate, replicate-append-replicate}
 use lib.Seq.{sets-eq, drop-set-lt}
-use Rattle.base.specs.Cases.{pick, cmp, lt, ge}
+use Rattle.base.specs.Cases.{pick, cmp, lt, ge, test, holds, fails}
 use Rattle.words.specs.Runs.{lent-back}
-use Rattle.words.specs.Rows.{length-rows}
-use Rattle.words.specs.Cuts.{cuts}
 use Rattle.words.specs.Zeros.{zeros, drop-zeros}
 use Rattle.tables.specs.declared.RegionCapa.{RegionCapa}
-use Rattle.tables.specs.Tables.{regionAt, noRegion}
-use Rattle.sizes.specs.Sizes.{sizesOf, widths, total}
-use Rattle.tables.specs.View.{view, ofParts, regionOf, Sized}
-use Rattle.sound_tree.specs.Tree.{stops, climbFrom, markFrom, rootedFrom, rootsHold, beyond, cleared}
-use Rattle.sound_tree.specs.Turns.{regions-fit}
+use Rattle.sound_tree.specs.Tree.{stops, climbFrom, markFrom, rootedFrom, marksFrom, cleared}
 
 -- a row that is no child's stops the way
 pub stop-low : (row : ℕ → RegionCapa) (w : List ℕ) (j : ℕ) → row j .kind < 2 → stops row w j ≡ true
@@ -61,36 +55,38 @@ module _ (row : ℕ → RegionCapa) (n i : ℕ) (w : List ℕ) (b : Bool) (h : i
   pub roots-stop : b ≡ false → false ≡ rootedFrom row n w (n - i) i
   roots-stop y = let k : n - i ≡ suc (n - suc i) = omega arith in rw (k, ← e, y)
 
+  pub marks-turn : (u : List ℕ) → b ≡ true → u ≡ markFrom row w n i → marksFrom row n u (n - (i + 1)) (i + 1) ≡ marksFrom row n w (n - i) i
+  marks-turn u y f = let k : n - i ≡ suc (n - suc i) = omega arith in rw (k, add-one, ← e, y, f)
+
+  pub marks-stop : b ≡ false → w ≡ marksFrom row n w (n - i) i
+  marks-stop y = let k : n - i ≡ suc (n - suc i) = omega arith in rw (k, ← e, y)
+
 pub roots-end : (row : ℕ → RegionCapa) (n i : ℕ) (w : List ℕ) → n ≤ i → true ≡ rootedFrom row n w (n - i) i
 roots-end row n i w h = let k : n - i ≡ 0 = omega arith in rw k
 
--- no region is marked at first
-pub roots-begin : (t w : List ℕ) (n : ℕ) → Sized t → length w ≡ length t → w ≡ replicate (length w) 0 → n ≡ getD t 2 0 → rootedFrom (regionAt (view t)) n w (n - 0) 0 ≡ rootsHold (view t)
-unfolding rootsHold view ofParts sizesOf
-roots-begin t w n s long clear e =
-    let z : w ≡ replicate (total (sizesOf t)) 0 = clear ∙ ap (λ k. replicate k 0) (long ∙ s .exact) in
-    let k : n - 0 ≡ n = omega arith in
-    rw (k, e, z)
+pub marks-end : (row : ℕ → RegionCapa) (n i : ℕ) (w : List ℕ) → n ≤ i → w ≡ marksFrom row n w (n - i) i
+marks-end row n i w h = let k : n - i ≡ 0 = omega arith in rw k
 
--- ---- marks stand in the words of the regions, and are cleared there
+-- ---- where no row from n on is a child's, marks stand in the first n words, and are cleared there
 
-none-outside : (t : List ℕ) (j : ℕ) → getD t 2 0 ≤ j → regionAt (view t) j .kind < 2
-unfolding regionAt view ofParts sizesOf
-none-outside t j h =
-    let e = List·getD-eq-default (view t .regions) noRegion {n = j} (omega (arith, length-rows 8 (getD t 2 0) regionOf (getD (cuts (widths (sizesOf t)) t) 5 []))) in
-    omega (arith, ap (λ (r : RegionCapa). r .kind) e)
+module _ (row : ℕ → RegionCapa) (n : ℕ) (none : (j : ℕ) → n ≤ j → row j .kind < 2) where
+  mark-beyond : (w : List ℕ) (m j : ℕ) → drop n (markFrom row w m j) ≡ drop n w
+  mark-beyond w zero j = refl
+  mark-beyond w (suc m) j = elim (cmp j n) [
+    | ge h ↦ rw (stop-low row w j (none j h))
+    | lt h ↦ kept (stops row w j) (mark-beyond (set w j 1) m (row j .parent - 1) ∙ drop-set-lt n w j 1 h)
+  ]
+    where
+      kept : (b : Bool) → drop n (markFrom row (set w j 1) m (row j .parent - 1)) ≡ drop n w → drop n (pick b w (markFrom row (set w j 1) m (row j .parent - 1))) ≡ drop n w
+      kept true e = refl
+      kept false e = e
 
-pub mark-beyond : (t w : List ℕ) (m j : ℕ) → beyond t (markFrom (regionAt (view t)) w m j) ≡ beyond t w
-unfolding beyond
-mark-beyond t w zero j = refl
-mark-beyond t w (suc m) j = elim (cmp j (getD t 2 0)) [
-  | ge h ↦ rw (stop-low (regionAt (view t)) w j (none-outside t j h))
-  | lt h ↦ kept (stops (regionAt (view t)) w j) (mark-beyond t (set w j 1) m (regionAt (view t) j .parent - 1) ∙ drop-set-lt (getD t 2 0) w j 1 h)
-]
-  where
-    kept : (b : Bool) → drop (getD t 2 0) (markFrom (regionAt (view t)) (set w j 1) m (regionAt (view t) j .parent - 1)) ≡ drop (getD t 2 0) w → drop (getD t 2 0) (pick b w (markFrom (regionAt (view t)) (set w j 1) m (regionAt (view t) j .parent - 1))) ≡ drop (getD t 2 0) w
-    kept true e = refl
-    kept false e = e
+  pub marks-beyond : (m : ℕ) (w : List ℕ) (k i : ℕ) → drop n (marksFrom row m w k i) ≡ drop n w
+  marks-beyond m w zero i = refl
+  marks-beyond m w (suc k) i = elim (test (climbFrom row w m i)) [
+    | holds t ↦ rw t (marks-beyond m (markFrom row w m i) k (suc i) ∙ mark-beyond w m i)
+    | fails t ↦ rw t
+  ]
 
 pub first-cleared : (w p : List ℕ) (n : ℕ) → n ≤ length w → p ≡ replicate (length (take (n - 0) (drop 0 w))) 0 → putMid 0 (n - 0) w p ≡ cleared n w
 unfolding cleared
@@ -102,10 +98,9 @@ first-cleared w p n h e =
     lent-back w p 0 (n - 0) n (omega arith) k (omega arith) ∙ sets-eq p w 0 (omega arith) ∙ rw (o, z)
 
 -- clearing them leaves the words as they were at first
-pub all-cleared : (t u w x : List ℕ) (n : ℕ) → Sized t → length w ≡ length t → w ≡ replicate (length w) 0 → n ≡ getD t 2 0 → beyond t u ≡ beyond t w → x ≡ cleared n u → x ≡ w
-unfolding beyond cleared
-all-cleared t u w x n s long clear e b c =
-    let f = regions-fit t n s e in
+pub all-cleared : (u w x : List ℕ) (n : ℕ) → n ≤ length w → w ≡ replicate (length w) 0 → drop n u ≡ drop n w → x ≡ cleared n u → x ≡ w
+unfolding cleared
+all-cleared u w x n f clear b c =
     let z : length w ≡ n + (length w - n) = omega arith in
     let d : drop n w ≡ zeros (length w - n) = ap (drop n) (clear ∙ ap zeros z) ∙ drop-zeros n (length w - n) in
-    c ∙ ap (λ (l : List ℕ). replicate n 0 ++ l) (rw (← e) at b ∙ d) ∙ replicate-append-replicate n (length w - n) 0 ∙ ap zeros (sym z) ∙ sym clear
+    c ∙ ap (λ (l : List ℕ). replicate n 0 ++ l) (b ∙ d) ∙ replicate-append-replicate n (length w - n) 0 ∙ ap zeros (sym z) ∙ sym clear

@@ -3,6 +3,7 @@ ghost use mathlib.Core.Path.{_≡_};
 ghost use lib.ListN.{length, replicate};
 ghost use Rattle.tables.specs.View.{view, Sized};
 ghost use Rattle.sound_tree.specs.Tree.{treeHolds};
+use pools::Pool;
 
 mod lists;
 mod roots;
@@ -23,10 +24,14 @@ pub fn tree_holds(t: &[u64], w: &mut [u64]) -> bool
     ensures { λ r. ⌜ r ≡ treeHolds (view (now (t .entry))) ⌝ }
     ensures { λ _. ⌜ now (w .exit) ≡ now (w .entry) ⌝ }
 {
-    if rows::rows_hold(t) {
-        if lists::lists_hold(t) {
-            let rooted = roots::roots_hold(t, w);
-            roots::clear_first(w, words::size(t, sizes::REGIONS));
+    let n = words::size(t, sizes::REGIONS);
+    let p = sections::regions_of(t);
+    let links = sections::links_of(t, Pool::Regions);
+    let many = rows::count_children(links, p, n);
+    if 0 < many {
+        if lists::lists_hold(p, n, many - 1) {
+            let rooted = roots::roots_hold(p, w, n);
+            roots::clear_first(w, n);
             return rooted;
         }
     }

@@ -1,9 +1,8 @@
 // The child lists: all of them together have each region that is not a root once.
 ghost use mathlib.Core.Path.{_≡_};
-ghost use Prim.Native.Nat.{_+_, _<_, _≤_};
-ghost use Rattle.tables.specs.Tables.{regionAt};
-ghost use Rattle.tables.specs.View.{view, Sized};
-ghost use Rattle.sound_tree.specs.Tree.{oneIf, larger, after, floorOf, childFits, walked, childCount, listsHold};
+ghost use Prim.Native.Nat.{_<_, _≤_};
+ghost use Rattle.sections.specs.Rows.{regionIn};
+ghost use Rattle.sound_tree.specs.Tree.{larger, after, floorOf, childFits, walked, listsFrom};
 use crate::Run;
 use tables::RegionCapa;
 
@@ -49,13 +48,12 @@ fn child_fits(own: u64, s: Run, r: RegionCapa) -> bool
 }
 
 // What is left of `left` children behind the list of region k, and one more; 0 where the list is not fit.
-fn walk(t: &[u64], left: usize, k: usize) -> usize
-    requires { ⌜ Sized (now t) ⌝ }
+fn walk(p: &[u64], left: usize, k: usize) -> usize
     requires { ⌜ (left ≤ 1024) × (k < 1024) ⌝ }
-    ensures { λ r. ⌜ r ≡ walked (regionAt (view (now (t .entry)))) left k ⌝ }
+    ensures { λ r. ⌜ r ≡ walked (regionIn (now (p .entry))) left k ⌝ }
 {
     let own = (k + 1) as u64;
-    let first = tables::load_region(t, k);
+    let first = sections::region_in(p, k);
     let mut link = first.child;
     let mut n = left;
     let mut s = Run {
@@ -67,7 +65,7 @@ fn walk(t: &[u64], left: usize, k: usize) -> usize
         if n == 0 {
             return 0;
         }
-        let r = tables::load_region(t, (link - 1) as usize);
+        let r = sections::region_in(p, (link - 1) as usize);
         if !child_fits(own, s, r) {
             return 0;
         }
@@ -78,37 +76,15 @@ fn walk(t: &[u64], left: usize, k: usize) -> usize
     n + 1
 }
 
-fn one_if(b: bool) -> usize
-    ensures { λ r. ⌜ r ≡ oneIf b ⌝ }
+// Whether the lists of the n regions have the children, as many as there are.
+pub fn lists_hold(p: &[u64], n: usize, many: usize) -> bool
+    requires { ⌜ (n ≤ 1024) × (many ≤ 1024) ⌝ }
+    ensures { λ r. ⌜ r ≡ listsFrom (regionIn (now (p .entry))) many n 0 ⌝ }
 {
-    if b { 1 } else { 0 }
-}
-
-// How many of the n regions are not roots; a free row is no region's.
-fn child_count(t: &[u64], n: usize) -> usize
-    requires { ⌜ Sized (now t) ⌝ }
-    ensures { λ r. ⌜ r ≡ childCount (regionAt (view (now (t .entry)))) n ⌝ }
-    ensures { λ r. ⌜ r ≤ n ⌝ }
-{
-    let mut many = 0;
+    let mut left = many;
     let mut i = 0;
     while i < n {
-        let r = tables::load_region(t, i);
-        many += one_if(RegionCapa::ROOT < r.kind);
-        i += 1;
-    }
-    many
-}
-
-pub fn lists_hold(t: &[u64]) -> bool
-    requires { ⌜ Sized (now t) ⌝ }
-    ensures { λ r. ⌜ r ≡ listsHold (view (now (t .entry))) ⌝ }
-{
-    let n = words::size(t, sizes::REGIONS);
-    let mut left = child_count(t, n);
-    let mut i = 0;
-    while i < n {
-        let rest = walk(t, left, i);
+        let rest = walk(p, left, i);
         if rest == 0 {
             return false;
         }

@@ -1,60 +1,55 @@
 // From each region the parents lead to a root. The way up is marked once it is known to lead there, so that each region is passed twice at most.
 ghost use mathlib.Core.Path.{_≡_};
 ghost use Prim.Native.Nat.{_-_, _≤_};
-ghost use lib.ListN.{length, replicate};
-ghost use Rattle.tables.specs.Tables.{regionAt};
-ghost use Rattle.tables.specs.View.{view, Sized};
-ghost use Rattle.sound_tree.specs.Tree.{stops, climbFrom, markFrom, rootsHold, beyond, cleared};
+ghost use lib.ListN.{length};
+ghost use Rattle.sections.specs.Rows.{regionIn};
+ghost use Rattle.sound_tree.specs.Tree.{stops, climbFrom, markFrom, rootedFrom, marksFrom, cleared};
 use tables::RegionCapa;
 
-fn parent_of(t: &[u64], j: usize) -> usize
-    requires { ⌜ Sized (now t) ⌝ }
-    ensures { λ r. ⌜ r ≡ regionAt (view (now (t .entry))) j .parent - 1 ⌝ }
+fn parent_of(p: &[u64], j: usize) -> usize
+    ensures { λ r. ⌜ r ≡ regionIn (now (p .entry)) j .parent - 1 ⌝ }
 {
-    let r = tables::load_region(t, j);
+    let r = sections::region_in(p, j);
     tables::slot_to(r.parent)
 }
 
 // A region that is marked, or no child.
-fn stops_at(t: &[u64], w: &[u64], j: usize) -> bool
-    requires { ⌜ Sized (now t) ⌝ }
-    ensures { λ r. ⌜ r ≡ stops (regionAt (view (now (t .entry)))) (now (w .entry)) j ⌝ }
+fn stops_at(p: &[u64], w: &[u64], j: usize) -> bool
+    ensures { λ r. ⌜ r ≡ stops (regionIn (now (p .entry))) (now (w .entry)) j ⌝ }
 {
     if 0 < words::word(w, j) {
         return true;
     }
-    let r = tables::load_region(t, j);
+    let r = sections::region_in(p, j);
     r.kind < RegionCapa::ALIAS
 }
 
-fn climb(t: &[u64], w: &[u64], n: usize, i: usize) -> bool
-    requires { ⌜ Sized (now t) ⌝ }
-    ensures { λ r. ⌜ r ≡ climbFrom (regionAt (view (now (t .entry)))) (now (w .entry)) n i ⌝ }
+fn climb(p: &[u64], w: &[u64], n: usize, i: usize) -> bool
+    ensures { λ r. ⌜ r ≡ climbFrom (regionIn (now (p .entry))) (now (w .entry)) n i ⌝ }
 {
     let mut j = i;
     let mut left = n;
     while 0 < left {
-        if stops_at(t, w, j) {
+        if stops_at(p, w, j) {
             return true;
         }
-        j = parent_of(t, j);
+        j = parent_of(p, j);
         left -= 1;
     }
     false
 }
 
-fn mark(t: &[u64], w: &mut [u64], n: usize, i: usize)
-    requires { ⌜ Sized (now t) ⌝ }
-    ensures { λ _. ⌜ now (w .exit) ≡ markFrom (regionAt (view (now (t .entry)))) (now (w .entry)) n i ⌝ }
+fn mark(p: &[u64], w: &mut [u64], n: usize, i: usize)
+    ensures { λ _. ⌜ now (w .exit) ≡ markFrom (regionIn (now (p .entry))) (now (w .entry)) n i ⌝ }
 {
     let mut j = i;
     let mut left = n;
     while 0 < left {
-        if stops_at(t, w, j) {
+        if stops_at(p, w, j) {
             return;
         }
         words::put(w, j, 1);
-        j = parent_of(t, j);
+        j = parent_of(p, j);
         left -= 1;
     }
 }
@@ -67,21 +62,17 @@ pub fn clear_first(w: &mut [u64], n: usize)
     words::clear(&mut w[0..n]);
 }
 
-// Marks only words that stand for regions.
-pub fn roots_hold(t: &[u64], w: &mut [u64]) -> bool
-    requires { ⌜ Sized (now t) ⌝ }
-    requires { ⌜ length (now w) ≡ length (now t) ⌝ }
-    requires { ⌜ now w ≡ replicate (length (now w)) 0 ⌝ }
-    ensures { λ r. ⌜ r ≡ rootsHold (view (now (t .entry))) ⌝ }
-    ensures { λ _. ⌜ beyond (now (t .entry)) (now (w .exit)) ≡ beyond (now (t .entry)) (now (w .entry)) ⌝ }
+// The words of w that are 0 stand for regions that are not known to lead to a root.
+pub fn roots_hold(p: &[u64], w: &mut [u64], n: usize) -> bool
+    ensures { λ r. ⌜ r ≡ rootedFrom (regionIn (now (p .entry))) n (now (w .entry)) n 0 ⌝ }
+    ensures { λ _. ⌜ now (w .exit) ≡ marksFrom (regionIn (now (p .entry))) n (now (w .entry)) n 0 ⌝ }
 {
-    let n = words::size(t, sizes::REGIONS);
     let mut i = 0;
     while i < n {
-        if !climb(t, w, n, i) {
+        if !climb(p, w, n, i) {
             return false;
         }
-        mark(t, w, n, i);
+        mark(p, w, n, i);
         i += 1;
     }
     true

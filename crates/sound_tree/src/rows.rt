@@ -1,9 +1,8 @@
-// Each region in use, with its parent.
+// Each region in use, with its parent; how many are children.
 ghost use mathlib.Core.Path.{_≡_};
-ghost use Rattle.tables.specs.View.{view, Sized};
-ghost use Rattle.arena.specs.Arena.{isFreeB};
-ghost use Rattle.sound_tree.specs.Tree.{rightsFit, inParent, placeFits, rowFits, regionFits, rowsHold};
-use pools::Pool;
+ghost use Prim.Native.Nat.{_≤_};
+ghost use Rattle.sections.specs.Rows.{regionIn};
+ghost use Rattle.sound_tree.specs.Tree.{rightsFit, inParent, placeFits, rowFits, regionFits, oneIf, countFrom};
 use rights::Rights;
 use tables::RegionCapa;
 
@@ -43,39 +42,37 @@ fn row_fits(g: RegionCapa) -> bool
     words::both(kind, words::both(0 < g.owner, range))
 }
 
-fn region_is_free(t: &[u64], i: usize) -> bool
-    requires { ⌜ Sized (now t) ⌝ }
-    ensures { λ r. ⌜ r ≡ isFreeB (view (now (t .entry)) .regionPool) i ⌝ }
+// The row g of a slot that is free or not.
+fn region_fits(p: &[u64], free: bool, g: RegionCapa) -> bool
+    ensures { λ r. ⌜ r ≡ regionFits (regionIn (now (p .entry))) free g ⌝ }
 {
-    let s = pools::span_of(t, Pool::Regions);
-    let a = s.start;
-    let e = s.end;
-    arena::is_free(&t[a..e], s.slots, i)
-}
-
-fn region_fits(t: &[u64], i: usize) -> bool
-    requires { ⌜ Sized (now t) ⌝ }
-    ensures { λ r. ⌜ r ≡ regionFits (view (now (t .entry))) i ⌝ }
-{
-    if region_is_free(t, i) {
+    if free {
         return true;
     }
-    let g = tables::load_region(t, i);
-    let h = tables::load_region(t, tables::slot_to(g.parent));
+    let h = sections::region_in(p, tables::slot_to(g.parent));
     words::both(row_fits(g), place_fits(g, h))
 }
 
-pub fn rows_hold(t: &[u64]) -> bool
-    requires { ⌜ Sized (now t) ⌝ }
-    ensures { λ r. ⌜ r ≡ rowsHold (view (now (t .entry))) ⌝ }
+fn one_if(b: bool) -> usize
+    ensures { λ r. ⌜ r ≡ oneIf b ⌝ }
 {
-    let n = words::size(t, sizes::REGIONS);
+    if b { 1 } else { 0 }
+}
+
+// How many of the n regions are not roots, and one more; 0 where a row is not fit. A free row is no region's.
+pub fn count_children(links: &[u64], p: &[u64], n: usize) -> usize
+    requires { ⌜ n ≤ 1024 ⌝ }
+    ensures { λ r. ⌜ r ≡ countFrom (now (links .entry)) (regionIn (now (p .entry))) 0 n 0 ⌝ }
+{
+    let mut many = 0;
     let mut i = 0;
     while i < n {
-        if !region_fits(t, i) {
-            return false;
+        let g = sections::region_in(p, i);
+        if !region_fits(p, 0 < words::word(links, i), g) {
+            return 0;
         }
+        many += one_if(RegionCapa::ROOT < g.kind);
         i += 1;
     }
-    true
+    many + 1
 }

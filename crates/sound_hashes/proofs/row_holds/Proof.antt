@@ -4,11 +4,11 @@ use borrow.Author.Needs.{needs}
 use Rattle.sound_hashes.proofs.row_holds.Statement.{statement}
 use Rattle.sound_hashes.proofs.row_holds.Tie as tie
 
-is-free-in-requires : tie.Need-is-free-in-requires
-is-free-in-requires c κs = search needs
+word-requires : tie.Need-word-requires
+word-requires c κs = search needs
 
-load-hash-requires : tie.Need-load-hash-requires
-load-hash-requires c κs = search needs
+hash-in-requires : tie.Need-hash-in-requires
+hash-in-requires c κs = search needs
 
 hash-fits-requires : tie.Need-hash-fits-requires
 hash-fits-requires c κs = search needs
@@ -18,5 +18,4 @@ unfolding rowHolds
 returns c = cc
 
 pub row-holds-spec : {M : Type 1} → statement M
-row-holds-spec =
-    tie.close (tie.spec is-free-in-requires load-hash-requires hash-fits-requires returns)
+row-holds-spec = tie.close (tie.spec word-requires hash-in-requires hash-fits-requires returns)

@@ -4,11 +4,11 @@ use borrow.Author.Needs.{needs}
 use Rattle.sound_interfaces.proofs.row_holds.Statement.{statement}
 use Rattle.sound_interfaces.proofs.row_holds.Tie as tie
 
-is-free-in-requires : tie.Need-is-free-in-requires
-is-free-in-requires c κs = search needs
+word-requires : tie.Need-word-requires
+word-requires c κs = search needs
 
-load-interface-requires : tie.Need-load-interface-requires
-load-interface-requires c κs = search needs
+interface-in-requires : tie.Need-interface-in-requires
+interface-in-requires c κs = search needs
 
 interface-fits-requires : tie.Need-interface-fits-requires
 interface-fits-requires c κs = search needs
@@ -19,4 +19,4 @@ returns c = cc
 
 pub row-holds-spec : {M : Type 1} → statement M
 row-holds-spec =
-    tie.close (tie.spec is-free-in-requires load-interface-requires interface-fits-requires returns)
+    tie.close (tie.spec word-requires interface-in-requires interface-fits-requires returns)

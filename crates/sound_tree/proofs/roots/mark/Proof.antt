@@ -2,8 +2,7 @@
 use mathlib.Core.Path.{_≡_, refl, _∙_}
 use borrow.Author.Needs.{needs}
 use native.Mathlib.Omega.{arith}
-use Rattle.tables.specs.View.{view}
-use Rattle.tables.specs.Tables.{regionAt}
+use Rattle.sections.specs.Rows.{regionIn}
 use lib.ListN.{length}
 use Rattle.sound_tree.specs.Tree.{markFrom}
 use Rattle.sound_tree.specs.Ways.{mark-turn, mark-stop, mark-end}
@@ -11,16 +10,16 @@ use Rattle.sound_tree.proofs.roots.mark.Statement.{statement}
 use Rattle.sound_tree.proofs.roots.mark.Tie as tie
 
 abbrev Inv-loop : tie.InvT-loop
-Inv-loop t w₀ n i j₀ left₀ w j left = (length w ≡ length w₀) × (markFrom (regionAt (view t)) w left j ≡ markFrom (regionAt (view t)) w₀ n i)
+Inv-loop p w₀ n i j₀ left₀ w j left = (length w ≡ length w₀) × (markFrom (regionIn p) w left j ≡ markFrom (regionIn p) w₀ n i)
 
 abbrev μ-loop : tie.MeasureT-loop
-μ-loop t w₀ n i j₀ left₀ w j left = left
+μ-loop p w₀ n i j₀ left₀ w j left = left
 
 loop-holds : tie.Need-loop-holds Inv-loop μ-loop
 loop-holds c = (refl, refl)
 
 stops-at-requires : tie.Need-stops-at-requires Inv-loop μ-loop
-stops-at-requires c κs = (c .before .before .before .before .before .pre)
+stops-at-requires c κs = search needs
 
 same-length : tie.Need-same-length Inv-loop μ-loop
 same-length c = (c .before .before .before .before .loop .inv .0)
@@ -32,7 +31,7 @@ put-requires : tie.Need-put-requires Inv-loop μ-loop
 put-requires c κs = search needs
 
 parent-of-requires : tie.Need-parent-of-requires Inv-loop μ-loop
-parent-of-requires c κs = (c .before .before .before .before .before .before .before .before .before .before .before .pre)
+parent-of-requires c κs = search needs
 
 sub-left : tie.Need-sub-left Inv-loop μ-loop
 sub-left c = omega arith

@@ -3,14 +3,14 @@ use borrow.Author.Needs.{needs}
 use Rattle.sound_tree.proofs.roots.parent_of.Statement.{statement}
 use Rattle.sound_tree.proofs.roots.parent_of.Tie as tie
 
-load-region-requires : tie.Need-load-region-requires
-load-region-requires c κs = search needs
+region-in-requires : tie.Need-region-in-requires
+region-in-requires c κs = search needs
 
 slot-to-requires : tie.Need-slot-to-requires
 slot-to-requires c κs = search needs
 
 returns : tie.Need-returns
-returns c = rw (← (c .before .load-region .ensures)) (c .slot-to .ensures)
+returns c = rw (← (c .before .region-in .ensures)) (c .slot-to .ensures)
 
 pub parent-of-spec : {M : Type 1} → statement M
-parent-of-spec = tie.close (tie.spec load-region-requires slot-to-requires returns)
+parent-of-spec = tie.close (tie.spec region-in-requires slot-to-requires returns)

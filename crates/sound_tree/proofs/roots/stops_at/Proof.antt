@@ -12,12 +12,12 @@ returns : tie.Need-returns
 unfolding stops
 returns c = rw (← (c .before .word .ensures), lt-ltb _ _ (c .if1 .taken))
 
-load-region-requires : tie.Need-load-region-requires
-load-region-requires c κs = search needs
+region-in-requires : tie.Need-region-in-requires
+region-in-requires c κs = search needs
 
 returns-2 : tie.Need-returns-2
 unfolding stops
-returns-2 c = rw (← (c .before .before .before .word .ensures), le-ltb _ _ (c .before .before .if1 .left), ← (c .before .load-region .ensures))
+returns-2 c = rw (← (c .before .before .before .word .ensures), le-ltb _ _ (c .before .before .if1 .left), ← (c .before .region-in .ensures))
 
 pub stops-at-spec : {M : Type 1} → statement M
-stops-at-spec = tie.close (tie.spec word-requires returns load-region-requires returns-2)
+stops-at-spec = tie.close (tie.spec word-requires returns region-in-requires returns-2)

@@ -4,21 +4,15 @@ use borrow.Author.Needs.{needs}
 use Rattle.sound_tree.proofs.rows.region_fits.Statement.{statement}
 use Rattle.sound_tree.proofs.rows.region_fits.Tie as tie
 
-region-is-free-requires : tie.Need-region-is-free-requires
-region-is-free-requires c κs = search needs
-
 returns : tie.Need-returns
 unfolding regionFits
-returns c = rw (← (c .before .region-is-free .ensures), (c .if1 .taken))
-
-load-region-requires : tie.Need-load-region-requires
-load-region-requires c κs = search needs
+returns c = rw (c .if1 .taken)
 
 slot-to-requires : tie.Need-slot-to-requires
 slot-to-requires c κs = search needs
 
-load-region-requires-2 : tie.Need-load-region-requires-2
-load-region-requires-2 c κs = search needs
+region-in-requires : tie.Need-region-in-requires
+region-in-requires c κs = search needs
 
 row-fits-requires : tie.Need-row-fits-requires
 row-fits-requires c κs = search needs
@@ -31,17 +25,15 @@ both-requires c κs = search needs
 
 returns-2 : tie.Need-returns-2
 unfolding regionFits
-returns-2 c = rw (← (c .before .before .before .before .before .before .before .region-is-free .ensures), (c .before .before .before .before .before .before .if1 .left)) (cc)
+returns-2 c = rw (c .before .before .before .before .before .if1 .left) (cc)
 
 pub region-fits-spec : {M : Type 1} → statement M
 region-fits-spec =
     tie.close
     (tie.spec
-    region-is-free-requires
     returns
-    load-region-requires
     slot-to-requires
-    load-region-requires-2
+    region-in-requires
     row-fits-requires
     place-fits-requires
     both-requires

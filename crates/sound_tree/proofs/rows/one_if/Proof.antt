@@ -1,7 +1,7 @@
 -- By the test.
 use Rattle.sound_tree.specs.Tree.{oneIf}
-use Rattle.sound_tree.proofs.lists.one_if.Statement.{statement}
-use Rattle.sound_tree.proofs.lists.one_if.Tie as tie
+use Rattle.sound_tree.proofs.rows.one_if.Statement.{statement}
+use Rattle.sound_tree.proofs.rows.one_if.Tie as tie
 
 returns : tie.Need-returns
 unfolding oneIf
