@@ -75,8 +75,8 @@ pub fn run_unkept(t: &mut [u64], w: &mut [u64], call: call::Call) -> Reply
     ensures { λ r. ⌜ Returns replyOf (now (t .entry)) (now (w .entry)) (Call.Do (stepNamed call)) r (now (t .exit)) (now (w .exit)) ⌝ }
 {
     if admits(t, w) {
-        let a = calls::step(t, call);
-        return replies::reply_for(a);
+        let answer = calls::step(t, call);
+        return replies::reply_for(answer);
     }
     replies::refused(Refusal::MEMORY)
 }
