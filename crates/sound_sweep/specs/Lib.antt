@@ -1,1 +1,6 @@
 pub mod Records
+pub mod Sums
+pub mod Tests
+pub mod Cursors
+pub mod Moves
+pub mod Steps
