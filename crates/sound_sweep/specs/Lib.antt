@@ -4,3 +4,5 @@ pub mod Tests
 pub mod Cursors
 pub mod Moves
 pub mod Steps
+pub mod Rounds
+pub mod Whole

@@ -1,5 +1,5 @@
 -- The code's tests of all counts, in its order.
-use mathlib.Core.Path.{_≡_, refl}
+use mathlib.Core.Path.{_≡_, refl, ap, _∙_}
 use mathlib.Core.Bool.{Bool, true, false, _&&_}
 use Prim.Native.Nat.{ℕ, _+_}
 use lib.Dec.{eqb, ltb, leb}
@@ -19,18 +19,16 @@ five true true true false e = refl
 five true true true true false = refl
 five true true true true true = refl
 
-six : (a b c d e f : Bool) → both (both a (both (both b c) (both d e))) f ≡ a && (b && (c && (d && (e && true)))) && f
-six false b c d e f = refl
-six true false c d e f = refl
-six true true false d e f = refl
-six true true true false e f = refl
-six true true true true false f = refl
-six true true true true true f = refl
-
 three : (a b c : Bool) → both (both a b) c ≡ a && b && c
 three false b c = refl
 three true false c = refl
 three true true c = refl
+
+pub two : (a b : Bool) → both a b ≡ a && b
+two a b = three true a b
+
+six : (a b c d e f : Bool) → both (both a (both (both b c) (both d e))) f ≡ a && (b && (c && (d && (e && true)))) && f
+six a b c d e f = two (both a (both (both b c) (both d e))) f ∙ ap (λ z. z && f) (five a b c d e)
 
 pub agreed : (p m : Sums) (q : Region) → both (eqb (p .«ref_count») (m .«ref_count» + q .«ref_count»)) (both (both (eqb (p .«read_count») (m .«read_count» + q .«read_count»)) (eqb (p .«write_count») (m .«write_count» + q .«write_count»))) (both (eqb (p .«exec_count») (m .«exec_count» + q .«exec_count»)) (eqb (p .«super_count») (m .«super_count» + q .«super_count»)))) ≡ agrees (countsOf p) (countsOf m) (countsFrom q)
 unfolding agrees

@@ -54,7 +54,10 @@ pub fn agrees(p: Sums, m: Sums, q: Region) -> bool
     let write = exceeds(p.write_count, m.write_count, q.write_count);
     let exec = exceeds(p.exec_count, m.exec_count, q.exec_count);
     let sup = exceeds(p.super_count, m.super_count, q.super_count);
-    words::both(reach, words::both(words::both(read, write), words::both(exec, sup)))
+    words::both(
+        reach,
+        words::both(words::both(read, write), words::both(exec, sup)),
+    )
 }
 
 // Whether the six counts are the same.

@@ -9,10 +9,13 @@ use crate::Cursor;
 use crate::counts;
 
 // Before the first event.
-pub fn before() -> Cursor
+pub fn start() -> Cursor
     ensures { λ r. ⌜ First r ⌝ }
 {
-    Cursor { place: 0, sums: counts::no_sums() }
+    Cursor {
+        place: 0,
+        sums: counts::no_sums(),
+    }
 }
 
 // Past every event at or below x. No sum is above the number of events passed, so that none wraps.

@@ -10,7 +10,6 @@ mod counts;
 mod events;
 mod records;
 
-
 // What pieces count for: how many they are, and how many of them have each right.
 pub struct Sums {
     pub ref_count: u64,
@@ -37,7 +36,7 @@ pub struct Both {
 pub fn sweep(q: &[u64], n: usize, first: u64, s: &[u64], e: &[u64]) -> bool
     ensures { λ r. ⌜ r ≡ sweep (chained (recordIn (now (q .entry))) n first) (eventsIn (now (s .entry))) (eventsIn (now (e .entry))) ⌝ }
 {
-    let mut p = events::before();
+    let mut p = events::start();
     let mut m = p;
     let mut last = tables::no_record();
     let mut link = first;

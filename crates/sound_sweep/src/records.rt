@@ -8,8 +8,8 @@ ghost use Rattle.sound_sweep.specs.Steps.{follows, turn, ending};
 use crate::Both;
 use crate::Cursor;
 use crate::Sums;
-use crate::events;
 use crate::counts;
+use crate::events;
 use tables::Region;
 
 // Start before end, reach above 0, uncacheable count 0 or 1.
@@ -69,10 +69,20 @@ pub fn holds(s: &[u64], e: &[u64], b: Region, q: Region, p: Cursor, m: Cursor) -
 {
     let ended = events::upto(e, b.end, m);
     let may = follows(s, b, q, p, ended.sums);
-    let r = inside(s, e, q, events::upto(s, q.start, p), events::upto(e, q.start, ended));
+    let r = inside(
+        s,
+        e,
+        q,
+        events::upto(s, q.start, p),
+        events::upto(e, q.start, ended),
+    );
     let p1 = r.p;
     let m1 = r.m;
-    Both { p: p1, m: m1, ok: words::both(may, r.ok) }
+    Both {
+        p: p1,
+        m: m1,
+        ok: words::both(may, r.ok),
+    }
 }
 
 // Behind the last record b: no start is left, and all that started has ended.

@@ -3,10 +3,6 @@ use Rattle.sound_sweep.specs.Tests.{agreed}
 use borrow.Author.Needs.{needs}
 use Rattle.sound_sweep.proofs.counts.agrees.Statement.{statement}
 use Rattle.sound_sweep.proofs.counts.agrees.Tie as tie
-use Rattle.sound_sweep.proofs.counts.agrees.Reads as reads
-use Rattle.sound_sweep.proofs.counts.agrees.Lts as lts
-use Rattle.sound_sweep.proofs.counts.exceeds.Reads as exceeds-reads
-use Rattle.words.proofs.both.Reads as both-reads
 
 exceeds-requires : tie.Need-exceeds-requires
 exceeds-requires c κs = search needs

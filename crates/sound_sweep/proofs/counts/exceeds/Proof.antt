@@ -4,8 +4,6 @@ use borrow.Author.Tests.{le-leb, lt-leb}
 use Rattle.sweep.specs.Loops.{by-difference}
 use Rattle.sound_sweep.proofs.counts.exceeds.Statement.{statement}
 use Rattle.sound_sweep.proofs.counts.exceeds.Tie as tie
-use Rattle.sound_sweep.proofs.counts.exceeds.Reads as reads
-use Rattle.sound_sweep.proofs.counts.exceeds.Lts as lts
 
 returns : tie.Need-returns
 returns c = rw (le-leb (c .before .args .m) (c .before .args .p) (c .if1 .taken)) at (by-difference (c .before .args .p) (c .before .args .m) (c .before .args .k))

@@ -6,9 +6,6 @@ use Rattle.sound_sweep.specs.Sums.{raised, ones}
 use borrow.Author.Needs.{needs}
 use Rattle.sound_sweep.proofs.counts.raise.Statement.{statement}
 use Rattle.sound_sweep.proofs.counts.raise.Tie as tie
-use Rattle.sound_sweep.proofs.counts.raise.Reads as reads
-use Rattle.sound_sweep.proofs.counts.raise.Lts as lts
-use Rattle.rights.proofs.Rights.counters.Reads as counters-reads
 
 cast-t5 : tie.Need-cast-t5
 cast-t5 c = search needs

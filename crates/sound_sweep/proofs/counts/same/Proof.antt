@@ -3,9 +3,6 @@ use Rattle.sound_sweep.specs.Tests.{alike}
 use borrow.Author.Needs.{needs}
 use Rattle.sound_sweep.proofs.counts.same.Statement.{statement}
 use Rattle.sound_sweep.proofs.counts.same.Tie as tie
-use Rattle.sound_sweep.proofs.counts.same.Reads as reads
-use Rattle.sound_sweep.proofs.counts.same.Lts as lts
-use Rattle.words.proofs.both.Reads as both-reads
 
 both-requires : tie.Need-both-requires
 both-requires c κs = search needs

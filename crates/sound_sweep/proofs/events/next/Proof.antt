@@ -3,8 +3,6 @@ use Rattle.sound_sweep.specs.Moves.{next-less, next-far, next-none}
 use borrow.Author.Needs.{needs}
 use Rattle.sound_sweep.proofs.events.next.Statement.{statement}
 use Rattle.sound_sweep.proofs.events.next.Tie as tie
-use Rattle.sound_sweep.proofs.events.next.Reads as reads
-use Rattle.sound_sweep.proofs.events.next.Lts as lts
 
 mul-a : tie.Need-mul-a
 mul-a c = search needs

@@ -5,9 +5,6 @@ use Rattle.sound_sweep.specs.Sums.{low-most}
 use Rattle.sound_sweep.specs.Moves.{Moving, move-start, move-go, move-stop, move-end}
 use Rattle.sound_sweep.proofs.events.upto.Statement.{statement}
 use Rattle.sound_sweep.proofs.events.upto.Tie as tie
-use Rattle.sound_sweep.proofs.events.upto.Reads as reads
-use Rattle.sound_sweep.proofs.events.upto.Lts as lts
-use Rattle.sound_sweep.proofs.counts.raise.Reads as raise-reads
 
 abbrev Inv-loop : tie.InvT-loop
 Inv-loop s x n i₀ k₀ i k = Moving s x (record { place = i₀; sums = k₀ }) i k

@@ -1,40 +1,35 @@
+use mathlib.Core.Path.{ap, _∙_}
+-- A gap before the record, or a neighbour with other counts.
+use mathlib.Core.Bool.{not}
+use borrow.Author.Tests.{not-true, not-false}
+use Rattle.sound_sweep.specs.Records.{recordFrom}
+use Rattle.sound_sweep.specs.Sums.{countsOf}
+use Rattle.sound_sweep.specs.Cursors.{cursorIn}
+use Rattle.sound_sweep.specs.Steps.{follows-no, follows-gap, follows-touch}
 use borrow.Author.Needs.{needs}
 use Rattle.sound_sweep.proofs.records.follows.Statement.{statement}
 use Rattle.sound_sweep.proofs.records.follows.Tie as tie
-use Rattle.sound_sweep.proofs.records.follows.Reads as reads
-use Rattle.sound_sweep.proofs.records.follows.Lts as lts
-use Rattle.sound_sweep.proofs.counts.same.Reads as same-reads
-use Rattle.sound_sweep.proofs.records.formed.Reads as formed-reads
-use Rattle.sound_sweep.proofs.records.is_gap.Reads as is-gap-reads
-use Rattle.words.proofs.both.Reads as both-reads
 
--- src/records.rt:36:21
 formed-requires : tie.Need-formed-requires
 formed-requires c κs = search needs
 
--- src/records.rt:36:9
 both-requires : tie.Need-both-requires
 both-requires c κs = search needs
 
--- src/records.rt:37:9
 returns : tie.Need-returns
-returns c = ?
+returns c = follows-no (recordFrom 0 (c .before .before .before .before .before .before .args .b)) (recordFrom 0 (c .before .before .before .before .before .before .args .q)) (cursorIn (c .before .before .before .before .before .before .args .s .now) (c .before .before .before .before .before .before .args .p)) (countsOf (c .before .before .before .before .before .before .args .m)) (c .before .before .before .before .formed .result) (c .before .both .result) (c .before .before .before .before .formed .ensures) (c .before .both .ensures) (not-true _ (c .if1 .taken))
 
--- src/records.rt:40:9
 is-gap-requires : tie.Need-is-gap-requires
 is-gap-requires c κs = search needs
 
--- src/records.rt:40:9
 returns-2 : tie.Need-returns-2
-returns-2 c = ?
+returns-2 c = (c .is-gap .ensures) ∙ follows-gap (recordFrom 0 (c .before .before .before .before .before .before .before .before .before .before .args .b)) (recordFrom 0 (c .before .before .before .before .before .before .before .before .before .before .args .q)) (cursorIn (c .before .before .before .before .before .before .before .before .before .before .args .s .now) (c .before .before .before .before .before .before .before .before .before .before .args .p)) (countsOf (c .before .before .before .before .before .before .before .before .before .before .args .m)) (c .before .before .before .before .before .before .before .before .formed .result) (c .before .before .before .before .before .both .result) (c .before .before .before .before .before .before .before .before .formed .ensures) (c .before .before .before .before .before .both .ensures) (not-false _ (c .before .before .before .before .if1 .left)) (c .before .if2 .taken)
 
--- src/records.rt:42:6
 same-requires : tie.Need-same-requires
 same-requires c κs = search needs
 
--- src/records.rt:33:1
 returns-3 : tie.Need-returns-3
-returns-3 c = ?
+returns-3 c = ap not (c .same .ensures) ∙ follows-touch (recordFrom 0 (c .before .before .before .before .before .before .before .before .before .before .args .b)) (recordFrom 0 (c .before .before .before .before .before .before .before .before .before .before .args .q)) (cursorIn (c .before .before .before .before .before .before .before .before .before .before .args .s .now) (c .before .before .before .before .before .before .before .before .before .before .args .p)) (countsOf (c .before .before .before .before .before .before .before .before .before .before .args .m)) (c .before .before .before .before .before .before .before .before .formed .result) (c .before .before .before .before .before .both .result) (c .before .before .before .before .before .before .before .before .formed .ensures) (c .before .before .before .before .before .both .ensures) (not-false _ (c .before .before .before .before .if1 .left)) (c .before .if2 .left)
 
 pub follows-spec : {M : Type 1} → statement M
 follows-spec =

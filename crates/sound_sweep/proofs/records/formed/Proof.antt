@@ -3,9 +3,6 @@ use Rattle.sound_sweep.specs.Tests.{has-form}
 use borrow.Author.Needs.{needs}
 use Rattle.sound_sweep.proofs.records.formed.Statement.{statement}
 use Rattle.sound_sweep.proofs.records.formed.Tie as tie
-use Rattle.sound_sweep.proofs.records.formed.Reads as reads
-use Rattle.sound_sweep.proofs.records.formed.Lts as lts
-use Rattle.words.proofs.both.Reads as both-reads
 
 both-requires : tie.Need-both-requires
 both-requires c κs = search needs

@@ -1,22 +1,18 @@
+-- The same reach, and no start.
+use mathlib.Core.Path.{_∙_}
+use Rattle.sound_sweep.specs.Steps.{gap-tested}
 use borrow.Author.Needs.{needs}
 use Rattle.sound_sweep.proofs.records.is_gap.Statement.{statement}
 use Rattle.sound_sweep.proofs.records.is_gap.Tie as tie
-use Rattle.sound_sweep.proofs.records.is_gap.Reads as reads
-use Rattle.sound_sweep.proofs.records.is_gap.Lts as lts
-use Rattle.sound_sweep.proofs.events.next.Reads as next-reads
-use Rattle.words.proofs.both.Reads as both-reads
 
--- src/records.rt:28:9
 next-requires : tie.Need-next-requires
 next-requires c κs = search needs
 
--- src/records.rt:29:5
 both-requires : tie.Need-both-requires
 both-requires c κs = search needs
 
--- src/records.rt:24:1
 returns : tie.Need-returns
-returns c = ?
+returns c = (c .both .ensures) ∙ gap-tested (c .before .before .before .before .before .before .args .s .now) (c .before .before .before .before .before .before .args .x) (c .before .before .before .next .result) (c .before .before .before .before .before .before .args .p) (c .before .before .before .before .before .before .args .m) (c .before .before .before .next .ensures)
 
 pub is-gap-spec : {M : Type 1} → statement M
 is-gap-spec = tie.close (tie.spec next-requires both-requires returns)
