@@ -1,3 +1,4 @@
+-- The code of the sweep is the sweep on lists.
 pub mod Records
 pub mod Sums
 pub mod Tests

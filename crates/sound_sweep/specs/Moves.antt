@@ -6,7 +6,6 @@ use native.Mathlib.Omega.{arith}
 use lib.ListN.{length, drop, getD}
 use Rattle.model.specs.Tracker.{raise}
 use Rattle.model.specs.Counts.{noCounts}
-use Rattle.sweep.specs.Sweep as sweep
 use Rattle.sweep.specs.Sweep.{pass, upto, next}
 use Rattle.sweep.specs.Loops.{place-go, place-stop, place-end, place-next, place-none}
 use Rattle.sound_events.specs.Events.{eventsIn}

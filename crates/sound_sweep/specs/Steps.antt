@@ -3,7 +3,6 @@ use mathlib.Core.Path.{_≡_, refl, sym, ap, ap₂, _∙_}
 use mathlib.Core.Bool.{Bool, true, false, not, _&&_}
 use mathlib.Core.List.{List, [], _∷_}
 use Prim.Native.Nat.{ℕ, zero, suc, _/_, _≤_, _<_}
-use native.Mathlib.Omega.{arith}
 use lib.Dec.{eqb, ltb, leb}
 use lib.ListN.{length, drop, drop-of-length-le}
 use lib.Seq.{drop-cons}
@@ -17,7 +16,7 @@ use Rattle.tables.specs.declared.Region.{Region}
 use Rattle.sweep.specs.Events.{Event}
 use Rattle.sweep.specs.Sort.{noEvent}
 use Rattle.sweep.specs.Sweep as sweep
-use Rattle.sweep.specs.Sweep.{upto, next, agrees, formed, gap, same, inside, sweepFrom}
+use Rattle.sweep.specs.Sweep.{upto, next, formed, gap, same, inside, sweepFrom}
 use Rattle.sound_events.specs.Events.{eventsIn}
 use Rattle.sound_events.specs.Words.{length-events}
 use Rattle.sound_sweep.specs.declared.Sums.{Sums}

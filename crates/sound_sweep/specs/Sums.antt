@@ -1,7 +1,7 @@
 -- The code's five sums as the sweep's counts, and what keeps them inside a word.
 use mathlib.Core.Path.{_≡_, refl, ap, _∙_}
 use mathlib.Core.Bool.{Bool, true, false}
-use Prim.Native.Nat.{ℕ, suc, _+_, _/_, _%_, _^_, _≤_, _<_}
+use Prim.Native.Nat.{ℕ, suc, _+_, _/_, _%_, _^_, _≤_}
 use native.Mathlib.Omega.{arith}
 use native.Mathlib.Nat.{pow-suc, dvd-mul-left, mod-mod-of-dvd}
 use lib.Pow.{field}
@@ -60,8 +60,7 @@ pub record Ones (k : Counters) : Type 0 where
   pub super : k .«super_count» ≤ 1
 
 count-low : (b : Bool) → counters.oneIf b ≤ 1
-count-low true = omega arith
-count-low false = omega arith
+count-low b = omega (arith, count-one b, one-at-most b)
 
 pub ones : (k : Counters) (r : ℕ) → k ≡ counters.countersOf r → Ones k
 ones k r e = rw e (record { read = count-low (rights.has r rights.READ); write = count-low (rights.has r rights.WRITE); exec = count-low (rights.has r rights.EXEC); super = count-low (rights.has r rights.SUPER) })

@@ -2,10 +2,9 @@
 use mathlib.Core.Path.{_≡_, refl, sym, ap, ap₂, _∙_}
 use mathlib.Core.Bool.{Bool, true, false, _&&_}
 use mathlib.Core.List.{List, [], _∷_}
-use Prim.Native.Nat.{ℕ, zero, suc, _-_, _≤_, _<_}
+use Prim.Native.Nat.{ℕ, zero, suc, _-_, _<_}
 use native.Mathlib.Omega.{arith}
 use lib.Dec.{ltb}
-use lib.ListN.{drop}
 use borrow.Author.Tests.{ltb-true, ltb-false, lt-ltb}
 use Rattle.base.specs.Tests.{both, both-true}
 use Rattle.model.specs.State.{Record}
@@ -18,7 +17,7 @@ use Rattle.sound_sweep.specs.declared.Cursor.{Cursor}
 use Rattle.sound_sweep.specs.declared.Both.{Both}
 use Rattle.sound_sweep.specs.Records.{recordFrom, chained}
 use Rattle.sound_sweep.specs.Sums.{Low}
-use Rattle.sound_sweep.specs.Cursors.{cursorIn, rounds, At, First, Left}
+use Rattle.sound_sweep.specs.Cursors.{cursorIn, rounds, First, Left}
 use Rattle.sound_sweep.specs.Steps.{turn, ending, turn-slot, last-slot, sweep-turn, sweep-end}
 
 -- ---- along the links

@@ -61,7 +61,7 @@ fn inside(s: &[u64], e: &[u64], q: Region, p: Cursor, m: Cursor) -> Both
     Both { p: p, m: m, ok: ok }
 }
 
-// Record q behind b: both cursors go to its start, and through it.
+// Record q behind b: both cursors go to its start and through it, whether or not it may stand there, so that what they leave is one equation.
 pub fn holds(s: &[u64], e: &[u64], b: Region, q: Region, p: Cursor, m: Cursor) -> Both
     requires { ⌜ Low (p .place) (p .sums) ⌝ }
     requires { ⌜ Low (m .place) (m .sums) ⌝ }
@@ -76,11 +76,11 @@ pub fn holds(s: &[u64], e: &[u64], b: Region, q: Region, p: Cursor, m: Cursor) -
         events::upto(s, q.start, p),
         events::upto(e, q.start, ended),
     );
-    let p1 = r.p;
-    let m1 = r.m;
+    let p = r.p;
+    let m = r.m;
     Both {
-        p: p1,
-        m: m1,
+        p: p,
+        m: m,
         ok: words::both(may, r.ok),
     }
 }

@@ -1,5 +1,4 @@
 -- By the difference, which is there where m is not above p.
-use mathlib.Core.Path.{sym, _∙_}
 use borrow.Author.Tests.{le-leb, lt-leb}
 use Rattle.sweep.specs.Loops.{by-difference}
 use Rattle.sound_sweep.proofs.counts.exceeds.Statement.{statement}

@@ -1,5 +1,5 @@
-use mathlib.Core.Path.{ap, _∙_}
 -- A gap before the record, or a neighbour with other counts.
+use mathlib.Core.Path.{ap, _∙_}
 use mathlib.Core.Bool.{not}
 use borrow.Author.Tests.{not-true, not-false}
 use Rattle.sound_sweep.specs.Records.{recordFrom}
