@@ -24,7 +24,8 @@
 -- from the old value.
 -- A name with a capital first is a type, a fact or a form, all capitals a flag: `hashWords` gives words, `HashWords` says that they are below 2^64.
 -- Letters: s state, d domain slot, x domain, h handle, i slot, g region, p pool or a parent's slot, q tracker record or the queue, c capability, l local slot or
--- list, r rights, k counts, n a number of slots. a is a range with rights up to Calls, an address from Counts on. What looks at the state mostly takes it first,
+-- list, r rights, k counts, n a number of slots. a is a range with rights in Regions and Calls, an address elsewhere; where a letter means something else,
+-- the comment above it says so. What looks at the state mostly takes it first,
 -- what changes it last, and so do readings.
 pub mod Lists
 pub mod Outcome

@@ -52,7 +52,7 @@ unfoldable pub hasCapacity : ℕ → State → Outcome State
 hasCapacity d s = do
   let old = domainAt s d .locals
   let new = if isEmpty (old .free) then freeInvalidCapas s old else old
-  require (not (isEmpty (new .free))) noLocal
+  require (not (isEmpty (new .free))) noLocal  -- 12
   ok (putDomain d (withLocals new (domainAt s d)) s)
 
 -- What local slot l of domain d holds; 4 where it is free or the number too large.

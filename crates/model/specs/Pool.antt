@@ -23,7 +23,7 @@ allocate r p = elim (p .free) [ [] ↦ refuse r | i ∷ is ↦ ok (i, record { g
 unfoldable pub free : ℕ → Pool → Outcome Pool
 free i p = do
   let g = getD (p .gens) i 0
-  require (not (eqb g (2 ^ 64 - 1))) spent
+  require (not (eqb g (2 ^ 64 - 1))) spent  -- 16
   ok (record { gens = set (p .gens) i (suc g); free = i ∷ p .free })
 
 -- the handle of the slot as it is now

@@ -14,7 +14,7 @@ use Rattle.model.specs.Pool.{handleOf, sameHandle}
 -- An update joins the end; 14 where the ring holds as many as it can.
 unfoldable pub push : Update → State → Outcome State
 push u s = do
-  require (ltb (length (s .queue .items)) (s .sizes .updates)) ringFull
+  require (ltb (length (s .queue .items)) (s .sizes .updates)) ringFull  -- 14
   ok (withQueue (record { readPlace = s .queue .readPlace; items = s .queue .items ++ (u ∷ []) }) s)
 
 -- Is this the queued domain with that handle?
