@@ -47,11 +47,11 @@ pub record Named : Type 0 where
   pub region : ℕ → RegionCapa
   pub manager : ℕ → ℕ
 
-abbrev pub managers : Tables → ℕ → ℕ
-managers v i = headAt v i .manager
+abbrev pub managerOf : Tables → ℕ → ℕ
+managerOf v i = headAt v i .manager
 
 abbrev pub named : Tables → Named
-named v = record { sizes = v .sizes; regionPool = v .regionPool; domainPool = v .domainPool; region = regionAt v; manager = managers v }
+named v = record { sizes = v .sizes; regionPool = v .regionPool; domainPool = v .domainPool; region = regionAt v; manager = managerOf v }
 
 -- "each live region has one Region slot, in its domain"
 unfoldable pub regionClaim : Sizes → Arena → (ℕ → RegionCapa) → ℕ → Handle → ℕ
@@ -92,7 +92,7 @@ headClaim z manager d =
 -- ---- all domains: the slots of each, and then its head
 
 unfoldable pub rowClaim : Tables → ℕ → ℕ → ℕ
-rowClaim v d j = pick (isFreeB (v .domainPool) d) 0 (pick (ltb j (v .sizes .slots)) (slotClaim (named v) d (slotAt v d j)) (headClaim (v .sizes) (managers v) d))
+rowClaim v d j = pick (isFreeB (v .domainPool) d) 0 (pick (ltb j (v .sizes .slots)) (slotClaim (named v) d (slotAt v d j)) (headClaim (v .sizes) (managerOf v) d))
 
 unfoldable pub capaClaim : Tables → ℕ → ℕ
 capaClaim v i = rowClaim v (i / (v .sizes .slots + 1)) (i % (v .sizes .slots + 1))

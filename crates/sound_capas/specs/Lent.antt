@@ -7,7 +7,7 @@ use Rattle.tables.specs.declared.Slot.{Slot}
 use Rattle.tables.specs.Tables.{Tables, Arena, regionAt}
 use Rattle.arena.specs.Arena.{liveB}
 use Rattle.sections.specs.Rows.{regionIn}
-use Rattle.sound_capas.specs.Capas.{Named, named, managers, claimBy, regionClaim, revokeClaim, managementClaim, slotClaim}
+use Rattle.sound_capas.specs.Capas.{Named, named, managerOf, claimBy, regionClaim, revokeClaim, managementClaim, slotClaim}
 use Rattle.sound_capas.specs.Managers.{managerIn}
 
 -- a pool of which only links and generations are looked at
@@ -26,7 +26,7 @@ lentOf v =
       regionPool = pooled (v .regionPool .links) (v .regionPool .gens);
       domainPool = pooled (v .domainPool .links) (v .domainPool .gens);
       region = regionAt v;
-      manager = managers v;
+      manager = managerOf v;
     }
 
 pub slot-lent : (v : Tables) (d : ℕ) (x : Slot) → slotClaim (lentOf v) d x ≡ slotClaim (named v) d x
@@ -37,8 +37,8 @@ slot-lent v d x = refl
 abbrev pub listClaim : Named → ℕ → (ℕ → Slot) → ℕ → ℕ
 listClaim n d slot j = slotClaim n d (slot j)
 
-pub lent-is : (v : Tables) (z : Sizes) (rl rg r dl dg p : List ℕ) → z ≡ v .sizes → rl ≡ v .regionPool .links → rg ≡ v .regionPool .gens → regionIn r ≡ regionAt v → dl ≡ v .domainPool .links → dg ≡ v .domainPool .gens → managerIn (v .sizes) p ≡ managers v
+pub lent-is : (v : Tables) (z : Sizes) (rl rg r dl dg p : List ℕ) → z ≡ v .sizes → rl ≡ v .regionPool .links → rg ≡ v .regionPool .gens → regionIn r ≡ regionAt v → dl ≡ v .domainPool .links → dg ≡ v .domainPool .gens → managerIn (v .sizes) p ≡ managerOf v
     → lent z rl rg r dl dg p ≡ lentOf v
 lent-is v z rl rg r dl dg p ez el eg er fl fg ep =
-    let em : managerIn z p ≡ managers v = ap (λ (x : Sizes). managerIn x p) ez ∙ ep in
+    let em : managerIn z p ≡ managerOf v = ap (λ (x : Sizes). managerIn x p) ez ∙ ep in
     λ i. record { sizes = ez i; regionPool = pooled (el i) (eg i); domainPool = pooled (fl i) (fg i); region = er i; manager = em i }

@@ -19,7 +19,7 @@ use Rattle.tables.specs.Tables.{Domain, noDomain, headAt}
 use Rattle.tables.specs.View.{view, ofParts, Sized, domainOf}
 use Rattle.tables.specs.Sections.{section}
 use Rattle.sections.specs.Sections.{section-run}
-use Rattle.sound_capas.specs.Capas.{managers, above, climbed}
+use Rattle.sound_capas.specs.Capas.{managerOf, above, climbed}
 
 -- the first word of domain i
 unfoldable pub managerIn : Sizes → List ℕ → ℕ → ℕ
@@ -32,7 +32,7 @@ place-fits z i w l h e =
     mul-le-mul a b
 
 module _ (t : List ℕ) where
-  manager-at : (i : ℕ) → managerIn (sizesOf t) (section t domainsSection) i ≡ managers (view t) i
+  manager-at : (i : ℕ) → managerIn (sizesOf t) (section t domainsSection) i ≡ managerOf (view t) i
   unfolding managerIn headAt view ofParts domainOf
   manager-at i =
       let n = sizesOf t .domains in
@@ -48,7 +48,7 @@ module _ (t : List ℕ) where
         | ge h ↦ pick-f (ltb i n) (getD p (i * w) 0) 0 (le-ltb i n h) ∙ sym (ap (λ (x : Domain). x .head .manager) (List·getD-eq-default (view t .domains) noDomain {n = i} (rw length-rows h)))
       ]
 
-  pub managers-lent : (p : List ℕ) (z : Sizes) (a w : ℕ) → Sized t → z ≡ sizesOf t → a ≡ offset (widths z) domainsSection → w ≡ stride z → p ≡ fetched t a (z .domains * w) → managerIn (view t .sizes) p ≡ managers (view t)
+  pub managers-lent : (p : List ℕ) (z : Sizes) (a w : ℕ) → Sized t → z ≡ sizesOf t → a ≡ offset (widths z) domainsSection → w ≡ stride z → p ≡ fetched t a (z .domains * w) → managerIn (view t .sizes) p ≡ managerOf (view t)
   unfolding view ofParts
   managers-lent p z a w s ez ea ew ep =
       let e : p ≡ section t domainsSection = ep ∙ section-run t domainsSection a (z .domains * w) s (rw ez at ea) (rw (ew, ez)) in

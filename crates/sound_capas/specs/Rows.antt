@@ -14,7 +14,7 @@ use Rattle.arena.specs.Arena.{isFreeB}
 use Rattle.sizes.specs.declared.Sizes.{Sizes}
 use Rattle.sound_capas.specs.declared.Tally.{Tally}
 use Rattle.sound_capas.specs.Claims.{claimsHold}
-use Rattle.sound_capas.specs.Capas.{Named, managers, headClaim, rowClaim, capaClaim}
+use Rattle.sound_capas.specs.Capas.{Named, managerOf, headClaim, rowClaim, capaClaim}
 use Rattle.sound_capas.specs.Lent.{lentOf, listClaim, slot-lent}
 use Rattle.sound_capas.specs.Walk.{Marking, marking, taken, walked, rowsWalked, ended, walk-more, walk-same, walk-none, rows-walk, walk-holds}
 
@@ -30,7 +30,7 @@ module _ (v : Tables) (d : ℕ) where
   unfolding rowClaim
   slot-row e j h = rw (e, lt-ltb j S h) (sym (slot-lent v d (slotAt v d j)))
 
-  head-row : isFreeB (v .domainPool) d ≡ false → rowClaim v d S ≡ headClaim (v .sizes) (managers v) d
+  head-row : isFreeB (v .domainPool) d ≡ false → rowClaim v d S ≡ headClaim (v .sizes) (managerOf v) d
   unfolding rowClaim
   head-row e = rw (e, le-ltb S S (omega arith))
 

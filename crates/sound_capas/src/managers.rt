@@ -2,14 +2,14 @@
 ghost use mathlib.Core.Path.{_≡_};
 ghost use Rattle.tables.specs.View.{view, Sized};
 ghost use Rattle.sizes.specs.Limits.{Limits};
-ghost use Rattle.sound_capas.specs.Capas.{managers, above, climbed};
+ghost use Rattle.sound_capas.specs.Capas.{managerOf, above, climbed};
 ghost use Rattle.sound_capas.specs.Managers.{managerIn};
 use sizes::Sizes;
 
 // The section of domains.
 pub fn domains_of<'a>(t: &'a [u64]) -> &'a [u64]
     requires { ⌜ Sized (now t) ⌝ }
-    ensures { λ r. ⌜ managerIn (view (now (t .entry)) .sizes) (now r) ≡ managers (view (now (t .entry))) ⌝ }
+    ensures { λ r. ⌜ managerIn (view (now (t .entry)) .sizes) (now r) ≡ managerOf (view (now (t .entry))) ⌝ }
 {
     let z = sizes::read_sizes(t);
     words::run(t, sizes::domains_at(z), z.domains * sizes::domain_width(z))
