@@ -16,7 +16,7 @@ use Rattle.arena.specs.Arena.{liveB}
 use Rattle.decoded.specs.Shape.{Shaped}
 use Rattle.decoded.specs.Decode.Read.{taken}
 use Rattle.decoded.specs.Canonical.Pools.{taken-used, not-taken}
-use Rattle.sound_capas.specs.Capas.{number, wrong, namesB, olderB, claimBy, regionClaim, revokeClaim, managementClaim, channelClaim, slotClaim, climbed, headClaim, rowClaim}
+use Rattle.sound_capas.specs.Capas.{number, wrong, namesB, olderB, claimBy, regionClaim, revokeClaim, managementClaim, slotClaim, climbed, headClaim, rowClaim, named, managerOf}
 use Rattle.exact_capas.specs.Reads.{Lives, lives, live-at}
 
 -- ---- a handle
@@ -69,23 +69,23 @@ pick-in bad l d base n i e b = rw (names-t l d e, lt-ltb i n b) (omega arith)
 -- ---- a slot, by its kind
 
 module _ (v : Tables) (d : ℕ) (x : Slot) where
-  two : x .kind ≡ 2 → slotClaim v d x ≡ regionClaim v d (x .handle)
+  two : x .kind ≡ 2 → slotClaim (named v) d x ≡ regionClaim (v .sizes) (v .regionPool) (regionAt v) d (x .handle)
   unfolding slotClaim
   two e = rw (eq-eqb (x .kind) 2 e)
 
-  three : x .kind ≡ 3 → slotClaim v d x ≡ revokeClaim v (x .handle)
+  three : x .kind ≡ 3 → slotClaim (named v) d x ≡ revokeClaim (v .sizes) (v .regionPool) (regionAt v) (x .handle)
   unfolding slotClaim
   three e = rw (ne-eqb (x .kind) 2 (λ z. omega arith), eq-eqb (x .kind) 3 e)
 
-  four : x .kind ≡ 4 → slotClaim v d x ≡ managementClaim v d (x .handle)
+  four : x .kind ≡ 4 → slotClaim (named v) d x ≡ managementClaim (v .sizes) (v .domainPool) (managerOf v) d (x .handle)
   unfolding slotClaim
   four e = rw (ne-eqb (x .kind) 2 (λ z. omega arith), ne-eqb (x .kind) 3 (λ z. omega arith), eq-eqb (x .kind) 4 e)
 
-  five : x .kind ≡ 5 → slotClaim v d x ≡ channelClaim v (x .handle)
+  five : x .kind ≡ 5 → slotClaim (named v) d x ≡ claimBy (wrong (v .sizes)) (v .domainPool) (x .handle) 0
   unfolding slotClaim
   five e = rw (ne-eqb (x .kind) 2 (λ z. omega arith), ne-eqb (x .kind) 3 (λ z. omega arith), ne-eqb (x .kind) 4 (λ z. omega arith), eq-eqb (x .kind) 5 e)
 
-  other : x .kind ≢ 2 → x .kind ≢ 3 → x .kind ≢ 4 → x .kind ≢ 5 → slotClaim v d x ≡ 0
+  other : x .kind ≢ 2 → x .kind ≢ 3 → x .kind ≢ 4 → x .kind ≢ 5 → slotClaim (named v) d x ≡ 0
   unfolding slotClaim
   other a b c e = rw (ne-eqb (x .kind) 2 a, ne-eqb (x .kind) 3 b, ne-eqb (x .kind) 4 c, ne-eqb (x .kind) 5 e)
 
@@ -130,11 +130,11 @@ module _ (v : Tables) (s : Shaped v) where
   unfolding rowClaim
   row-free d j t = rw (not-taken (v .domainPool) d t)
 
-  row-slot : (d j : ℕ) → taken (v .domainPool) d ≡ true → j < S → rowClaim v d j ≡ slotClaim v d (slotAt v d j)
+  row-slot : (d j : ℕ) → taken (v .domainPool) d ≡ true → j < S → rowClaim v d j ≡ slotClaim (named v) d (slotAt v d j)
   unfolding rowClaim
   row-slot d j t b = rw (taken-used (v .domainPool) d t, lt-ltb j S b)
 
-  row-head : (d j : ℕ) → taken (v .domainPool) d ≡ true → S ≤ j → rowClaim v d j ≡ headClaim v d
+  row-head : (d j : ℕ) → taken (v .domainPool) d ≡ true → S ≤ j → rowClaim v d j ≡ headClaim (v .sizes) (managerOf v) d
   unfolding rowClaim
   row-head d j t b = rw (taken-used (v .domainPool) d t, le-ltb j S b)
 
@@ -179,7 +179,6 @@ module _ (v : Tables) (s : Shaped v) where
     management-row e = row-slot d j t b ∙ four v d x e
 
     channel-row : x .kind ≡ 5 → rowClaim v d j ≡ claimBy bad (v .domainPool) h 0
-    unfolding channelClaim
     channel-row e = row-slot d j t b ∙ five v d x e
 
     pub other-row : x .kind ≢ 2 → x .kind ≢ 3 → x .kind ≢ 4 → x .kind ≢ 5 → rowClaim v d j ≡ 0
@@ -234,18 +233,18 @@ module _ (v : Tables) (s : Shaped v) where
   -- ---- a head
 
   module _ (d j : ℕ) (t : taken (v .domainPool) d ≡ true) (b : S ≤ j) where
-    pub head-claims : d < D → climbed v D (headAt v d .manager) ≡ 0 → headAt v d .manager ≡ 0 → rowClaim v d j ≡ suc (R + d)
+    pub head-claims : d < D → climbed (managerOf v) D (headAt v d .manager) ≡ 0 → headAt v d .manager ≡ 0 → rowClaim v d j ≡ suc (R + d)
     unfolding headClaim
-    head-claims k z e = row-head d j t b ∙ rw (eq-eqb (climbed v D (headAt v d .manager)) 0 z, eq-eqb (headAt v d .manager) 0 e, lt-ltb d D k) (omega arith)
+    head-claims k z e = row-head d j t b ∙ rw (eq-eqb (climbed (managerOf v) D (headAt v d .manager)) 0 z, eq-eqb (headAt v d .manager) 0 e, lt-ltb d D k) (omega arith)
 
-    pub head-passes : climbed v D (headAt v d .manager) ≡ 0 → headAt v d .manager ≢ 0 → rowClaim v d j ≡ 0
+    pub head-passes : climbed (managerOf v) D (headAt v d .manager) ≡ 0 → headAt v d .manager ≢ 0 → rowClaim v d j ≡ 0
     unfolding headClaim
-    head-passes z e = row-head d j t b ∙ rw (eq-eqb (climbed v D (headAt v d .manager)) 0 z, ne-eqb (headAt v d .manager) 0 e)
+    head-passes z e = row-head d j t b ∙ rw (eq-eqb (climbed (managerOf v) D (headAt v d .manager)) 0 z, ne-eqb (headAt v d .manager) 0 e)
 
-    pub head-climbs : rowClaim v d j ≤ R + D → climbed v D (headAt v d .manager) ≡ 0
+    pub head-climbs : rowClaim v d j ≤ R + D → climbed (managerOf v) D (headAt v d .manager) ≡ 0
     unfolding headClaim
-    head-climbs f = elim (test (eqb (climbed v D (headAt v d .manager)) 0)) [
-      | holds z ↦ eqb-true (climbed v D (headAt v d .manager)) 0 z
+    head-climbs f = elim (test (eqb (climbed (managerOf v) D (headAt v d .manager)) 0)) [
+      | holds z ↦ eqb-true (climbed (managerOf v) D (headAt v d .manager)) 0 z
       | fails z ↦ absurd (omega (arith, f, row-head d j t b, ap (λ c. pick c (pick (eqb (headAt v d .manager) 0) (number (wrong (v .sizes)) R D d) 0) (wrong (v .sizes))) z))
     ]
 

@@ -28,7 +28,8 @@ use Rattle.decoded.specs.Shape.{Shaped}
 use Rattle.decoded.specs.Decode.Read.{poolFrom, taken, linked, kindFrom, capaFrom, heldIn, domainRead, regionRead, domainsFrom, regionsFrom, stateOf}
 use Rattle.decoded.specs.Canonical.Pools.{table-used, table-in}
 use Rattle.decoded.specs.Canonical.Pools.{table-used, table-in}
-use Rattle.sound_capas.specs.Capas.{olderB, above, climbed, rowClaim}
+use Rattle.sound_capas.specs.Capas.{managerOf, olderB, above, climbed, rowClaim}
+use Rattle.sound_capas.specs.Managers.{climb-none}
 use Rattle.exact_capas.specs.Clauses.{Before, CapasClauses}
 use Rattle.exact_capas.specs.Reads.{Lives, lives, live-read, fit-out}
 use Rattle.exact_capas.specs.Items.{kind, is2, is3, is4, is5, isNot, row-free, region-claims, management-claims, revoke-claims, channel-claims, other-row, old-region, old-domain, head-claims, head-passes}
@@ -38,11 +39,6 @@ use Rattle.exact_capas.specs.Managers.{above-is}
 names-link : (l d : ℕ) → names (linked l) d ≡ true → l ≡ suc d
 names-link zero d t = absurd (let z = ap oneIf t in omega arith)
 names-link (suc i) d t = ap suc (eqb-true i d t)
-
-climb-none : (v : Tables) (n : ℕ) → climbed v n 0 ≡ 0
-unfolding climbed above
-climb-none v zero = refl
-climb-none v (suc n) = climb-none v n
 
 module _ (v : Tables) (k : Before v) (q : CapasClauses v) where
   abbrev s : Shaped v
@@ -161,22 +157,22 @@ module _ (v : Tables) (k : Before v) (q : CapasClauses v) where
 
   -- ---- a head
 
-  climb : (n d : ℕ) → T (managed n (domainsFrom v) d) → climbed v n (headAt v d .manager) ≡ 0
+  climb : (n d : ℕ) → T (managed n (domainsFrom v) d) → climbed (managerOf v) n (headAt v d .manager) ≡ 0
   unfolding domainsFrom headAt climbed
   climb zero d m = absurd m
   climb (suc n) d m = go (atSlot (domainsFrom v) d) refl m (λ p x. climb n p x)
     where
-      up : (l : ℕ) → T (ifSome (λ p. managed n (domainsFrom v) p) (linked l)) → ((p : ℕ) → T (managed n (domainsFrom v) p) → climbed v n (headAt v p .manager) ≡ 0) → climbed v n (above v l) ≡ 0
-      up zero x ih = climb-none v (suc n)
-      up (suc p) x ih = ap (climbed v n) (above-is v (suc p) p refl) ∙ ih p x
+      up : (l : ℕ) → T (ifSome (λ p. managed n (domainsFrom v) p) (linked l)) → ((p : ℕ) → T (managed n (domainsFrom v) p) → climbed (managerOf v) n (headAt v p .manager) ≡ 0) → climbed (managerOf v) n (above (managerOf v) l) ≡ 0
+      up zero x ih = climb-none (managerOf v) (suc n)
+      up (suc p) x ih = ap (climbed (managerOf v) n) (above-is v (suc p) p refl) ∙ ih p x
 
-      go : (o : Option state.Domain) → atSlot (domainsFrom v) d ≡ o → T (managerPasses (λ p. managed n (domainsFrom v) p) o) → ((p : ℕ) → T (managed n (domainsFrom v) p) → climbed v n (headAt v p .manager) ≡ 0) → climbed v n (above v (headAt v d .manager)) ≡ 0
+      go : (o : Option state.Domain) → atSlot (domainsFrom v) d ≡ o → T (managerPasses (λ p. managed n (domainsFrom v) p) o) → ((p : ℕ) → T (managed n (domainsFrom v) p) → climbed (managerOf v) n (headAt v p .manager) ≡ 0) → climbed (managerOf v) n (above (managerOf v) (headAt v d .manager)) ≡ 0
       go none e x ih = absurd x
       go (some y) e x ih =
           let u = table-in D (v .domainPool) (domainRead v) d y e in
           up (headAt v d .manager) (subst (λ (z : state.Domain). T (ifSome (λ p. managed n (domainsFrom v) p) (z .manager))) (sym (u .2)) x) ih
 
-  pub climbs : (d : ℕ) → d < D → taken (v .domainPool) d ≡ true → climbed v D (headAt v d .manager) ≡ 0
+  pub climbs : (d : ℕ) → d < D → taken (v .domainPool) d ≡ true → climbed (managerOf v) D (headAt v d .manager) ≡ 0
   unfolding stateOf domainsFrom
   climbs d b t =
       let long : length (domainsFrom v) ≡ D = map-up-length (λ i. if taken (v .domainPool) i then some (domainRead v i) else none) D in

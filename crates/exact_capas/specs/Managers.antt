@@ -20,7 +20,7 @@ use Rattle.tables.specs.Tables.{Tables, headAt, slotAt}
 use Rattle.decoded.specs.Shape.{Shaped}
 use Rattle.decoded.specs.Decode.Read.{poolFrom, taken, linked, heldIn, domainRead, domainsFrom, stateOf}
 use Rattle.decoded.specs.Canonical.Pools.{table-used, table-in}
-use Rattle.sound_capas.specs.Capas.{above, climbed, rowClaim, capasHold}
+use Rattle.sound_capas.specs.Capas.{managerOf, above, climbed, rowClaim, capasHold}
 use Rattle.exact_capas.specs.Grid.{sum-only}
 use Rattle.exact_capas.specs.Clauses.{Before}
 use Rattle.exact_capas.specs.Reads.{Lives, live-at}
@@ -30,7 +30,7 @@ use Rattle.exact_capas.specs.Held.{management-held, held-management, hel
 use Rattle.exact_capas.specs.Passed.{rows, Item, claimed, same-item}
 
 -- the manager's link of a domain that a link names
-pub above-is : (v : Tables) (l m : ℕ) → l ≡ suc m → above v l ≡ headAt v m .manager
+pub above-is : (v : Tables) (l m : ℕ) → l ≡ suc m → above (managerOf v) l ≡ headAt v m .manager
 unfolding above
 above-is v l m e = let z : l - 1 ≡ m = omega arith in rw (lt-ltb 0 l (omega arith)) (ap (λ i. headAt v i .manager) z)
 
@@ -118,10 +118,10 @@ module _ (v : Tables) (k : Before v) (pass : capasHold v ≡ true) where
   step m zero b t e f = Managed.noManager m (domainRead v m) (in-use m b t) (ap linked e)
   step m (suc p) b t e f = let u = up m p b t e in Managed.by m p (domainRead v m) (in-use m b t) (ap linked e) (f p e (u .0) (u .1))
 
-  climb : (n l : ℕ) → climbed v n l ≡ 0 → (m : ℕ) → l ≡ suc m → m < D → taken (v .domainPool) m ≡ true → Managed (domainsFrom v) m
+  climb : (n l : ℕ) → climbed (managerOf v) n l ≡ 0 → (m : ℕ) → l ≡ suc m → m < D → taken (v .domainPool) m ≡ true → Managed (domainsFrom v) m
   unfolding climbed
   climb zero l z m e b t = absurd (omega arith)
-  climb (suc n) l z m e b t = step m (manager m) b t refl (λ p q. climb n (above v l) z p (above-is v l m e ∙ q))
+  climb (suc n) l z m e b t = step m (manager m) b t refl (λ p q. climb n (above (managerOf v) l) z p (above-is v l m e ∙ q))
 
   no-circle : (d : ℕ) → d < D → taken (v .domainPool) d ≡ true → Managed (domainsFrom v) d
   no-circle d b t = step d (manager d) b t refl (λ p q. climb D (manager d) (head-climbs v s d S t (omega arith) (rows v k pass .within d S b (omega arith))) p q)

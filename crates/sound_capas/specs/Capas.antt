@@ -10,6 +10,7 @@ use Rattle.base.specs.Tests.{both}
 use Rattle.sizes.specs.declared.Sizes.{Sizes}
 use Rattle.tables.specs.declared.Handle.{Handle}
 use Rattle.tables.specs.declared.Slot.{Slot}
+use Rattle.tables.specs.declared.RegionCapa.{RegionCapa}
 use Rattle.tables.specs.Kinds.{REGION, «REGION_REVOKE», MANAGEMENT, CHANNEL, ROOT}
 use Rattle.tables.specs.Tables.{Tables, Arena, headAt, slotAt, regionAt}
 use Rattle.arena.specs.Arena.{isFreeB, liveB, capacityOf}
@@ -38,53 +39,60 @@ claimBy bad a h live = pick (liveB a h) live (pick (olderB a h) 0 bad)
 
 -- ---- a slot of domain d
 
+-- what slots and heads are held to: the sizes, the pools of regions and domains, the rows of regions, each domain's link to its manager
+pub record Named : Type 0 where
+  pub sizes : Sizes
+  pub regionPool : Arena
+  pub domainPool : Arena
+  pub region : ℕ → RegionCapa
+  pub manager : ℕ → ℕ
+
+abbrev pub managerOf : Tables → ℕ → ℕ
+managerOf v i = headAt v i .manager
+
+abbrev pub named : Tables → Named
+named v = record { sizes = v .sizes; regionPool = v .regionPool; domainPool = v .domainPool; region = regionAt v; manager = managerOf v }
+
 -- "each live region has one Region slot, in its domain"
-unfoldable pub regionClaim : Tables → ℕ → Handle → ℕ
-regionClaim v d h =
-    claimBy (wrong (v .sizes)) (v .regionPool) h
-    (pick (namesB (regionAt v (h .slot) .owner) d) (number (wrong (v .sizes)) 0 (v .sizes .regions) (h .slot)) (wrong (v .sizes)))
+unfoldable pub regionClaim : Sizes → Arena → (ℕ → RegionCapa) → ℕ → Handle → ℕ
+regionClaim z a region d h = claimBy (wrong z) a h (pick (namesB (region (h .slot) .owner) d) (number (wrong z) 0 (z .regions) (h .slot)) (wrong z))
 
 -- "no RegionRevoke names a live root"
-unfoldable pub revokeClaim : Tables → Handle → ℕ
-revokeClaim v h = claimBy (wrong (v .sizes)) (v .regionPool) h (pick (eqb (regionAt v (h .slot) .kind) ROOT) (wrong (v .sizes)) 0)
+unfoldable pub revokeClaim : Sizes → Arena → (ℕ → RegionCapa) → Handle → ℕ
+revokeClaim z a region h = claimBy (wrong z) a h (pick (eqb (region (h .slot) .kind) ROOT) (wrong z) 0)
 
 -- "each live managed domain has one Management slot, in its manager's list"
-unfoldable pub managementClaim : Tables → ℕ → Handle → ℕ
-managementClaim v d h =
-    claimBy (wrong (v .sizes)) (v .domainPool) h
-    (pick (namesB (headAt v (h .slot) .manager) d) (number (wrong (v .sizes)) (v .sizes .regions) (v .sizes .domains) (h .slot)) (wrong (v .sizes)))
+unfoldable pub managementClaim : Sizes → Arena → (ℕ → ℕ) → ℕ → Handle → ℕ
+managementClaim z a manager d h = claimBy (wrong z) a h (pick (namesB (manager (h .slot)) d) (number (wrong z) (z .regions) (z .domains) (h .slot)) (wrong z))
 
-unfoldable pub channelClaim : Tables → Handle → ℕ
-channelClaim v h = claimBy (wrong (v .sizes)) (v .domainPool) h 0
-
-unfoldable pub slotClaim : Tables → ℕ → Slot → ℕ
-slotClaim v d x =
-    pick (eqb (x .kind) REGION) (regionClaim v d (x .handle))
-    (pick (eqb (x .kind) «REGION_REVOKE») (revokeClaim v (x .handle))
-    (pick (eqb (x .kind) MANAGEMENT) (managementClaim v d (x .handle))
-    (pick (eqb (x .kind) CHANNEL) (channelClaim v (x .handle)) 0)))
+-- a channel names any domain
+unfoldable pub slotClaim : Named → ℕ → Slot → ℕ
+slotClaim n d x =
+    pick (eqb (x .kind) REGION) (regionClaim (n .sizes) (n .regionPool) (n .region) d (x .handle))
+    (pick (eqb (x .kind) «REGION_REVOKE») (revokeClaim (n .sizes) (n .regionPool) (n .region) (x .handle))
+    (pick (eqb (x .kind) MANAGEMENT) (managementClaim (n .sizes) (n .domainPool) (n .manager) d (x .handle))
+    (pick (eqb (x .kind) CHANNEL) (claimBy (wrong (n .sizes)) (n .domainPool) (x .handle) 0) 0)))
 
 -- ---- a domain's head
 
 -- the manager's link of the domain that a link names
-unfoldable pub above : Tables → ℕ → ℕ
-above v l = pick (ltb 0 l) (headAt v (l - 1) .manager) 0
+unfoldable pub above : (ℕ → ℕ) → ℕ → ℕ
+above manager l = pick (ltb 0 l) (manager (l - 1)) 0
 
 -- n steps up from a link
-unfoldable pub climbed : Tables → ℕ → ℕ → ℕ
-climbed v zero l = l
-climbed v (suc n) l = climbed v n (above v l)
+unfoldable pub climbed : (ℕ → ℕ) → ℕ → ℕ → ℕ
+climbed manager zero l = l
+climbed manager (suc n) l = climbed manager n (above manager l)
 
 -- "managers form no circle"; an unmanaged domain claims itself, since no slot may
-unfoldable pub headClaim : Tables → ℕ → ℕ
-headClaim v d =
-    pick (eqb (climbed v (v .sizes .domains) (headAt v d .manager)) 0)
-    (pick (eqb (headAt v d .manager) 0) (number (wrong (v .sizes)) (v .sizes .regions) (v .sizes .domains) d) 0) (wrong (v .sizes))
+unfoldable pub headClaim : Sizes → (ℕ → ℕ) → ℕ → ℕ
+headClaim z manager d =
+    pick (eqb (climbed manager (z .domains) (manager d)) 0) (pick (eqb (manager d) 0) (number (wrong z) (z .regions) (z .domains) d) 0) (wrong z)
 
 -- ---- all domains: the slots of each, and then its head
 
 unfoldable pub rowClaim : Tables → ℕ → ℕ → ℕ
-rowClaim v d j = pick (isFreeB (v .domainPool) d) 0 (pick (ltb j (v .sizes .slots)) (slotClaim v d (slotAt v d j)) (headClaim v d))
+rowClaim v d j = pick (isFreeB (v .domainPool) d) 0 (pick (ltb j (v .sizes .slots)) (slotClaim (named v) d (slotAt v d j)) (headClaim (v .sizes) (managerOf v) d))
 
 unfoldable pub capaClaim : Tables → ℕ → ℕ
 capaClaim v i = rowClaim v (i / (v .sizes .slots + 1)) (i % (v .sizes .slots + 1))

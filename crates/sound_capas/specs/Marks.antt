@@ -30,33 +30,6 @@ unfoldable pub scan : (ℕ → ℕ) → ℕ → ℕ → List ℕ → ℕ → Boo
 scan f zero k m left = eqb left 0
 scan f (suc n) k m left = pick (takes m (f k)) (scan f n (suc k) (marked m (f k)) (leftBy left (f k))) false
 
--- ---- the loop's turns
-
-pub scan-start : (f : ℕ → ℕ) (n : ℕ) (m : List ℕ) (left : ℕ) → scan f n 0 m left ≡ scan f (n - 0) 0 m left
-scan-start f n m left = let e : n ≡ n - 0 = omega arith in ap (λ k. scan f k 0 m left) e
-
-pub scan-go : (f : ℕ → ℕ) (n i : ℕ) (m : List ℕ) (left c : ℕ) (b : Bool) (m₂ : List ℕ) (left₂ : ℕ) → i < n → c ≡ f i → b ≡ takes m c → b ≡ true → m₂ ≡ marked m c → left₂ ≡ leftBy left c
-    → scan f (n - i) i m left ≡ scan f (n - (i + 1)) (i + 1) m₂ left₂
-unfolding scan
-scan-go f n i m left c b m₂ left₂ h ec eb t em el =
-    let e : n - i ≡ suc (n - (i + 1)) = omega arith in
-    let s : suc i ≡ i + 1 = omega arith in
-    ap (λ k. scan f k i m left) e ∙ rw (← ec, ← eb, t, ← em, ← el) (ap (λ k. scan f (n - (i + 1)) k m₂ left₂) s)
-
-pub scan-stop : (f : ℕ → ℕ) (n i : ℕ) (m : List ℕ) (left c : ℕ) (b : Bool) → i < n → c ≡ f i → b ≡ takes m c → b ≡ false → scan f (n - i) i m left ≡ false
-unfolding scan
-scan-stop f n i m left c b h ec eb t =
-    let e : n - i ≡ suc (n - (i + 1)) = omega arith in
-    ap (λ k. scan f k i m left) e ∙ rw (← ec, ← eb, t)
-
-pub scan-end : (f : ℕ → ℕ) (n i : ℕ) (m : List ℕ) (left : ℕ) → n ≤ i → scan f (n - i) i m left ≡ eqb left 0
-unfolding scan
-scan-end f n i m left h = let e : n - i ≡ 0 = omega arith in ap (λ k. scan f k i m left) e
-
-pub marked-length : (m : List ℕ) (c : ℕ) → length (marked m c) ≡ length m
-unfolding marked
-marked-length m c = elim (ℕ-discrete c 0) [ yes e ↦ rw (eq-eqb c 0 e) | no e ↦ rw (ne-eqb c 0 e) (length-set m (c - 1) 1) ]
-
 -- ---- what the marks stand for
 
 -- claims nothing, or a number that is not marked

@@ -3,7 +3,6 @@ use mathlib.Core.Path.{_≡_, refl, ap, _∙_}
 use Prim.Native.Nat.{ℕ, suc, _+_, _-_, _*_, _≤_, _<_}
 use mathlib.Core.Bool.{Bool}
 use mathlib.Core.List.{List}
-use native.Mathlib.Nat.{mul-le-mul}
 use native.Mathlib.Omega.{arith}
 use borrow.Rule.Slice.PartMut.{putMid, put-same}
 use lib.ListN.{length, take, drop, replicate}
@@ -12,31 +11,17 @@ use Rattle.words.specs.Cuts.{offset}
 use Rattle.words.specs.Zeros.{take-zeros}
 use Rattle.tables.specs.Tables.{Tables}
 use Rattle.sizes.specs.declared.Sizes.{Sizes}
-use Rattle.sizes.specs.Limits.{mostDomains, mostSlots, Limits}
 use Rattle.tables.specs.View.{view, ofParts, Sized}
 use Rattle.sizes.specs.Sizes.{sizesOf, total}
 use Rattle.arena.specs.Arena.{capacityOf}
 use Rattle.sound_capas.specs.Claims.{claimsHold}
-use Rattle.sound_capas.specs.Capas.{above, climbed, capaClaim, capasHold}
+use Rattle.sound_capas.specs.Capas.{capaClaim, capasHold}
 
 -- ---- sizes
 
 pub sizes-seen : (t : List ℕ) → sizesOf t ≡ view t .sizes
 unfolding view ofParts
 sizes-seen t = refl
-
--- ---- climbing
-
-pub climb-start : (v : Tables) (n l : ℕ) → climbed v n l ≡ climbed v (n - 0) l
-climb-start v n l = let e : n ≡ n - 0 = omega arith in ap (λ k. climbed v k l) e
-
-pub climb-step : (v : Tables) (n i l : ℕ) → i < n → climbed v (n - i) l ≡ climbed v (n - (i + 1)) (above v l)
-unfolding climbed
-climb-step v n i l h = let e : n - i ≡ suc (n - (i + 1)) = omega arith in ap (λ k. climbed v k l) e
-
-pub climb-end : (v : Tables) (n i l : ℕ) → n ≤ i → climbed v (n - i) l ≡ l
-unfolding climbed
-climb-end v n i l h = let e : n - i ≡ 0 = omega arith in ap (λ k. climbed v k l) e
 
 -- ---- the marks are a part of the work area
 
@@ -52,9 +37,6 @@ lent-clear w m e h =
 pub lent-same : (w p : List ℕ) (m : ℕ) → p ≡ take (m - 0) (drop 0 w) → putMid 0 (m - 0) w p ≡ w
 lent-same w p m e = ap (putMid 0 (m - 0) w) e ∙ put-same 0 (m - 0) w
 
-pub rows-fit : (z : Sizes) → Limits z → z .domains * (z .slots + 1) ≤ mostDomains * (mostSlots + 1)
-rows-fit z h = let e : z .slots + 1 ≤ mostSlots + 1 = omega (arith, h .slots-high) in mul-le-mul (h .domains-high) e
-
 pub marks-fit : (t : List ℕ) → Sized t → sizesOf t .regions + sizesOf t .domains ≤ length t
 unfolding total offset
 marks-fit t s = omega (arith, s .exact)
@@ -62,6 +44,6 @@ marks-fit t s = omega (arith, s .exact)
 -- ---- the test
 
 pub capas-are : (v : Tables) (z : Sizes) (r : Bool) (a used b want k : ℕ) → z ≡ v .sizes → a ≡ capacityOf (v .regionPool) → used ≡ z .regions + z .domains - a → b ≡ capacityOf (v .domainPool) → want ≡ used - b
-    → k ≡ z .regions + z .domains → r ≡ claimsHold (capaClaim v) k (z .domains * (z .slots + 1)) want → r ≡ capasHold v
+    → k ≡ z .regions + z .domains → r ≡ claimsHold (capaClaim v) k (v .sizes .domains * (v .sizes .slots + 1)) want → r ≡ capasHold v
 unfolding capasHold
 capas-are v z r a used b want k ez ea eu eb ew ek er = rw (er, ek, ew, eu, ea, eb, ez)

@@ -1,11 +1,8 @@
-// The walk with marks.
+// The marks: one for each number that may be claimed.
 ghost use mathlib.Core.Path.{_≡_};
-ghost use lib.ListN.{length, replicate};
-ghost use Rattle.tables.specs.View.{view, Sized};
-ghost use Rattle.sound_capas.specs.Claims.{claimsHold};
-ghost use Rattle.sound_capas.specs.Marks.{takes, marked, leftBy, scan};
-ghost use Rattle.sound_capas.specs.Capas.{capaClaim};
-use crate::capas;
+ghost use Rattle.sound_capas.specs.Marks.{takes, marked, leftBy};
+ghost use Rattle.sound_capas.specs.Walk.{marking, taken};
+use crate::Tally;
 use crate::reads;
 
 // Sets the mark of number c; nothing where c is 0. False where there is none, or it is set.
@@ -28,34 +25,13 @@ fn left_by(left: usize, c: usize) -> usize
     reads::select(c == 0, left, reads::less(left, 1))
 }
 
-// n items, with what is left to be claimed.
-fn walk(t: &[u64], m: &mut [u64], n: usize, want: usize) -> bool
-    requires { ⌜ Sized (now t) ⌝ }
-    ensures { λ r. ⌜ r ≡ scan (capaClaim (view (now (t .entry)))) n 0 (now (m .entry)) want ⌝ }
-    ensures { λ _. ⌜ length (now (m .exit)) ≡ length (now (m .entry)) ⌝ }
+// What was seen, and then c claimed.
+pub fn take(m: &mut [u64], y: Tally, c: usize) -> Tally
+    ensures { λ r. ⌜ marking (now (m .exit)) r ≡ taken (marking (now (m .entry)) y) c ⌝ }
 {
-    let mut left = want;
-    let mut i = 0;
-    while i < n {
-        let c = capas::capa_claim(t, i);
-        let taken = claim(m, c);
-        if !taken {
-            return false;
-        }
-        left = left_by(left, c);
-        i += 1;
+    let fresh = claim(m, c);
+    Tally {
+        fits: words::both(fresh, y.fits),
+        left: left_by(y.left, c),
     }
-    left == 0
-}
-
-// Whether nothing is wrong, nothing is claimed twice, and as many are claimed as are wanted. The marks are cleared again.
-pub fn claims_hold(t: &[u64], m: &mut [u64], n: usize, want: usize) -> bool
-    requires { ⌜ Sized (now t) ⌝ }
-    requires { ⌜ now m ≡ replicate (length (now m)) 0 ⌝ }
-    ensures { λ r. ⌜ r ≡ claimsHold (capaClaim (view (now (t .entry)))) (length (now (m .entry))) n want ⌝ }
-    ensures { λ _. ⌜ now (m .exit) ≡ now (m .entry) ⌝ }
-{
-    let answer = walk(t, m, n, want);
-    words::clear(m);
-    answer
 }
