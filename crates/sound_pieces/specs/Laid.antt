@@ -13,7 +13,7 @@ use Rattle.words.specs.Rows.{flat}
 use Rattle.sweep.specs.Events.{Piece, Event, starts, ends, startOf, endOf}
 use Rattle.sound_events.specs.Events.{eventWords, wordsOf}
 use Rattle.sound_events.specs.Words.{length-words}
-use Rattle.sound_pieces.specs.Stores.{sets-append, sets-apart}
+use Rattle.words.specs.Stores.{sets-append, sets-apart}
 
 -- how many pieces there is room for
 abbrev pub space : List ℕ → ℕ
