@@ -1,1 +1,3 @@
+pub mod Area
+pub mod Laws
 pub mod Trackers

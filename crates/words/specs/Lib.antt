@@ -1,5 +1,6 @@
-pub mod Runs
 pub mod Copies
-pub mod Rows
 pub mod Cuts
+pub mod Rows
+pub mod Runs
+pub mod Stores
 pub mod Zeros
