@@ -23,7 +23,8 @@ use Rattle.sound_pools.specs.declared.links.Stack.the-variants.{Trackers}
 use Rattle.decoded.specs.Canonical.Ends.{chainEnd}
 use Rattle.sound_pools.specs.Walk.{covered, met}
 use Rattle.sound_pools.specs.Hold.{mayMeet, eligible, nextOf, onward, trackersMet, trackersHold}
-use Rattle.exact_pools.specs.Walks.{marked-once, once-marked, covers-at, at-covers, Met, met-is, Goes, is-met}
+use Rattle.sound_pools.specs.Counting.{covers-at, at-covers}
+use Rattle.exact_pools.specs.Walks.{marked-once, once-marked, Met, met-is, Goes, is-met}
 use Rattle.exact_pools.specs.Pools.{inside-of}
 use Rattle.exact_pools.specs.Domains.{domain-free}
 

@@ -11,13 +11,13 @@ use native.Mathlib.Decide.{ℕ-discrete}
 use borrow.Author.Tests.{eqb-true, lt-ltb, le-ltb, eq-eqb, ne-eqb}
 use lib.Dec.{eqb, ltb}
 use Rattle.base.specs.Cases.{lt, ge, cmp, holds, fails, test, pick}
-use Rattle.base.specs.Tests.{both-true, all-at, at-all, true-false, allFrom}
+use Rattle.base.specs.Tests.{both-true, true-false}
 use Rattle.base.specs.Options.{none-some, some-same}
 use Rattle.model.specs.Lists.{oneIf, countIf}
 use Rattle.laws.specs.Stack.{one}
 use Rattle.decoded.specs.Decode.Read.{chainFrom}
 use Rattle.decoded.specs.Canonical.Ends.{chainEnd}
-use Rattle.sound_pools.specs.Walk.{seen, fresh, mark, met, ended, covers}
+use Rattle.sound_pools.specs.Walk.{seen, fresh, met, ended}
 
 -- ---- what was met, counted
 
@@ -44,20 +44,6 @@ marked-once i l b h e = elim (cmp 0 (countIf (eqb i) l)) [
 pub once-marked : (i : ℕ) (l : List ℕ) (b : Bool) → countIf (eqb i) l ≡ oneIf b → seen i l ≡ b
 once-marked i l true e = seen-in i l (omega arith)
 once-marked i l false e = seen-not i l e
-
-marks-same : (a b : Bool) → eqb (mark a) (mark b) ≡ true → a ≡ b
-marks-same true true e = refl
-marks-same true false e = let z = eqb-true 1 0 e in absurd (omega arith)
-marks-same false true e = let z = eqb-true 0 1 e in absurd (omega arith)
-marks-same false false e = refl
-
-pub covers-at : (ok : ℕ → Bool) (n : ℕ) (l : List ℕ) → covers ok n l ≡ true → (i : ℕ) → i < n → seen i l ≡ ok i
-unfolding covers
-covers-at ok n l h i b = marks-same (seen i l) (ok i) (all-at (λ i. eqb (mark (seen i l)) (mark (ok i))) 0 n h i (omega arith) (omega arith))
-
-pub at-covers : (ok : ℕ → Bool) (n : ℕ) (l : List ℕ) → ((i : ℕ) → i < n → seen i l ≡ ok i) → covers ok n l ≡ true
-unfolding covers
-at-covers ok n l h = at-all (λ i. eqb (mark (seen i l)) (mark (ok i))) 0 n (λ i a b. rw (h i (omega arith)) (eq-eqb (mark (ok i)) (mark (ok i)) refl))
 
 -- ---- the walk and the list
 

@@ -7,6 +7,8 @@ use native.Mathlib.Omega.{arith}
 use borrow.Author.Tests.{le-leb, lt-leb, not-true, not-false}
 use lib.ListN.{length, getD, replicate}
 use Rattle.base.specs.Tests.{both}
+use Rattle.base.specs.Lists.{getD-zeros}
+use Rattle.marks.specs.Marks.{wordsFor}
 use Rattle.tables.specs.declared.DomainHead.{DomainHead}
 use Rattle.tables.specs.Tables.{Tables, headAt}
 use Rattle.tables.specs.View.{view, ofParts}
@@ -14,11 +16,12 @@ use Rattle.sizes.specs.Sizes.{sizesOf}
 use Rattle.sound_pools.specs.declared.links.Stack.{Stack}
 use Rattle.sound_pools.specs.declared.links.Stack.the-variants.{Domains, Slots, Trackers}
 use Rattle.sound_pools.specs.declared.links.Top.{Top}
+use Rattle.sound_pools.specs.declared.walks.Followed.{Followed}
 use Rattle.sound_pools.specs.Walk.{linkTo}
 use Rattle.sound_pools.specs.Hold.{slotsOf, topOf, mayMeet, metIn, coveredIn, stackHolds, trackersMet, trackersHold, headClear, slotsHold, domainHolds}
-use Rattle.sound_pools.specs.Marks.{Clean, marks-none, pick-then, pick-else}
-use Rattle.sound_pools.specs.Loops.{Marked, TrackersMarked, MarksCompared, Beyond}
-use Rattle.sound_pools.specs.Turns.{Along, along-go, along-skip, along-stop}
+use Rattle.sound_pools.specs.Marks.{Clean, Marks, marks-none, pick-then, pick-else}
+use Rattle.sound_pools.specs.Loops.{Marked, TrackersMarked, Settled, Beyond}
+use Rattle.sound_pools.specs.Turns.{Along, along-few, along-go, along-skip, along-stop}
 
 pub slots-seen : (t : List ℕ) → view t .sizes .slots ≡ getD t 1 0
 unfolding view ofParts sizesOf
@@ -31,8 +34,8 @@ clean-same t w w′ e c = subst (Clean t) (sym e) c
 
 module _ (t w : List ℕ) (cl : Clean t w) where
   -- after the marks are cleared the work area is as it was
-  back : (n : ℕ) (w₁ w₂ : List ℕ) → Beyond n w w₁ → length w₁ ≡ length w → (((j : ℕ) → n ≤ j → getD w₁ j 0 ≡ 0) → w₂ ≡ replicate (length w₁) 0) → w₂ ≡ w
-  back n w₁ w₂ b e h = h (λ j q. b j q ∙ marks-none t w cl j) ∙ ap (λ k. replicate k 0) e ∙ sym (cl .zero)
+  back : (n : ℕ) (w₁ w₂ : List ℕ) → Beyond n w w₁ → length w₁ ≡ length w → (((j : ℕ) → wordsFor n ≤ j → getD w₁ j 0 ≡ 0) → w₂ ≡ replicate (length w₁) 0) → w₂ ≡ w
+  back n w₁ w₂ b e h = h (λ j q. b j q ∙ ap (λ (l : List ℕ). getD l j 0) (cl .zero) ∙ getD-zeros (length w) j) ∙ ap (λ k. replicate k 0) e ∙ sym (cl .zero)
 
   module _ (s : Stack) (n : ℕ) (top : Top) (en : n ≡ slotsOf (view t) s) (et : top ≡ topOf (view t) s) where
     abbrev walked : ℕ → Top → ℕ → Bool
@@ -45,9 +48,9 @@ module _ (t w : List ℕ) (cl : Clean t w) where
         let a = er ∙ ap (walked n top) el ∙ ap (λ k. walked k top (linkTo k (top .head))) en ∙ ap (λ (p : Top). walked (slotsOf (view t) s) p (linkTo (slotsOf (view t) s) (p .head))) et in
         a ∙ sym (ap (λ b. both b (walked (slotsOf (view t) s) (topOf (view t) s) (linkTo (slotsOf (view t) s) (topOf (view t) s .head)))) (le-leb _ _ c))
 
-    pub stack-is : (l : ℕ) (m r : Bool) (w₁ w₂ : List ℕ) → top .count ≤ n → l ≡ linkTo n (top .head) → Marked (view t) s 1 (n - top .count) l w m w₁ → length w₁ ≡ length w → MarksCompared (view t) s m w₁ r w₂ → (r ≡ stackHolds (view t) s) × (w₂ ≡ w)
-    stack-is l m r w₁ w₂ h el g e q = (
-      stack-then l r h el (q .answer (metIn (view t) s 1 (n - top .count) l []) (g .goes [] (marks-none t w cl))),
+    pub stack-is : (l : ℕ) (x : Followed) (r : Bool) (w₁ w₂ : List ℕ) → top .count ≤ n → l ≡ linkTo n (top .head) → Marked (view t) s 1 (n - top .count) l w x w₁ → length w₁ ≡ length w → Settled (view t) s x w₁ r w₂ → (r ≡ stackHolds (view t) s) × (w₂ ≡ w)
+    stack-is l x r w₁ w₂ h el g e q = (
+      stack-then l r h el (q .answer (metIn (view t) s 1 (n - top .count) l []) (g .goes [] (marks-none (mayMeet (view t) s) t w cl))),
       back (slotsOf (view t) s) w₁ w₂ (g .beyond) e (q .clean),
     )
 
@@ -57,30 +60,32 @@ module _ (t w : List ℕ) (cl : Clean t w) where
         let c : slotsOf (view t) s < topOf (view t) s .count = omega (arith, ap (λ (p : Top). p .count) et) in
         sym (ap (λ b. both b (walked (slotsOf (view t) s) (topOf (view t) s) (linkTo (slotsOf (view t) s) (topOf (view t) s .head)))) (lt-leb _ _ c))
 
-  pub trackers-is : (m r : Bool) (w₁ w₂ : List ℕ) → TrackersMarked (view t) w m w₁ → length w₁ ≡ length w → MarksCompared (view t) Trackers m w₁ r w₂ → (r ≡ trackersHold (view t)) × (w₂ ≡ w)
+  pub trackers-is : (x : Followed) (r : Bool) (w₁ w₂ : List ℕ) → TrackersMarked (view t) w x w₁ → length w₁ ≡ length w → Settled (view t) Trackers x w₁ r w₂ → (r ≡ trackersHold (view t)) × (w₂ ≡ w)
   unfolding trackersHold
-  trackers-is m r w₁ w₂ g e q = (
-    q .answer (trackersMet (view t) (view t .sizes .domains) 0 []) (g .goes [] (marks-none t w cl)),
+  trackers-is x r w₁ w₂ g e q = (
+    q .answer (trackersMet (view t) (view t .sizes .domains) 0 []) (g .goes [] (marks-none (mayMeet (view t) Trackers) t w cl)),
     back (view t .sizes .records) w₁ w₂ (g .beyond) e (q .clean),
   )
 
 -- ---- a tracker, in the loop
 
-module _ (v : Tables) (w₀ : List ℕ) (d : ℕ) (w : List ℕ) (a : Along v w₀ d w) (n k : ℕ) (en : n ≡ v .sizes .domains) (ek : k ≡ v .sizes .records) (h : d < n) (may : Bool) (em : may ≡ mayMeet v Domains d) where
-  pub tracker-skip : not may ≡ false → Along v w₀ (d + 1) w
-  tracker-skip f = along-skip v w₀ d w a (omega arith) (sym em ∙ not-false may f)
+module _ (v : Tables) (w₀ : List ℕ) (d m : ℕ) (w : List ℕ) (a : Along v w₀ d m w) (n k : ℕ) (en : n ≡ v .sizes .domains) (ek : k ≡ v .sizes .records) (h : d < n) (may : Bool) (em : may ≡ mayMeet v Domains d) where
+  pub tracker-skip : not may ≡ false → Along v w₀ (d + 1) m w
+  tracker-skip f = along-skip v w₀ d m w a (omega arith) (sym em ∙ not-false may f)
 
-  module _ (f : not may ≡ true) (hd : DomainHead) (eh : hd ≡ headAt v d) (m : Bool) (w′ : List ℕ) (g : Marked v Trackers 0 k (hd .tracker) w m w′) where
-    marked-here : (b : Bool) → m ≡ b → Marked v Trackers 0 (v .sizes .records) (headAt v d .tracker) w b w′
-    marked-here b e =
-        subst (λ x. Marked v Trackers 0 (v .sizes .records) (headAt v d .tracker) w x w′) e
-        (subst (λ (x : DomainHead). Marked v Trackers 0 (v .sizes .records) (x .tracker) w m w′) eh (subst (λ x. Marked v Trackers 0 x (hd .tracker) w m w′) ek g))
+  module _ (f : not may ≡ true) (hd : DomainHead) (eh : hd ≡ headAt v d) (x : Followed) (w′ : List ℕ) (g : Marked v Trackers 0 k (hd .tracker) w x w′) where
+    marked-here : Marked v Trackers 0 (v .sizes .records) (headAt v d .tracker) w x w′
+    marked-here = subst (λ (y : DomainHead). Marked v Trackers 0 (v .sizes .records) (y .tracker) w x w′) eh (subst (λ y. Marked v Trackers 0 y (hd .tracker) w x w′) ek g)
 
-    pub tracker-go : not m ≡ false → Along v w₀ (d + 1) w′
-    tracker-go e = along-go v w₀ d w a (omega arith) (sym em ∙ not-true may f) w′ (marked-here true (not-false m e))
+    pub tracker-go : not (x .ended) ≡ false → Along v w₀ (d + 1) (m + x .links) w′
+    tracker-go e = along-go v w₀ d m w a (omega arith) (sym em ∙ not-true may f) x w′ marked-here (not-false (x .ended) e)
 
-    pub tracker-stop : not m ≡ true → TrackersMarked v w₀ false w′
-    tracker-stop e = along-stop v w₀ d w a (omega arith) (sym em ∙ not-true may f) w′ (marked-here false (not-true m e))
+    -- the count does not wrap
+    pub tracker-few : not (x .ended) ≡ false → Marks (mayMeet v Trackers) w₀ [] → m + x .links ≤ k
+    tracker-few e z = omega (arith, along-few v w₀ (d + 1) (m + x .links) w′ (tracker-go e) z)
+
+    pub tracker-stop : not (x .ended) ≡ true → TrackersMarked v w₀ (record { ended = false; links = m }) w′
+    tracker-stop e = along-stop v w₀ d m w a (omega arith) (sym em ∙ not-true may f) x w′ marked-here (not-true (x .ended) e)
 
 -- ---- a domain
 

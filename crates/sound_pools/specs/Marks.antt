@@ -1,57 +1,46 @@
 -- Marks in the work area stand for the slots that were met; and tests of every slot, turn by turn.
 use mathlib.Core.Path.{_≡_, refl, sym, ap, _∙_}
-use Prim.Native.Nat.{ℕ, zero, suc, _+_, _-_, _≤_, _<_}
+use Prim.Native.Nat.{ℕ, zero, suc, _+_, _-_, _/_, _≤_, _<_}
 use mathlib.Core.Bool.{Bool, true, false, not}
 use mathlib.Core.List.{List, [], _∷_}
 use native.Mathlib.Omega.{arith}
 use native.Mathlib.Numerals.{add-one}
 use native.Mathlib.Decide.{ℕ-discrete}
 use borrow.Author.Tests.{eq-eqb, ne-eqb}
-use lib.Dec.{eqb}
-use lib.ListN.{length, getD, set, replicate, length-replicate}
-use lib.Seq.{getD-set-same, getD-set-other, ext-getD}
+use lib.ListN.{length, replicate}
 use Rattle.base.specs.Cases.{pick}
-use Rattle.base.specs.Tests.{allFrom}
-use Rattle.base.specs.Lists.{getD-zeros}
-use Rattle.sound_pools.specs.Walk.{seen, mark, covers}
+use Rattle.base.specs.Tests.{both, allFrom}
+use Rattle.marks.specs.Marks.{marked, withMark}
+use Rattle.marks.specs.Laws.{mark-same, mark-other, none-marked}
+use Rattle.sound_pools.specs.Walk.{seen, fresh}
+use Rattle.sound_pools.specs.Counting.{Once}
 
 -- what the work area is before and after: as long as the tables, and all zero
 pub record Clean (t w : List ℕ) : Type 0 where
   pub long : length w ≡ length t
   pub zero : w ≡ replicate (length w) 0
 
--- the words are marks for the slots vs
-abbrev pub Marks : List ℕ → List ℕ → Type 0
-Marks w vs = (j : ℕ) → getD w j 0 ≡ mark (seen j vs)
+-- the marks are those of the slots vs, which may be met, none of them twice
+pub record Marks (ok : ℕ → Bool) (w vs : List ℕ) : Type 0 where
+  pub bits : (j : ℕ) → marked w j ≡ seen j vs
+  pub once : Once ok vs
 
--- the marks of n slots are those of the slots that may be met
-unfoldable pub coversMarks : (ℕ → Bool) → ℕ → List ℕ → Bool
-coversMarks ok n w = allFrom (λ i. eqb (getD w i 0) (mark (ok i))) 0 n
+pub marks-none : (ok : ℕ → Bool) (t w : List ℕ) → Clean t w → Marks ok w []
+marks-none ok t w c = record { bits = none-marked w (c .zero); once = tt }
 
-pub covers-marks : (ok : ℕ → Bool) (n : ℕ) (w vs : List ℕ) → Marks w vs → coversMarks ok n w ≡ covers ok n vs
-unfolding coversMarks covers
-covers-marks ok n w vs m = λ k. allFrom (λ i. eqb (m i k) (mark (ok i))) 0 n
+module _ (ok : ℕ → Bool) (w vs : List ℕ) (i : ℕ) (m : Marks ok w vs) where
+  -- the code's test is that of the walk
+  pub fresh-is : fresh ok i vs ≡ both (ok i) (not (marked w i))
+  fresh-is = ap (λ b. both (ok i) (not b)) (sym (m .bits i))
 
-pub marks-none : (t w : List ℕ) → Clean t w → Marks w []
-marks-none t w c j = ap (λ (l : List ℕ). getD l j 0) (c .zero) ∙ getD-zeros (length w) j
+  more-bits : i / 64 < length w → (j : ℕ) → marked (withMark w i) j ≡ seen j (i ∷ vs)
+  more-bits h j = elim (ℕ-discrete j i) [
+    | yes e ↦ rw (e, eq-eqb i i refl) (mark-same w i h)
+    | no ne ↦ rw (ne-eqb j i ne) (mark-other w i j h ne ∙ m .bits j)
+  ]
 
-pub marks-more : (w vs : List ℕ) (i : ℕ) → i < length w → Marks w vs → Marks (set w i 1) (i ∷ vs)
-marks-more w vs i h m j = elim (ℕ-discrete j i) [
-  | yes e ↦ rw (e, eq-eqb i i refl) (getD-set-same w i 1 0 h)
-  | no ne ↦ rw (ne-eqb j i ne) (getD-set-other w i j 1 0 ne ∙ m j)
-]
-
--- a word that is 0 is no mark
-pub unmarked : (w vs : List ℕ) (i : ℕ) → Marks w vs → eqb (getD w i 0) 0 ≡ not (seen i vs)
-unmarked w vs i m = ap (λ k. eqb k 0) (m i) ∙ clear (seen i vs)
-  where
-    clear : (b : Bool) → eqb (mark b) 0 ≡ not b
-    clear true = ne-eqb 1 0 (λ e. omega arith)
-    clear false = eq-eqb 0 0 refl
-
--- words that are all 0
-pub all-zero : (w : List ℕ) → ((j : ℕ) → getD w j 0 ≡ 0) → w ≡ replicate (length w) 0
-all-zero w h = ext-getD 0 w (replicate (length w) 0) (sym (length-replicate (length w) 0)) (λ i b. h i ∙ sym (getD-zeros (length w) i))
+  pub marks-more : i / 64 < length w → fresh ok i vs ≡ true → Marks ok (withMark w i) (i ∷ vs)
+  marks-more h f = record { bits = more-bits h; once = (f, m .once) }
 
 -- ---- every slot
 

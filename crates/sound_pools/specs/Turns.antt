@@ -1,63 +1,71 @@
--- The marks compared and cleared; and the walk along all trackers, domain by domain.
-use mathlib.Core.Path.{_≡_, refl, sym, ap, _∙_}
+-- What was met counted, and the marks cleared; and the walk along all trackers, domain by domain.
+use mathlib.Core.Path.{_≡_, refl, sym, ap, subst, _∙_}
 use Prim.Native.Nat.{ℕ, suc, _+_, _-_, _≤_, _<_}
 use mathlib.Core.Bool.{Bool, true, false}
 use mathlib.Core.Option.{Option, none, some}
-use mathlib.Core.List.{List, _++_}
+use mathlib.Core.List.{List, []}
 use native.Mathlib.Numerals.{add-one}
 use native.Mathlib.Omega.{arith}
-use borrow.Rule.Slice.PartMut.{putMid}
-use lib.ListN.{length, getD, drop, replicate, length-drop, replicate-append-replicate}
-use lib.Seq.{getD-drop}
+use lib.Dec.{eqb}
+use lib.ListN.{length, getD, replicate}
 use Rattle.base.specs.Cases.{pick}
-use Rattle.base.specs.Tests.{both}
+use Rattle.base.specs.Tests.{both, true-false}
+use Rattle.marks.specs.Marks.{wordsFor, unmarked}
+use Rattle.marks.specs.Laws.{unmarked-zero}
 use Rattle.tables.specs.Tables.{Tables, headAt}
 use Rattle.sound_pools.specs.declared.links.Stack.{Stack}
 use Rattle.sound_pools.specs.declared.links.Stack.the-variants.{Domains, Trackers}
+use Rattle.sound_pools.specs.declared.walks.Followed.{Followed}
 use Rattle.sound_pools.specs.Hold.{slotsOf, mayMeet, metIn, coveredIn, onward, trackersMet}
-use Rattle.sound_pools.specs.Marks.{Marks, coversMarks, covers-marks, all-zero}
-use Rattle.sound_pools.specs.Loops.{found, Gone, Beyond, Marked, TrackersMarked, MarksCompared, Rest}
+use Rattle.sound_pools.specs.Counting.{tally, once-few, covers-counted}
+use Rattle.sound_pools.specs.Marks.{Marks}
+use Rattle.sound_pools.specs.Loops.{found, Gone, Beyond, Marked, TrackersMarked, Settled, Rest, none-gone, some-gone, may-inside}
 
--- ---- compared and cleared
+-- ---- counted and cleared
 
-module _ (v : Tables) (s : Stack) (m all r : Bool) (w : List ℕ) (ea : all ≡ coversMarks (mayMeet v s) (slotsOf v s) w) (er : r ≡ both m all) where
-  answer-is : (o : Option (List ℕ)) → Gone o m w → r ≡ coveredIn v s o
-  answer-is none g = er ∙ ap (λ b. both b all) (g .said)
-  answer-is (some us) g = er ∙ ap (λ b. both b all) (g .said) ∙ ea ∙ covers-marks (mayMeet v s) (slotsOf v s) w us (g .marks us refl)
+module _ (v : Tables) (s : Stack) (x : Followed) (all : ℕ) (r : Bool) (w : List ℕ) (ea : all ≡ tally (mayMeet v s) (slotsOf v s)) (er : r ≡ both (x .ended) (eqb (x .links) all)) where
+  answer-is : (o : Option (List ℕ)) → Gone (mayMeet v s) o 0 x w → r ≡ coveredIn v s o
+  answer-is none g = er ∙ ap (λ b. both b (eqb (x .links) all)) (g .said)
+  answer-is (some us) g =
+      let n : x .links ≡ length us = omega (arith, g .many us refl) in
+      er ∙ ap (λ b. both b (eqb (x .links) all)) (g .said) ∙ ap (λ k. eqb k all) n ∙ ap (eqb (length us)) ea
+      ∙ sym (covers-counted (mayMeet v s) (slotsOf v s) us (may-inside v s) (g .marks us refl .once))
 
-  zeros-after : (n : ℕ) → n ≤ length w → ((j : ℕ) → n ≤ j → getD w j 0 ≡ 0) → replicate n 0 ++ drop n w ≡ replicate (length w) 0
-  zeros-after n b h =
-      let e : n + (length w - n) ≡ length w = omega arith in
-      let d : drop n w ≡ replicate (length w - n) 0 = all-zero (drop n w) (λ j. getD-drop n w j 0 ∙ h (n + j) (omega arith)) ∙ ap (λ k. replicate k 0) (length-drop n w) in
-      ap (λ l. replicate n 0 ++ l) d ∙ replicate-append-replicate n (length w - n) 0 ∙ ap (λ k. replicate k 0) e
-
-  pub marks-compared : (n k : ℕ) (p : List ℕ) → n ≡ slotsOf v s → k ≡ n → n ≤ length w → p ≡ replicate n 0 → MarksCompared v s m w r (putMid 0 k w p)
-  marks-compared n k p en ek b ep = record {
+  pub settled : (n : ℕ) (w′ : List ℕ) → n ≡ slotsOf v s → n ≤ length w → w′ ≡ unmarked w n → Settled v s x w r w′
+  settled n w′ en b e = record {
     answer = answer-is;
-    clean = λ h. ap (λ x. putMid 0 x w p) ek ∙ ap (putMid 0 n w) ep ∙ zeros-after n b (λ j q. h j (omega arith));
+    clean = λ h. e ∙ unmarked-zero w n (omega arith) (λ j q. h j (omega arith));
   }
 
 -- ---- the trackers
 
 some-of : (o : Option (List ℕ)) → true ≡ found o → (us : List ℕ) × (o ≡ some us)
-some-of none e = let z : _≡_ {A = ℕ} 0 1 = cc in absurd (omega arith)
+some-of none e = absurd (true-false (sym e) refl)
 some-of (some us) e = (us, refl)
 
 none-of : (o : Option (List ℕ)) → false ≡ found o → o ≡ none
 none-of none e = refl
-none-of (some us) e = let z : _≡_ {A = ℕ} 0 1 = cc in absurd (omega arith)
+none-of (some us) e = absurd (true-false refl (sym e))
 
 module _ (v : Tables) (w₀ : List ℕ) where
-  pub record Along (d : ℕ) (w : List ℕ) : Type 0 where
-    pub beyond : Beyond (v .sizes .records) w₀ w
-    pub goes : (vs : List ℕ) → Marks w₀ vs → Rest (trackersMet v (v .sizes .domains) 0 vs) (trackersMet v (v .sizes .domains - d) d) w
+  abbrev ok : ℕ → Bool
+  ok = mayMeet v Trackers
 
-  pub along-start : Along 0 w₀
+  -- the trackers before d have m records
+  pub record Along (d m : ℕ) (w : List ℕ) : Type 0 where
+    pub beyond : Beyond (v .sizes .records) w₀ w
+    pub goes : (vs : List ℕ) → Marks ok w₀ vs → Rest ok (trackersMet v (v .sizes .domains) 0 vs) (trackersMet v (v .sizes .domains - d) d) (length vs + m) w
+
+  pub along-start : Along 0 0 w₀
   along-start =
       let z : v .sizes .domains - 0 ≡ v .sizes .domains = omega arith in
-      record { beyond = λ j h. refl; goes = λ vs m. record { us = vs; marks = m; rest = ap (λ k. trackersMet v k 0 vs) z } }
+      record { beyond = λ j h. refl; goes = λ vs m. record { us = vs; marks = m; rest = ap (λ k. trackersMet v k 0 vs) z; many = omega arith } }
 
-  module _ (d : ℕ) (w : List ℕ) (a : Along d w) where
+  module _ (d m : ℕ) (w : List ℕ) (a : Along d m w) where
+    -- as no record is met twice, they are no more than there are
+    pub along-few : Marks ok w₀ [] → m ≤ v .sizes .records
+    along-few z = let r = a .goes [] z in omega (arith, r .many, once-few ok (v .sizes .records) (may-inside v Trackers) (r .us) (r .marks .once))
+
     abbrev Tail : ℕ → List ℕ → Option (List ℕ)
     Tail e us = trackersMet v (v .sizes .domains - e) e us
 
@@ -67,10 +75,10 @@ module _ (v : Tables) (w₀ : List ℕ) where
         let z : v .sizes .domains - d ≡ suc (v .sizes .domains - (d + 1)) = omega arith in
         rw (z, add-one)
 
-    pub along-skip : d < v .sizes .domains → mayMeet v Domains d ≡ true → Along (d + 1) w
+    pub along-skip : d < v .sizes .domains → mayMeet v Domains d ≡ true → Along (d + 1) m w
     along-skip h f = record {
       beyond = a .beyond;
-      goes = λ vs m. let r = a .goes vs m in record { us = r .us; marks = r .marks; rest = sym (next-is h (r .us) ∙ rw f) ∙ r .rest };
+      goes = λ vs k. let r = a .goes vs k in record { us = r .us; marks = r .marks; rest = sym (next-is h (r .us) ∙ rw f) ∙ r .rest; many = r .many };
     }
 
     -- what the walk along this tracker finds
@@ -81,35 +89,38 @@ module _ (v : Tables) (w₀ : List ℕ) where
     unfolding here
     tail-is h f us = next-is h us ∙ rw f
 
-    module _ (h : d < v .sizes .domains) (f : mayMeet v Domains d ≡ false) (w′ : List ℕ) where
-      go-rest : (o : Option (List ℕ)) → Rest o (Tail d) w → ((us : List ℕ) → Marks w us → Gone (here us) true w′) → Rest o (Tail (d + 1)) w′
-      go-rest o r g =
-          let q = g (r .us) (r .marks) in
-          let x = some-of (here (r .us)) (q .said) in
-          record { us = x .0; marks = q .marks (x .0) (x .1); rest = sym (tail-is h f (r .us) ∙ ap (λ y. onward y (Tail (d + 1))) (x .1)) ∙ r .rest }
-
-      pub along-go : Marked v Trackers 0 (v .sizes .records) (headAt v d .tracker) w true w′ → Along (d + 1) w′
+    module _ (h : d < v .sizes .domains) (f : mayMeet v Domains d ≡ false) (x : Followed) (w′ : List ℕ) (g : Marked v Trackers 0 (v .sizes .records) (headAt v d .tracker) w x w′) where
+      gone : (us : List ℕ) → Marks ok w us → Gone ok (here us) (length us) x w′
       unfolding here
-      along-go g = record { beyond = λ j b. g .beyond j b ∙ a .beyond j b; goes = λ vs m. go-rest (trackersMet v (v .sizes .domains) 0 vs) (a .goes vs m) (g .goes) }
+      gone us k = g .goes us k
 
-      stop-gone : (o : Option (List ℕ)) → Rest o (Tail d) w → ((us : List ℕ) → Marks w us → Gone (here us) false w′) → Gone o false w′
-      stop-gone o r g =
-          let z : none ≡ o = sym (tail-is h f (r .us) ∙ ap (λ y. onward y (Tail (d + 1))) (none-of (here (r .us)) (g (r .us) (r .marks) .said))) ∙ r .rest in
-          record { said = ap found z; marks = λ us y. absurd (clash (z ∙ y)) }
-        where
-          clash : {c : List ℕ} → _≡_ {A = Option (List ℕ)} none (some c) → ⊥
-          clash {c} x = let q : _≡_ {A = ℕ} 0 1 = cc in omega arith
+      go-rest : x .ended ≡ true → (o : Option (List ℕ)) (n : ℕ) → Rest ok o (Tail d) (n + m) w → Rest ok o (Tail (d + 1)) (n + (m + x .links)) w′
+      go-rest e o n r =
+          let q = gone (r .us) (r .marks) in
+          let y = some-of (here (r .us)) (sym e ∙ q .said) in
+          record {
+            us = y .0;
+            marks = q .marks (y .0) (y .1);
+            rest = sym (tail-is h f (r .us) ∙ ap (λ z. onward z (Tail (d + 1))) (y .1)) ∙ r .rest;
+            many = omega (arith, q .many (y .0) (y .1), r .many);
+          }
 
-      pub along-stop : Marked v Trackers 0 (v .sizes .records) (headAt v d .tracker) w false w′ → TrackersMarked v w₀ false w′
-      unfolding here
-      along-stop g = record { beyond = λ j b. g .beyond j b ∙ a .beyond j b; goes = λ vs m. stop-gone (trackersMet v (v .sizes .domains) 0 vs) (a .goes vs m) (g .goes) }
+      pub along-go : x .ended ≡ true → Along (d + 1) (m + x .links) w′
+      along-go e = record { beyond = λ j b. g .beyond j b ∙ a .beyond j b; goes = λ vs k. go-rest e (trackersMet v (v .sizes .domains) 0 vs) (length vs) (a .goes vs k) }
 
-    end-gone : (o : Option (List ℕ)) (us : List ℕ) → Marks w us → some us ≡ o → Gone o true w
-    end-gone o us m y = record { said = ap found y; marks = λ vs x. let q : us ≡ vs = cc in rw q at m }
+      stop-gone : x .ended ≡ false → (o : Option (List ℕ)) (n : ℕ) → Rest ok o (Tail d) (n + m) w → Gone ok o n (record { ended = false; links = m }) w′
+      stop-gone e o n r =
+          let z = none-of (here (r .us)) (sym e ∙ gone (r .us) (r .marks) .said) in
+          none-gone ok o n m w′ (sym (r .rest) ∙ tail-is h f (r .us) ∙ ap (λ y. onward y (Tail (d + 1))) z)
 
-    pub along-end : v .sizes .domains ≤ d → TrackersMarked v w₀ true w
+      pub along-stop : x .ended ≡ false → TrackersMarked v w₀ (record { ended = false; links = m }) w′
+      along-stop e = record { beyond = λ j b. g .beyond j b ∙ a .beyond j b; goes = λ vs k. stop-gone e (trackersMet v (v .sizes .domains) 0 vs) (length vs) (a .goes vs k) }
+
+    end-gone : v .sizes .domains ≤ d → (o : Option (List ℕ)) (n : ℕ) → Rest ok o (Tail d) (n + m) w → Gone ok o n (record { ended = true; links = m }) w
     unfolding trackersMet
-    along-end h = record {
-      beyond = a .beyond;
-      goes = λ vs m. let r = a .goes vs m in let z : v .sizes .domains - d ≡ 0 = omega arith in end-gone (trackersMet v (v .sizes .domains) 0 vs) (r .us) (r .marks) (sym (ap (λ k. trackersMet v k d (r .us)) z) ∙ r .rest);
-    }
+    end-gone h o n r =
+        let z : v .sizes .domains - d ≡ 0 = omega arith in
+        some-gone ok o (r .us) n m w (r .marks) (r .many) (sym (sym (ap (λ k. trackersMet v k d (r .us)) z) ∙ r .rest))
+
+    pub along-end : v .sizes .domains ≤ d → TrackersMarked v w₀ (record { ended = true; links = m }) w
+    along-end h = record { beyond = a .beyond; goes = λ vs k. end-gone h (trackersMet v (v .sizes .domains) 0 vs) (length vs) (a .goes vs k) }

@@ -1,28 +1,15 @@
 // The test of pools and slot lists in lent tables: every slot is in use or free once, each tracker record is on one list,
-// and what is free is all zero. The work area holds a mark for each slot that was met, and is zero again afterwards.
+// and what is free is all zero. The work area holds a bit for each slot that was met, and is zero again afterwards.
 ghost use mathlib.Core.Path.{_≡_};
 ghost use lib.ListN.{length, replicate};
 ghost use Rattle.tables.specs.View.{view, Sized};
-ghost use Rattle.sound_pools.specs.Hold.{poolHolds, outsidePoolsHold, recordPoolHolds};
-ghost use Rattle.sound_pools.specs.Marks.{Clean};
+ghost use Rattle.sound_pools.specs.Hold.{outsidePoolsHold, recordPoolHolds};
 
 pub mod links;
 pub mod rows;
 pub mod walks;
 
 pub use links::Stack;
-
-// Whether a pool's free stack and the rows of its table hold.
-fn pool_holds(t: &[u64], s: Stack, w: &mut [u64]) -> bool
-    requires { ⌜ Sized (now t) ⌝ }
-    requires { ⌜ Clean (now t) (now w) ⌝ }
-    ensures { λ r. ⌜ r ≡ poolHolds (view (now (t .entry))) s ⌝ }
-    ensures { λ _. ⌜ now (w .exit) ≡ now (w .entry) ⌝ }
-{
-    let stack = walks::stack_holds(t, s, w);
-    let rows = rows::rows_hold(t, s, w);
-    words::both(stack, rows)
-}
 
 // The pools of domains and of regions, with their rows and the slot lists. `w` is a work area as long as the tables, and all zero.
 pub fn outside_pools_hold(t: &[u64], w: &mut [u64]) -> bool
@@ -32,9 +19,12 @@ pub fn outside_pools_hold(t: &[u64], w: &mut [u64]) -> bool
     ensures { λ r. ⌜ r ≡ outsidePoolsHold (view (now (t .entry))) ⌝ }
     ensures { λ _. ⌜ now (w .exit) ≡ now (w .entry) ⌝ }
 {
-    let domains = pool_holds(t, Stack::Domains, w);
-    let regions = pool_holds(t, Stack::Regions, w);
-    words::both(domains, regions)
+    let stack = walks::stack_holds(t, Stack::Domains, w);
+    let rows = rows::domains_hold(t, w);
+    let domains = words::both(stack, rows);
+    let stack = walks::stack_holds(t, Stack::Regions, w);
+    let rows = rows::regions_hold(t);
+    words::both(domains, words::both(stack, rows))
 }
 
 // The pool of tracker records, with its rows, and the records in use along the trackers. `w` as above.
@@ -45,7 +35,8 @@ pub fn record_pool_holds(t: &[u64], w: &mut [u64]) -> bool
     ensures { λ r. ⌜ r ≡ recordPoolHolds (view (now (t .entry))) ⌝ }
     ensures { λ _. ⌜ now (w .exit) ≡ now (w .entry) ⌝ }
 {
-    let records = pool_holds(t, Stack::Records, w);
+    let stack = walks::stack_holds(t, Stack::Records, w);
+    let rows = rows::records_hold(t);
     let trackers = walks::trackers_hold(t, w);
-    words::both(records, trackers)
+    words::both(words::both(stack, rows), trackers)
 }

@@ -1,12 +1,9 @@
-// Free stacks and trackers by their links, each slot read by its number.
+// Free stacks and trackers by their links. The words that a list stands in are taken once; a slot is read from them by its number.
 ghost use mathlib.Core.Path.{_≡_};
-ghost use lib.ListN.{getD};
-ghost use Rattle.pools.specs.Pools.{poolOf};
 ghost use Rattle.tables.specs.View.{view, Sized};
-ghost use Rattle.sizes.specs.Sizes.{sizesOf};
 ghost use Rattle.sound_pools.specs.Walk.{linkTo, mark as markB};
-ghost use Rattle.sound_pools.specs.Hold.{slotsOf, eligible as eligibleB, mayMeet, nextOf, topOf};
-ghost use Rattle.sound_pools.specs.Loops.{topIn};
+ghost use Rattle.sound_pools.specs.Hold.{slotsOf, mayMeet, topOf};
+ghost use Rattle.sound_pools.specs.Reads.{topIn, Lent, linkStep, slotStep, recordStep, stepIn};
 use pools::Pool;
 use tables::Slot;
 
@@ -25,29 +22,25 @@ pub struct Top {
     pub count: u64,
 }
 
+// What a walk reads of a slot: whether it may be met, and the link behind it.
+pub struct Step {
+    pub may: bool,
+    pub next: u64,
+}
+
 pub fn link_to(n: usize, x: u64) -> u64
     ensures { λ r. ⌜ r ≡ linkTo n x ⌝ }
 {
     if (x as usize) < n { x + 1 } else { 0 }
 }
 
-pub fn mark_of(b: bool) -> u64
+pub fn mark_of(b: bool) -> usize
     ensures { λ r. ⌜ r ≡ markB b ⌝ }
 {
     if b { 1 } else { 0 }
 }
 
-// ---- A pool's words
-
-fn link_in(t: &[u64], q: Pool, i: usize) -> u64
-    requires { ⌜ Sized (now t) ⌝ }
-    ensures { λ r. ⌜ r ≡ getD (poolOf (view (now (t .entry))) q .links) i 0 ⌝ }
-{
-    let s = pools::span_of(t, q);
-    let a = s.start;
-    let e = s.end;
-    arena::link(&t[a..e], s.slots, i)
-}
+// ---- How many slots, and the top
 
 fn top_in(t: &[u64], q: Pool) -> Top
     requires { ⌜ Sized (now t) ⌝ }
@@ -63,8 +56,6 @@ fn top_in(t: &[u64], q: Pool) -> Top
     }
 }
 
-// ---- Any of them
-
 pub fn slots_of(t: &[u64], s: Stack) -> usize
     ensures { λ r. ⌜ r ≡ slotsOf (view (now (t .entry))) s ⌝ }
 {
@@ -74,42 +65,6 @@ pub fn slots_of(t: &[u64], s: Stack) -> usize
         Stack::Records => words::size(t, sizes::RECORDS),
         Stack::Slots(_) => words::size(t, sizes::SLOTS),
         Stack::Trackers => words::size(t, sizes::RECORDS),
-    }
-}
-
-fn eligible(t: &[u64], s: Stack, i: usize) -> bool
-    requires { ⌜ Sized (now t) ⌝ }
-    ensures { λ r. ⌜ r ≡ eligibleB (view (now (t .entry))) s i ⌝ }
-{
-    match s {
-        Stack::Domains => 0 < link_in(t, Pool::Domains, i),
-        Stack::Regions => 0 < link_in(t, Pool::Regions, i),
-        Stack::Records => 0 < link_in(t, Pool::Records, i),
-        Stack::Slots(d) => tables::load_slot(t, d, i).kind == Slot::FREE,
-        Stack::Trackers => link_in(t, Pool::Records, i) == 0,
-    }
-}
-
-pub fn may_meet(t: &[u64], s: Stack, i: usize) -> bool
-    requires { ⌜ Sized (now t) ⌝ }
-    ensures { λ r. ⌜ r ≡ mayMeet (view (now (t .entry))) s i ⌝ }
-{
-    words::both(i < slots_of(t, s), eligible(t, s, i))
-}
-
-pub fn next_of(t: &[u64], s: Stack, i: usize) -> u64
-    requires { ⌜ Sized (now t) ⌝ }
-    ensures { λ r. ⌜ r ≡ nextOf (view (now (t .entry))) s i ⌝ }
-{
-    match s {
-        Stack::Domains => link_in(t, Pool::Domains, i),
-        Stack::Regions => link_in(t, Pool::Regions, i),
-        Stack::Records => link_in(t, Pool::Records, i),
-        Stack::Slots(d) => link_to(
-            words::size(t, sizes::SLOTS),
-            tables::load_slot(t, d, i).handle.slot,
-        ),
-        Stack::Trackers => tables::load_record(t, i).next,
     }
 }
 
@@ -130,4 +85,72 @@ pub fn top_of(t: &[u64], s: Stack) -> Top
         }
         Stack::Trackers => Top { head: 0, count: 0 },
     }
+}
+
+// ---- A slot
+
+// The words that tell whether a slot may be met: a pool's links, or a domain's slots.
+pub fn words_of<'a>(t: &'a [u64], s: Stack) -> &'a [u64]
+    requires { ⌜ Sized (now t) ⌝ }
+    ensures { λ r. ⌜ Lent (view (now (t .entry))) s (now r) ⌝ }
+{
+    match s {
+        Stack::Domains => sections::links_of(t, Pool::Domains),
+        Stack::Regions => sections::links_of(t, Pool::Regions),
+        Stack::Records => sections::links_of(t, Pool::Records),
+        Stack::Slots(d) => sections::slots_of(t, d),
+        Stack::Trackers => sections::links_of(t, Pool::Records),
+    }
+}
+
+fn link_step(p: &[u64], n: usize, i: usize) -> Step
+    ensures { λ r. ⌜ r ≡ linkStep (now (p .entry)) n i ⌝ }
+{
+    let next = words::word(p, i);
+    Step {
+        may: words::both(i < n, 0 < next),
+        next,
+    }
+}
+
+fn slot_step(p: &[u64], n: usize, i: usize) -> Step
+    ensures { λ r. ⌜ r ≡ slotStep (now (p .entry)) n i ⌝ }
+{
+    let x = sections::slot_in(p, i);
+    Step {
+        may: words::both(i < n, x.kind == Slot::FREE),
+        next: link_to(n, x.handle.slot),
+    }
+}
+
+fn record_step(p: &[u64], records: &[u64], n: usize, i: usize) -> Step
+    ensures { λ r. ⌜ r ≡ recordStep (now (p .entry)) (now (records .entry)) n i ⌝ }
+{
+    let free = words::word(p, i);
+    Step {
+        may: words::both(i < n, free == 0),
+        next: sections::record_in(records, i).next,
+    }
+}
+
+// Slot i of n, from the words p of `words_of`; trackers go on along the records.
+pub fn step_at(s: Stack, p: &[u64], records: &[u64], n: usize, i: usize) -> Step
+    ensures { λ r. ⌜ r ≡ stepIn s (now (p .entry)) (now (records .entry)) n i ⌝ }
+{
+    match s {
+        Stack::Domains => link_step(p, n, i),
+        Stack::Regions => link_step(p, n, i),
+        Stack::Records => link_step(p, n, i),
+        Stack::Slots(_) => slot_step(p, n, i),
+        Stack::Trackers => record_step(p, records, n, i),
+    }
+}
+
+pub fn may_meet(t: &[u64], s: Stack, i: usize) -> bool
+    requires { ⌜ Sized (now t) ⌝ }
+    ensures { λ r. ⌜ r ≡ mayMeet (view (now (t .entry))) s i ⌝ }
+{
+    let p = words_of(t, s);
+    let records = sections::records_of(t);
+    step_at(s, p, records, slots_of(t, s), i).may
 }

@@ -1,11 +1,13 @@
 // Rows: what is free is all zero, and a domain in use has a list that holds.
 ghost use mathlib.Core.Path.{_≡_};
 ghost use Rattle.tables.specs.View.{view, Sized};
-ghost use Rattle.sound_pools.specs.Hold.{headClear, slotClear, slotWellFormed, slotFits, regionClear, recordClear, slotsHold, domainHolds, rowHolds, rowsHold};
+ghost use Rattle.sound_pools.specs.Hold.{headClear, slotClear, slotWellFormed, slotFits, regionClear, recordClear, slotsHold, domainHolds, rowsHold};
 ghost use Rattle.sound_pools.specs.Marks.{Clean};
+ghost use Rattle.sound_pools.specs.Rows.{regionFits, recordFits};
 use crate::links;
 use crate::links::Stack;
 use crate::walks;
+use pools::Pool;
 use tables::DomainHead;
 use tables::Region;
 use tables::RegionCapa;
@@ -89,9 +91,10 @@ fn slots_hold(t: &[u64], d: usize, free: bool) -> bool
     ensures { λ r. ⌜ r ≡ slotsHold (view (now (t .entry))) d free ⌝ }
 {
     let n = words::size(t, sizes::SLOTS);
+    let slots = sections::slots_of(t, d);
     let mut j = 0;
     while j < n {
-        let fits = slot_fits(free, tables::load_slot(t, d, j));
+        let fits = slot_fits(free, sections::slot_in(slots, j));
         if !fits {
             return false;
         }
@@ -117,53 +120,74 @@ fn domain_holds(t: &[u64], d: usize, w: &mut [u64]) -> bool
     }
 }
 
-fn region_holds(t: &[u64], i: usize) -> bool
+pub fn domains_hold(t: &[u64], w: &mut [u64]) -> bool
     requires { ⌜ Sized (now t) ⌝ }
-    ensures { λ r. ⌜ r ≡ rowHolds (view (now (t .entry))) Stack.Regions i ⌝ }
+    requires { ⌜ Clean (now t) (now w) ⌝ }
+    ensures { λ r. ⌜ r ≡ rowsHold (view (now (t .entry))) Stack.Domains ⌝ }
+    ensures { λ _. ⌜ now (w .exit) ≡ now (w .entry) ⌝ }
 {
-    if links::may_meet(t, Stack::Regions, i) {
-        region_clear(tables::load_region(t, i))
+    let n = links::slots_of(t, Stack::Domains);
+    let mut d = 0;
+    while d < n {
+        let holds = domain_holds(t, d, w);
+        if !holds {
+            return false;
+        }
+        d += 1;
+    }
+    true
+}
+
+// ---- Rows that are read from their section, beside the pool's link
+
+fn region_holds(link: u64, rows: &[u64], i: usize) -> bool
+    ensures { λ r. ⌜ r ≡ regionFits link (now (rows .entry)) i ⌝ }
+{
+    if 0 < link {
+        region_clear(sections::region_in(rows, i))
     } else {
         true
     }
 }
 
-fn record_holds(t: &[u64], i: usize) -> bool
-    requires { ⌜ Sized (now t) ⌝ }
-    ensures { λ r. ⌜ r ≡ rowHolds (view (now (t .entry))) Stack.Records i ⌝ }
+fn record_holds(link: u64, rows: &[u64], i: usize) -> bool
+    ensures { λ r. ⌜ r ≡ recordFits link (now (rows .entry)) i ⌝ }
 {
-    if links::may_meet(t, Stack::Records, i) {
-        record_clear(tables::load_record(t, i))
+    if 0 < link {
+        record_clear(sections::record_in(rows, i))
     } else {
         true
     }
 }
 
-fn row_holds(t: &[u64], s: Stack, i: usize, w: &mut [u64]) -> bool
+pub fn regions_hold(t: &[u64]) -> bool
     requires { ⌜ Sized (now t) ⌝ }
-    requires { ⌜ Clean (now t) (now w) ⌝ }
-    ensures { λ r. ⌜ r ≡ rowHolds (view (now (t .entry))) s i ⌝ }
-    ensures { λ _. ⌜ now (w .exit) ≡ now (w .entry) ⌝ }
+    ensures { λ r. ⌜ r ≡ rowsHold (view (now (t .entry))) Stack.Regions ⌝ }
 {
-    match s {
-        Stack::Domains => domain_holds(t, i, w),
-        Stack::Regions => region_holds(t, i),
-        Stack::Records => record_holds(t, i),
-        Stack::Slots(_) => true,
-        Stack::Trackers => true,
-    }
-}
-
-pub fn rows_hold(t: &[u64], s: Stack, w: &mut [u64]) -> bool
-    requires { ⌜ Sized (now t) ⌝ }
-    requires { ⌜ Clean (now t) (now w) ⌝ }
-    ensures { λ r. ⌜ r ≡ rowsHold (view (now (t .entry))) s ⌝ }
-    ensures { λ _. ⌜ now (w .exit) ≡ now (w .entry) ⌝ }
-{
-    let n = links::slots_of(t, s);
+    let n = links::slots_of(t, Stack::Regions);
+    let free = sections::links_of(t, Pool::Regions);
+    let rows = sections::regions_of(t);
     let mut i = 0;
     while i < n {
-        let holds = row_holds(t, s, i, w);
+        let holds = region_holds(words::word(free, i), rows, i);
+        if !holds {
+            return false;
+        }
+        i += 1;
+    }
+    true
+}
+
+pub fn records_hold(t: &[u64]) -> bool
+    requires { ⌜ Sized (now t) ⌝ }
+    ensures { λ r. ⌜ r ≡ rowsHold (view (now (t .entry))) Stack.Records ⌝ }
+{
+    let n = links::slots_of(t, Stack::Records);
+    let free = sections::links_of(t, Pool::Records);
+    let rows = sections::records_of(t);
+    let mut i = 0;
+    while i < n {
+        let holds = record_holds(words::word(free, i), rows, i);
         if !holds {
             return false;
         }

@@ -1,63 +1,78 @@
-// Walks along links, with a mark in the work area for each slot that was met.
+// Walks along links, with a mark in the work area for each slot that was met. What was met is counted, so that the marks are read here alone.
 ghost use mathlib.Core.Path.{_≡_};
-ghost use Prim.Native.Nat.{_≤_};
 ghost use lib.ListN.{length};
 ghost use Rattle.tables.specs.View.{view, Sized};
 ghost use Rattle.sound_pools.specs.Hold.{slotsOf, mayMeet, stackHolds, trackersHold};
-ghost use Rattle.sound_pools.specs.Marks.{Clean, coversMarks};
-ghost use Rattle.sound_pools.specs.Loops.{Marked, TrackersMarked, MarksCompared};
+ghost use Rattle.sound_pools.specs.Counting.{tally};
+ghost use Rattle.sound_pools.specs.Marks.{Clean};
+ghost use Rattle.sound_pools.specs.Loops.{Marked, TrackersMarked, Settled};
 use crate::links;
 use crate::links::Stack;
 
-// Marks at most k slots from link l on; whether the walk comes to link e, and meets what it may, nothing twice.
-fn mark(t: &[u64], s: Stack, e: u64, k: usize, l: u64, w: &mut [u64]) -> bool
-    requires { ⌜ Sized (now t) ⌝ }
-    requires { ⌜ length (now w) ≡ length (now t) ⌝ }
-    ensures { λ r. ⌜ Marked (view (now (t .entry))) s e k l (now (w .entry)) r (now (w .exit)) ⌝ }
-{
-    let mut k = k;
-    let mut l = l;
-    while words::both(0 < k, 0 < l) {
-        let i = (l - 1) as usize;
-        let new = words::both(links::may_meet(t, s, i), words::word(w, i) == 0);
-        if !new {
-            return false;
-        }
-        words::put(w, i, 1);
-        l = links::next_of(t, s, i);
-        k -= 1;
-    }
-    l == e
+// How many links were followed, and whether the walk ended where it should and met what it may, nothing twice.
+pub struct Followed {
+    pub ended: bool,
+    pub links: usize,
 }
 
-// Whether the slots that are marked are those that may be met.
-fn covers(t: &[u64], s: Stack, w: &[u64]) -> bool
+// Follows at most `most` links from l on, up to link e, and marks the slots it meets.
+fn follow(t: &[u64], s: Stack, e: u64, most: usize, l: u64, w: &mut [u64]) -> Followed
     requires { ⌜ Sized (now t) ⌝ }
-    ensures { λ r. ⌜ r ≡ coversMarks (mayMeet (view (now (t .entry))) s) (slotsOf (view (now (t .entry))) s) (now (w .entry)) ⌝ }
+    requires { ⌜ length (now w) ≡ length (now t) ⌝ }
+    ensures { λ r. ⌜ Marked (view (now (t .entry))) s e most l (now (w .entry)) r (now (w .exit)) ⌝ }
 {
     let n = links::slots_of(t, s);
+    let p = links::words_of(t, s);
+    let records = sections::records_of(t);
+    let mut followed = 0;
+    let mut l = l;
+    while words::both(followed < most, 0 < l) {
+        let i = (l - 1) as usize;
+        let x = links::step_at(s, p, records, n, i);
+        let new = words::both(x.may, !marks::is_marked(w, i));
+        if !new {
+            return Followed {
+                ended: false,
+                links: followed,
+            };
+        }
+        marks::mark(w, i);
+        l = x.next;
+        followed += 1;
+    }
+    Followed {
+        ended: l == e,
+        links: followed,
+    }
+}
+
+// How many slots may be met.
+fn count(t: &[u64], s: Stack) -> usize
+    requires { ⌜ Sized (now t) ⌝ }
+    ensures { λ r. ⌜ r ≡ tally (mayMeet (view (now (t .entry))) s) (slotsOf (view (now (t .entry))) s) ⌝ }
+{
+    let n = links::slots_of(t, s);
+    let p = links::words_of(t, s);
+    let records = sections::records_of(t);
+    let mut k = 0;
     let mut i = 0;
     while i < n {
-        let want = links::mark_of(links::may_meet(t, s, i));
-        let same = words::word(w, i) == want;
-        if !same {
-            return false;
-        }
+        let x = links::step_at(s, p, records, n, i);
+        k += links::mark_of(x.may);
         i += 1;
     }
-    true
+    k
 }
 
-// The marks compared, where the walk went well, and cleared.
-fn compare_marks(t: &[u64], s: Stack, met: bool, w: &mut [u64]) -> bool
+// Whether all that may be met was met: as many links were followed, none to a slot twice. The marks are cleared.
+fn settle(t: &[u64], s: Stack, x: Followed, w: &mut [u64]) -> bool
     requires { ⌜ Sized (now t) ⌝ }
     requires { ⌜ length (now w) ≡ length (now t) ⌝ }
-    ensures { λ r. ⌜ MarksCompared (view (now (t .entry))) s met (now (w .entry)) r (now (w .exit)) ⌝ }
+    ensures { λ r. ⌜ Settled (view (now (t .entry))) s x (now (w .entry)) r (now (w .exit)) ⌝ }
 {
-    let all = covers(t, s, w);
-    let n = links::slots_of(t, s);
-    words::clear(&mut w[0..n]);
-    words::both(met, all)
+    let all = count(t, s);
+    marks::clear(w, links::slots_of(t, s));
+    words::both(x.ended, x.links == all)
 }
 
 // Whether every slot is in use, or on the free stack once.
@@ -69,34 +84,42 @@ pub fn stack_holds(t: &[u64], s: Stack, w: &mut [u64]) -> bool
 {
     let n = links::slots_of(t, s);
     let top = links::top_of(t, s);
-    let count = top.count as usize;
-    if count <= n {
-        let met = mark(t, s, 1, n - count, links::link_to(n, top.head), w);
-        return compare_marks(t, s, met, w);
+    let used = top.count as usize;
+    if used <= n {
+        let x = follow(t, s, 1, n - used, links::link_to(n, top.head), w);
+        return settle(t, s, x, w);
     }
     false
 }
 
 // Marks the records of all trackers.
-fn trackers_mark(t: &[u64], w: &mut [u64]) -> bool
+fn follow_trackers(t: &[u64], w: &mut [u64]) -> Followed
     requires { ⌜ Sized (now t) ⌝ }
-    requires { ⌜ length (now w) ≡ length (now t) ⌝ }
+    requires { ⌜ Clean (now t) (now w) ⌝ }
     ensures { λ r. ⌜ TrackersMarked (view (now (t .entry))) (now (w .entry)) r (now (w .exit)) ⌝ }
 {
     let n = words::size(t, sizes::DOMAINS);
     let records = words::size(t, sizes::RECORDS);
+    let mut followed = 0;
     let mut d = 0;
     while d < n {
         if !links::may_meet(t, Stack::Domains, d) {
             let first = tables::load_head(t, d).tracker;
-            let met = mark(t, Stack::Trackers, 0, records, first, w);
-            if !met {
-                return false;
+            let x = follow(t, Stack::Trackers, 0, records, first, w);
+            if !x.ended {
+                return Followed {
+                    ended: false,
+                    links: followed,
+                };
             }
+            followed += x.links;
         }
         d += 1;
     }
-    true
+    Followed {
+        ended: true,
+        links: followed,
+    }
 }
 
 // Whether each record in use is on one tracker, once.
@@ -106,6 +129,6 @@ pub fn trackers_hold(t: &[u64], w: &mut [u64]) -> bool
     ensures { λ r. ⌜ r ≡ trackersHold (view (now (t .entry))) ⌝ }
     ensures { λ _. ⌜ now (w .exit) ≡ now (w .entry) ⌝ }
 {
-    let met = trackers_mark(t, w);
-    compare_marks(t, Stack::Trackers, met, w)
+    let x = follow_trackers(t, w);
+    settle(t, Stack::Trackers, x, w)
 }

@@ -1,22 +1,28 @@
--- Inside, and free or a record in use.
-use mathlib.Core.Path.{_∙_}
-use Rattle.sound_pools.specs.Hold.{eligible, mayMeet}
+-- The slot as the walk reads it.
+use mathlib.Core.Path.{ap}
+use Rattle.sound_pools.specs.declared.links.Step.{Step}
+use Rattle.sound_pools.specs.Reads.{step-is}
+use Rattle.tables.specs.View.{view}
 use borrow.Author.Needs.{needs}
 use Rattle.sound_pools.proofs.links.may_meet.Statement.{statement}
 use Rattle.sound_pools.proofs.links.may_meet.Tie as tie
 
+words-of-requires : tie.Need-words-of-requires
+words-of-requires c κs = search needs
+
+records-of-requires : tie.Need-records-of-requires
+records-of-requires c κs = search needs
+
 slots-of-requires : tie.Need-slots-of-requires
 slots-of-requires c κs = search needs
 
-eligible-requires : tie.Need-eligible-requires
-eligible-requires c κs = search needs
-
-both-requires : tie.Need-both-requires
-both-requires c κs = search needs
+step-at-requires : tie.Need-step-at-requires
+step-at-requires c κs = search needs
 
 returns : tie.Need-returns
-unfolding mayMeet
-returns c = (c .both .ensures) ∙ rw ((c .before .before .slots-of .ensures), (c .before .eligible .ensures))
+returns c = ap (λ (x : Step). x .may) (step-is (view (c .before .before .before .before .before .args .t .now)) (c .before .before .before .before .before .args .s) _ _ _ (c .before .before .before .before .before .args .i) _ (c .before .before .before .words-of .ensures) (c .before .before .records-of .ensures) (c .before .slots-of .ensures) (c .step-at .ensures))
 
 pub may-meet-spec : {M : Type 1} → statement M
-may-meet-spec = tie.close (tie.spec slots-of-requires eligible-requires both-requires returns)
+may-meet-spec =
+    tie.close
+    (tie.spec words-of-requires records-of-requires slots-of-requires step-at-requires returns)

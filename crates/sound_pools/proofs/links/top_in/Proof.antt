@@ -1,5 +1,5 @@
 -- The first two words of the pool.
-use Rattle.sound_pools.specs.Loops.{pool-top}
+use Rattle.sound_pools.specs.Reads.{pool-top}
 use borrow.Author.Needs.{needs}
 use Rattle.sound_pools.proofs.links.top_in.Statement.{statement}
 use Rattle.sound_pools.proofs.links.top_in.Tie as tie

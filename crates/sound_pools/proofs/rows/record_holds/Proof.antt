@@ -1,29 +1,25 @@
--- A free record is clear.
+-- A free row is clear.
 use mathlib.Core.Path.{refl, ap, _∙_}
-use Rattle.sound_pools.specs.Hold.{recordClear, rowHolds}
-use Rattle.sound_pools.specs.Marks.{pick-then, pick-else}
+use borrow.Author.Tests.{lt-ltb, le-ltb}
+use Rattle.sound_pools.specs.Hold.{recordClear}
+use Rattle.sound_pools.specs.Rows.{recordFits}
 use borrow.Author.Needs.{needs}
 use Rattle.sound_pools.proofs.rows.record_holds.Statement.{statement}
 use Rattle.sound_pools.proofs.rows.record_holds.Tie as tie
 
-may-meet-requires : tie.Need-may-meet-requires
-may-meet-requires c κs = search needs
-
-load-record-requires : tie.Need-load-record-requires
-load-record-requires c κs = search needs
+record-in-requires : tie.Need-record-in-requires
+record-in-requires c κs = search needs
 
 record-clear-requires : tie.Need-record-clear-requires
 record-clear-requires c κs = search needs
 
 returns : tie.Need-returns
-unfolding rowHolds
-returns c = pick-then _ _ _ _ _ (c .before .before .before .may-meet .ensures) (c .before .before .if1 .taken) ((c .record-clear .ensures) ∙ ap recordClear (c .before .load-record .ensures))
+unfolding recordFits
+returns c = rw (lt-ltb 0 (c .before .before .before .before .args .link) (c .before .before .if1 .taken)) ((c .record-clear .ensures) ∙ ap recordClear (c .before .record-in .ensures))
 
 returns-2 : tie.Need-returns-2
-unfolding rowHolds
-returns-2 c = pick-else _ _ _ _ _ (c .before .may-meet .ensures) (c .if1 .left) refl
+unfolding recordFits
+returns-2 c = rw (le-ltb 0 (c .before .before .args .link) (c .if1 .left)) refl
 
 pub record-holds-spec : {M : Type 1} → statement M
-record-holds-spec =
-    tie.close
-    (tie.spec may-meet-requires load-record-requires record-clear-requires returns returns-2)
+record-holds-spec = tie.close (tie.spec record-in-requires record-clear-requires returns returns-2)

@@ -1,4 +1,4 @@
--- The walk, then the marks; where the count is too large nothing is walked.
+-- The walk, then the count; where more are in use than there are nothing is walked.
 use mathlib.Core.Path.{refl}
 use native.Mathlib.Omega.{arith}
 use Rattle.sound_pools.specs.Answers.{stack-is, stack-not}
@@ -15,17 +15,17 @@ top-of-requires c κs = search needs
 link-to-requires : tie.Need-link-to-requires
 link-to-requires c κs = search needs
 
-mark-requires : tie.Need-mark-requires
-mark-requires c κs = search needs
+follow-requires : tie.Need-follow-requires
+follow-requires c κs = search needs
 
-compare-marks-requires : tie.Need-compare-marks-requires
-compare-marks-requires c κs = search needs
+settle-requires : tie.Need-settle-requires
+settle-requires c κs = search needs
 
 same-length : tie.Need-same-length
 same-length c = search needs
 
 returns : tie.Need-returns
-returns c = stack-is (c .before .before .before .before .before .before .before .before .before .before .before .before .before .before .args .t .now) (c .before .before .before .before .before .before .before .before .before .before .before .before .before .before .args .w .now) (c .before .before .before .before .before .before .before .before .before .before .before .before .before .before .pre .1) (c .before .before .before .before .before .before .before .before .before .before .before .before .before .before .args .s) _ _ (c .before .before .before .before .before .before .before .before .before .before .before .slots-of .ensures) (c .before .before .before .before .before .before .before .before .before .before .top-of .ensures) _ _ _ _ _ (c .before .before .before .before .before .before .before .before .before .if1 .taken) (c .before .before .before .before .before .before .before .before .link-to .ensures) (c .before .before .before .before .before .before .mark .ensures) (c .before .before .before .before .before .before .mark .kept .1 .1 .1 .1 .1 .0) (c .before .before .compare-marks .ensures)
+returns c = stack-is (c .before .before .before .before .before .before .before .before .before .before .before .before .before .before .args .t .now) (c .before .before .before .before .before .before .before .before .before .before .before .before .before .before .args .w .now) (c .before .before .before .before .before .before .before .before .before .before .before .before .before .before .pre .1) (c .before .before .before .before .before .before .before .before .before .before .before .before .before .before .args .s) _ _ (c .before .before .before .before .before .before .before .before .before .before .before .slots-of .ensures) (c .before .before .before .before .before .before .before .before .before .before .top-of .ensures) _ _ _ _ _ (c .before .before .before .before .before .before .before .before .before .if1 .taken) (c .before .before .before .before .before .before .before .before .link-to .ensures) (c .before .before .before .before .before .before .follow .ensures) (c .before .before .before .before .before .before .follow .kept .1 .1 .1 .1 .1 .0) (c .before .before .settle .ensures)
 
 returns-2 : tie.Need-returns-2
 returns-2 c = (stack-not (c .before .before .before .before .before .args .t .now) (c .before .before .before .before .before .args .w .now) (c .before .before .before .before .before .pre .1) (c .before .before .before .before .before .args .s) _ _ (c .before .before .slots-of .ensures) (c .before .top-of .ensures) (omega (arith, (c .if1 .left))), refl)
@@ -37,8 +37,8 @@ stack-holds-spec =
     slots-of-requires
     top-of-requires
     link-to-requires
-    mark-requires
-    compare-marks-requires
+    follow-requires
+    settle-requires
     same-length
     returns
     returns-2)
