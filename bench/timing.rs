@@ -40,6 +40,12 @@ fn times_of(mut each: Vec<f64>) -> Times {
     Times { smallest: each[0], median: each[each.len() / 2], largest: each[each.len() - 1] }
 }
 
+/// One function by itself.
+pub fn single(mut f: impl FnMut()) -> Times {
+    let n = calibrated(&mut f);
+    times_of((0..BATCHES).map(|_| one(&mut f, n)).collect())
+}
+
 pub fn pair(mut ours: impl FnMut(), mut rust: impl FnMut()) -> (Times, Times) {
     let (n, m) = (calibrated(&mut ours), calibrated(&mut rust));
     let (mut a, mut b) = (Vec::new(), Vec::new());

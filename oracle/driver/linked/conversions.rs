@@ -8,6 +8,7 @@ use shared::calls::show;
 use shared::decode::{former_total, total};
 use shared::sound::{clauses, fault};
 
+use super::answers::Answers;
 use super::damage::{named, sizes};
 use super::edits::{self, Tester as _};
 use super::exported;
@@ -44,6 +45,7 @@ struct Converter {
     /// Kept while the lengths stay the same.
     runs: Runs,
     longest: Duration,
+    answers: Answers,
 }
 
 impl Converter {
@@ -51,7 +53,7 @@ impl Converter {
         // The section that is added is always right, so that no input breaks its clause.
         let old = clauses().filter(|name| !name.contains("interfaces"));
         let met = old.chain([SOUND, SIZES, LENGTHS]).map(|name| (name, 0)).collect();
-        Converter { random: Random(seed), number: 0, met, runs: Runs::new([0; 4], true), longest: Duration::ZERO }
+        Converter { random: Random(seed), number: 0, met, runs: Runs::new([0; 4], true), longest: Duration::ZERO, answers: Answers::new() }
     }
 
     /// New memory for the next inputs, at the other edge.
@@ -79,6 +81,7 @@ impl Converter {
         let began = lent::processor_time();
         let got = from.read_only(|old| exported::convert(old, t, v, w));
         self.longest = self.longest.max(lent::processor_time() - began);
+        self.answers.add(got);
         let after = expected.filter(|_| clause.is_none()).unwrap_or(before);
         if got != [u64::from(clause.is_some()), 0, 0, 0, 0] {
             return Err(format!("answered {got:?}; the clause that is broken: {clause:?}"));
@@ -196,7 +199,7 @@ pub fn convert(seed: u64, shapes: u64, length: usize, words: usize) -> bool {
     }
     let inputs: u64 = converter.met.values().sum();
     println!("{inputs} old tables lent to the converter, damaged from {shapes} sound ones: answered 1 exactly where it should be");
-    println!("the longest conversion took {:.1?} of processor time", converter.longest);
+    println!("the longest conversion took {:.1?} of processor time; all answers have the hash {}", converter.longest, converter.answers);
     converter.met.iter().for_each(|(clause, n)| println!("unsound {n} {clause}"));
     true
 }

@@ -8,6 +8,7 @@ use shared::calls::{Call, Sizes};
 use shared::decode::{total, LIMITS};
 use shared::sound::{clauses, fault};
 
+use super::answers::Answers;
 use super::exported::{self, Numbers};
 use super::fill;
 use super::lent::{self, Lent};
@@ -27,6 +28,7 @@ struct Tester {
     /// Tables and work area, kept while the lengths stay the same, and a run.
     lent: (Lent, Lent, Lent),
     longest: Duration,
+    answers: Answers,
 }
 
 /// Tables and work area of these lengths, and a run of two permissions or six holders.
@@ -37,7 +39,7 @@ fn memory(tables: usize, work: usize, at_end: bool) -> (Lent, Lent, Lent) {
 impl Tester {
     fn new(seed: u64) -> Tester {
         let met = clauses().chain([SOUND, LENGTH]).map(|name| (name, 0)).collect();
-        Tester { random: Random(seed), number: 0, met, lent: memory(0, 0, true), longest: Duration::ZERO }
+        Tester { random: Random(seed), number: 0, met, lent: memory(0, 0, true), longest: Duration::ZERO, answers: Answers::new() }
     }
 
     /// The next call in turn.
@@ -66,6 +68,7 @@ impl Tester {
         let began = lent::processor_time();
         let got = exported::perform(t, w, call, run);
         self.longest = self.longest.max(lent::processor_time() - began);
+        self.answers.add(got);
         agrees(clause, got, words, t, w, run)
     }
 }
@@ -197,7 +200,7 @@ pub fn damage(seed: u64, shapes: u64, length: usize, words: usize) -> bool {
     }
     let inputs: u64 = tester.met.values().sum();
     println!("{inputs} lent tables, damaged from {shapes} sound ones: answered 1 exactly where not sound, and then as lent");
-    println!("the longest call took {:.1?} of processor time", tester.longest);
+    println!("the longest call took {:.1?} of processor time; all answers have the hash {}", tester.longest, tester.answers);
     tester.met.iter().for_each(|(clause, n)| println!("broken {n} {clause}"));
     true
 }

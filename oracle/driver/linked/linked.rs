@@ -1,6 +1,7 @@
 //! The exported functions in this process, beside the judge: every answer, every word of the tables after each call, and a work area that
 //! is dirty before each call and all zero behind it.
 
+mod answers;
 mod conversions;
 mod damage;
 mod edits;
