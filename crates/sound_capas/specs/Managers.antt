@@ -10,7 +10,7 @@ use lib.ListN.{getD, List·getD-eq-default}
 use lib.Seq.{getD-take}
 use Rattle.base.specs.Cases.{pick, pick-t, pick-f, cmp, lt, ge}
 use Rattle.words.specs.Runs.{part, part-at, fetched}
-use Rattle.words.specs.Rows.{rows, length-rows, getD-rows}
+use Rattle.words.specs.Rows.{length-rows, getD-rows}
 use Rattle.words.specs.Cuts.{offset}
 use Rattle.sizes.specs.declared.Sizes.{Sizes}
 use Rattle.sizes.specs.Limits.{Limits, mostDomains, mostSlots}

@@ -1,4 +1,4 @@
--- The walk with marks: what the code does in a turn, and that the walk is the test of the claims.
+-- Marks: what a claim does to them, and that a scan of the items with marks is the test of the claims.
 use mathlib.Core.Path.{_≡_, refl, sym, ap, _∙_}
 use Prim.Native.Nat.{ℕ, zero, suc, _+_, _-_, _≤_, _<_}
 use mathlib.Core.Bool.{Bool, true, false, not}

@@ -1,5 +1,5 @@
 -- One domain: its slots and its head are a row of the walk.
-use mathlib.Core.Path.{_≡_, refl, sym, ap, _∙_}
+use mathlib.Core.Path.{_≡_, sym, ap, _∙_}
 use Prim.Native.Nat.{ℕ, _+_, _*_, _/_, _%_, _≤_, _<_}
 use mathlib.Core.Bool.{true, false}
 use mathlib.Core.List.{List}
@@ -50,7 +50,11 @@ module _ (v : Tables) (d : ℕ) where
         let f : isFreeB (v .domainPool) d ≡ false = le-ltb 0 (getD (v .domainPool .links) d 0) (omega (arith, h, ex ∙ link)) in
         let m : n .sizes .slots ≡ S = ap (λ (x : Named). x .sizes .slots) en in
         let o : S ≡ 0 + S = omega arith in
-        let slots : k₁ ≡ walked (rowClaim v d) S 0 k = e₁ ∙ (λ i. walked (listClaim (en i) d (es i)) (m i) 0 k) ∙ sym (walk-same (rowClaim v d) (listClaim (lentOf v) d (slotAt v d)) S 0 0 k (λ j b. let o : 0 + j ≡ j = omega arith in ap (rowClaim v d) o ∙ slot-row f j b ∙ ap (listClaim (lentOf v) d (slotAt v d)) (sym o))) in
+        let one : (j : ℕ) → j < S → rowClaim v d (0 + j) ≡ listClaim (lentOf v) d (slotAt v d) (0 + j) = λ j b. slot-row f (0 + j) (omega arith) in
+        let slots : k₁ ≡ walked (rowClaim v d) S 0 k =
+        e₁
+        ∙ (λ i. walked (listClaim (en i) d (es i)) (m i) 0 k)
+        ∙ sym (walk-same (rowClaim v d) (listClaim (lentOf v) d (slotAt v d)) S 0 0 k one) in
         let head : c ≡ rowClaim v d S = ec ∙ ap (λ (x : Named). headClaim (x .sizes) (x .manager) d) en ∙ sym (head-row f) in
         e₂ ∙ (λ i. taken (slots i) (head i)) ∙ ap (λ j. taken (walked (rowClaim v d) S 0 k) (rowClaim v d j)) o ∙ sym (walk-more (rowClaim v d) S 1 0 k) ∙ ap (λ j. walked (rowClaim v d) (j + 1) 0 k) (sym m)
 

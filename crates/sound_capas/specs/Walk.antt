@@ -93,20 +93,26 @@ walk-none f (suc n) i k h = ap (λ c. walked f n (suc i) (taken k c)) (h i) ∙ 
 
 -- ---- rows of w + 1 items are all items
 
-pub rows-walk : (g : ℕ → ℕ → ℕ) (w n d : ℕ) (k : Marking) → rowsWalked g (w + 1) n d k ≡ walked (λ i. g (i / (w + 1)) (i % (w + 1))) (n * (w + 1)) (d * (w + 1)) k
-unfolding rowsWalked walked
-rows-walk g w zero d k = let z : 0 ≡ 0 * (w + 1) = omega arith in ap (λ j. walked (λ i. g (i / (w + 1)) (i % (w + 1))) j (d * (w + 1)) k) z
-rows-walk g w (suc n) d k =
-    let f : ℕ → ℕ = λ i. g (i / (w + 1)) (i % (w + 1)) in
-    let z : suc n * (w + 1) ≡ (w + 1) + n * (w + 1) = omega arith in
-    let e : d * (w + 1) + (w + 1) ≡ suc d * (w + 1) = omega arith in
-    let one : (x : ℕ) → x < w + 1 → g d (0 + x) ≡ f (d * (w + 1) + x) = λ x b.
-    let o : 0 + x ≡ x = omega arith in
-    ap (g d) o ∙ sym (λ i. g (digits-div d {m = w + 1} {r = x} b i) (digits-mod d {m = w + 1} {r = x} b i)) in
-    let row : walked (g d) (w + 1) 0 k ≡ walked f (w + 1) (d * (w + 1)) k = walk-same (g d) f (w + 1) 0 (d * (w + 1)) k one in
-    ap (rowsWalked g (w + 1) n (suc d)) row
-    ∙ rows-walk g w n (suc d) (walked f (w + 1) (d * (w + 1)) k)
-    ∙ sym (ap (λ j. walked f j (d * (w + 1)) k) z ∙ walk-more f (w + 1) (n * (w + 1)) (d * (w + 1)) k ∙ ap (λ j. walked f (n * (w + 1)) j (walked f (w + 1) (d * (w + 1)) k)) e)
+module _ (g : ℕ → ℕ → ℕ) (w : ℕ) where
+  -- the item at a place of a row
+  abbrev items : ℕ → ℕ
+  items i = g (i / (w + 1)) (i % (w + 1))
+
+  item : (d x : ℕ) → x < w + 1 → g d (0 + x) ≡ items (d * (w + 1) + x)
+  item d x b =
+      let o : 0 + x ≡ x = omega arith in
+      ap (g d) o ∙ sym (λ i. g (digits-div d {m = w + 1} {r = x} b i) (digits-mod d {m = w + 1} {r = x} b i))
+
+  pub rows-walk : (n d : ℕ) (k : Marking) → rowsWalked g (w + 1) n d k ≡ walked items (n * (w + 1)) (d * (w + 1)) k
+  unfolding rowsWalked walked
+  rows-walk zero d k = let z : 0 ≡ 0 * (w + 1) = omega arith in ap (λ j. walked items j (d * (w + 1)) k) z
+  rows-walk (suc n) d k =
+      let z : suc n * (w + 1) ≡ (w + 1) + n * (w + 1) = omega arith in
+      let e : d * (w + 1) + (w + 1) ≡ suc d * (w + 1) = omega arith in
+      let row = walked items (w + 1) (d * (w + 1)) k in
+      ap (rowsWalked g (w + 1) n (suc d)) (walk-same (g d) items (w + 1) 0 (d * (w + 1)) k (item d))
+      ∙ rows-walk n (suc d) row
+      ∙ sym (ap (λ j. walked items j (d * (w + 1)) k) z ∙ walk-more items (w + 1) (n * (w + 1)) (d * (w + 1)) k ∙ ap (λ j. walked items (n * (w + 1)) j row) e)
 
 -- ---- the walk is the test of the claims
 

@@ -1,6 +1,5 @@
 -- The section of domains.
 use Rattle.sound_capas.specs.Managers.{managers-lent, place-fits}
-use mathlib.Core.Path.{ap}
 use native.Mathlib.Omega.{arith}
 use borrow.Author.Needs.{needs}
 use Rattle.sound_capas.proofs.managers.domains_of.Statement.{statement}
