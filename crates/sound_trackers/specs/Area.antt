@@ -56,10 +56,10 @@ module _ (w a b : List ℕ) (k : ℕ) (u : List ℕ) (t : Two w a b k u) where
         let z : k - 0 ≡ k = omega arith in
         record {
           is =
-            lent-back u p 0 (k - 0) k z h (omega (arith, t .fits, two-long))
-            ∙ ap (λ (x : List ℕ). sets x 0 p) (t .is)
-            ∙ sym (sets-apart p b (sets w 0 a) 0 (middle w) (omega (arith, t .fits)))
-            ∙ ap (λ (x : List ℕ). sets x (middle w) b) (sets-over a p w 0 (t .first ∙ sym h));
+              lent-back u p 0 (k - 0) k z h (omega (arith, t .fits, two-long))
+              ∙ ap (λ (x : List ℕ). sets x 0 p) (t .is)
+              ∙ sym (sets-apart p b (sets w 0 a) 0 (middle w) (omega (arith, t .fits)))
+              ∙ ap (λ (x : List ℕ). sets x (middle w) b) (sets-over a p w 0 (t .first ∙ sym h));
           first = h;
           second = t .second;
           fits = t .fits;
@@ -71,10 +71,10 @@ module _ (w a b : List ℕ) (k : ℕ) (u : List ℕ) (t : Two w a b k u) where
         let z : m + k - m ≡ k = omega arith in
         record {
           is =
-            lent-back u p m (m + k - m) k z h (omega (arith, t .fits, two-long))
-            ∙ ap (λ (i : ℕ). sets u i p) em
-            ∙ ap (λ (x : List ℕ). sets x (middle w) p) (t .is)
-            ∙ sets-over b p (sets w 0 a) (middle w) (t .second ∙ sym h);
+              lent-back u p m (m + k - m) k z h (omega (arith, t .fits, two-long))
+              ∙ ap (λ (i : ℕ). sets u i p) em
+              ∙ ap (λ (x : List ℕ). sets x (middle w) p) (t .is)
+              ∙ sets-over b p (sets w 0 a) (middle w) (t .second ∙ sym h);
           first = t .first;
           second = h;
           fits = t .fits;

@@ -1,3 +1,4 @@
 pub mod Area
-pub mod Laws
+pub mod Swept
 pub mod Trackers
+pub mod Turns

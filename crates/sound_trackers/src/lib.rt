@@ -1,9 +1,7 @@
 // The test of the trackers (document 01, **Sound**, from "each tracker record is on one list" on): the records of each domain in use are swept
 // against the pieces of its regions. Pools, slot lists, the region tree and the owners are tested elsewhere.
 ghost use mathlib.Core.Path.{_≡_};
-ghost use Prim.Native.Nat.{_≤_};
 ghost use lib.ListN.{length, take, replicate};
-ghost use Rattle.sizes.specs.Limits.{mostWords};
 ghost use Rattle.tables.specs.View.{view, Sized};
 ghost use Rattle.sections.specs.Rows.{slotIn, regionIn, recordIn};
 ghost use Rattle.sound_pieces.specs.Pieces.{slotsPieces};
@@ -11,7 +9,7 @@ ghost use Rattle.sound_pieces.specs.Laid.{space};
 ghost use Rattle.sound_pieces.specs.Walks.{pool};
 ghost use Rattle.sound_sweep.specs.Records.{chained};
 ghost use Rattle.sound_trackers.specs.Trackers.{trackersHold};
-ghost use Rattle.sound_trackers.specs.Laws.{swept};
+ghost use Rattle.sound_trackers.specs.Swept.{swept};
 use pools::Pool;
 
 // The domain whose slots are s and whose tracker starts at link `first`. `w` is a work area, all zero.
@@ -62,7 +60,18 @@ pub fn trackers_hold(t: &[u64], w: &mut [u64]) -> bool
         if words::word(used, d) == 0 {
             let s = sections::slots_of(t, d);
             let x = tables::load_head(t, d);
-            if !domain_holds(s, z.slots, links, gens, r, z.regions, q, z.records, x.tracker, w) {
+            if !domain_holds(
+                s,
+                z.slots,
+                links,
+                gens,
+                r,
+                z.regions,
+                q,
+                z.records,
+                x.tracker,
+                w,
+            ) {
                 return false;
             }
         }

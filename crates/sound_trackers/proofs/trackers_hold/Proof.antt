@@ -8,20 +8,9 @@ use mathlib.Core.Logic.{⊎-elim}
 use lib.ListN.{length}
 use Rattle.tables.specs.View.{view}
 use Rattle.sound_trackers.specs.Trackers.{allHold, trackersHold}
-use Rattle.sound_trackers.specs.Laws.{free-holds, domain-is, all-start, all-end, all-goes, all-fails}
+use Rattle.sound_trackers.specs.Turns.{free-holds, domain-is, all-start, all-end, all-goes, all-fails}
 use Rattle.sound_trackers.proofs.trackers_hold.Statement.{statement}
 use Rattle.sound_trackers.proofs.trackers_hold.Tie as tie
-use Rattle.sound_trackers.proofs.trackers_hold.Reads as reads
-use Rattle.sound_trackers.proofs.trackers_hold.Lts as lts
-use Rattle.sections.proofs.generations_of.Reads as generations-of-reads
-use Rattle.sections.proofs.links_of.Reads as links-of-reads
-use Rattle.sections.proofs.records_of.Reads as records-of-reads
-use Rattle.sections.proofs.regions_of.Reads as regions-of-reads
-use Rattle.sections.proofs.slots_of.Reads as slots-of-reads
-use Rattle.sizes.proofs.read_sizes.Reads as read-sizes-reads
-use Rattle.sound_trackers.proofs.domain_holds.Reads as domain-holds-reads
-use Rattle.tables.proofs.load_head.Reads as load-head-reads
-use Rattle.words.proofs.word.Reads as word-reads
 
 abbrev Inv-loop : tie.InvT-loop
 Inv-loop t w₀ z used links gens r q d₀ w d = (w ≡ w₀) × (d ≤ z .domains) × (allHold (view t) (z .domains - d) d ≡ trackersHold (view t))
@@ -29,76 +18,57 @@ Inv-loop t w₀ z used links gens r q d₀ w d = (w ≡ w₀) × (d ≤ z .domai
 abbrev μ-loop : tie.MeasureT-loop
 μ-loop t w₀ z used links gens r q d₀ w d = z .domains - d
 
--- src/lib.rt:54:9
 read-sizes-requires : tie.Need-read-sizes-requires Inv-loop μ-loop
 read-sizes-requires c κs = search needs
 
--- src/lib.rt:55:9
 links-of-requires : tie.Need-links-of-requires Inv-loop μ-loop
 links-of-requires c κs = (c .before .before .before .pre .0)
 
--- src/lib.rt:56:9
 links-of-requires-2 : tie.Need-links-of-requires-2 Inv-loop μ-loop
 links-of-requires-2 c κs = (c .before .before .before .before .pre .0)
 
--- src/lib.rt:57:9
 generations-of-requires : tie.Need-generations-of-requires Inv-loop μ-loop
 generations-of-requires c κs = (c .before .before .before .before .before .pre .0)
 
--- src/lib.rt:58:9
 regions-of-requires : tie.Need-regions-of-requires Inv-loop μ-loop
 regions-of-requires c κs = (c .before .before .before .before .before .before .pre .0)
 
--- src/lib.rt:59:9
 records-of-requires : tie.Need-records-of-requires Inv-loop μ-loop
 records-of-requires c κs = (c .before .before .before .before .before .before .before .pre .0)
 
--- src/lib.rt:61:5
 loop-holds : tie.Need-loop-holds Inv-loop μ-loop
-
 loop-holds c = (refl, omega arith, all-start _ _ (c .before .before .before .before .before .read-sizes .ensures))
 
--- src/lib.rt:62:12
 word-requires : tie.Need-word-requires Inv-loop μ-loop
 word-requires c κs = search needs
 
--- src/lib.rt:63:17
 slots-of-requires : tie.Need-slots-of-requires Inv-loop μ-loop
 slots-of-requires c κs = (c .before .before .before .before .before .before .before .before .before .before .before .before .before .pre .0)
 
--- src/lib.rt:64:17
 load-head-requires : tie.Need-load-head-requires Inv-loop μ-loop
 load-head-requires c κs = (c .before .before .before .before .before .before .before .before .before .before .before .before .before .before .pre .0)
 
--- src/lib.rt:65:17
 domain-holds-requires : tie.Need-domain-holds-requires Inv-loop μ-loop
 domain-holds-requires c κs = rw ((c .before .before .before .before .before .before .before .loop .inv) .0) ((c .before .before .before .before .before .before .before .before .before .before .before .before .before .before .before .before .pre) .1 .1)
 
--- src/lib.rt:66:17
 same-length : tie.Need-same-length Inv-loop μ-loop
 same-length c = ap length ((c .before .before .before .domain-holds .ensures) .1 ∙ (c .before .before .before .before .before .before .before .before .before .before .before .loop .inv) .0)
 
--- src/lib.rt:66:17
 returns : tie.Need-returns Inv-loop μ-loop
 returns c = (all-fails _ _ _ (c .before .before .before .before .before .before .before .before .before .if1 .taken) (domain-is _ _ _ _ (c .before .before .before .before .before .before .before .before .before .before .before .before .before .before .before .before .links-of .ensures) (c .before .before .before .before .before .before .before .before .word .ensures) _ _ _ (c .before .before .before .before .before .before .before .before .before .before .before .loop .w) _ _ _ _ ((c .before .before .before .before .before .before .before .before .before .before .before .before .before .before .before .before .before .before .before .before .pre) .0) (c .before .before .before .before .before .before .before .before .before .before .before .before .before .before .before .before .before .read-sizes .ensures) (c .before .before .before .before .before .before .before .before .before .before .before .before .before .before .before .links-of2 .ensures) (c .before .before .before .before .before .before .before .before .before .before .before .before .before .before .generations-of .ensures) (c .before .before .before .before .before .before .before .before .before .before .before .before .before .regions-of .ensures) (c .before .before .before .before .before .before .slots-of .ensures) (c .before .before .before .before .before .before .before .before .before .before .before .before .records-of .ensures) (c .before .before .before .before .before .load-head .ensures) (ap length ((c .before .before .before .before .before .before .before .before .before .before .before .loop .inv) .0) ∙ (c .before .before .before .before .before .before .before .before .before .before .before .before .before .before .before .before .before .before .before .before .pre) .1 .0) (c .before .before .before .before .before .before .before .if2 .taken) _ ((c .before .before .before .domain-holds .ensures) .0) ∙ not-true _ (c .if3 .taken)) ∙ (c .before .before .before .before .before .before .before .before .before .before .before .loop .inv) .2, (c .before .before .before .domain-holds .ensures) .1 ∙ (c .before .before .before .before .before .before .before .before .before .before .before .loop .inv) .0)
 
--- src/lib.rt:69:9
 add-d : tie.Need-add-d Inv-loop μ-loop
 add-d c = omega arith
 
--- src/lib.rt:61:5
 loop-less : tie.Need-loop-less Inv-loop μ-loop
 loop-less c = omega arith
 
--- src/lib.rt:61:5
 loop-again : tie.Need-loop-again Inv-loop μ-loop
 loop-again c = (⊎-elim (λ u. u .8 ∙ u .4 .ensures .1 ∙ (c .before .before .before .before .loop .inv) .0) (λ u. u .1 ∙ (c .before .before .before .before .loop .inv) .0) (c .if2 .came), omega arith, all-goes _ _ _ (c .before .before .if1 .taken) (⊎-elim (λ u. domain-is _ _ _ _ (c .before .before .before .before .before .before .before .before .before .links-of .ensures) (c .before .word .ensures) _ _ _ (c .before .before .before .before .loop .w) _ _ _ _ ((c .before .before .before .before .before .before .before .before .before .before .before .before .before .pre) .0) (c .before .before .before .before .before .before .before .before .before .before .read-sizes .ensures) (c .before .before .before .before .before .before .before .before .links-of2 .ensures) (c .before .before .before .before .before .before .before .generations-of .ensures) (c .before .before .before .before .before .before .regions-of .ensures) (u .1 .ensures) (c .before .before .before .before .before .records-of .ensures) (u .2 .ensures) (ap length ((c .before .before .before .before .loop .inv) .0) ∙ (c .before .before .before .before .before .before .before .before .before .before .before .before .before .pre) .1 .0) (u .0 .taken) _ (u .4 .ensures .0) ∙ not-false _ (u .7 .left)) (λ u. free-holds _ _ _ _ (c .before .before .before .before .before .before .before .before .before .links-of .ensures) (c .before .word .ensures) (u .0 .left)) (c .if2 .came)) ∙ (c .before .before .before .before .loop .inv) .2)
 
--- src/lib.rt:47:1
 same-length-2 : tie.Need-same-length-2 Inv-loop μ-loop
 same-length-2 c = ap length ((c .before .before .loop .inv) .0)
 
--- src/lib.rt:47:1
 returns-2 : tie.Need-returns-2 Inv-loop μ-loop
 returns-2 c = (all-end _ _ _ (c .if1 .left) ∙ (c .before .before .loop .inv) .2, (c .before .before .loop .inv) .0)
 
