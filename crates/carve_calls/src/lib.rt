@@ -35,7 +35,7 @@ fn carve(t: &mut [u64], d: usize, p: usize, a: AccessRights) -> Answer
     if !segment::check_carve(t, p, a) {
         return Answer::Refused(Refusal::BEYOND);
     }
-    let parent = tables::load_region(t, p);
+    let parent = region_rows::load_region(t, p);
     match region_calls::add_child(t, d, p, RegionCapa::CARVE, a) {
         Answer::Done(n) => match exchange_rights(t, d, parent.rights, a) {
             Answer::Done(v) => Answer::Done(n),

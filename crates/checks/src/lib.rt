@@ -38,7 +38,7 @@ pub fn caller_with(t: &[u64], h: Handle, bit: u64) -> Answer
 {
     match live_domain(t, h) {
         Answer::Done(d) => {
-            let interface = tables::load_interface(t, d as usize);
+            let interface = interface_rows::load_interface(t, d as usize);
             if has(interface.word, bit) {
                 return Answer::Done(d);
             }

@@ -34,7 +34,7 @@ fn open_all(v: &mut [u64])
     let mut i = 0;
     while i < n {
         let free = pools::is_free_in(v, Pool::Domains, i);
-        tables::store_interface(v, i, interface_of(free));
+        interface_rows::store_interface(v, i, interface_of(free));
         i += 1;
     }
 }

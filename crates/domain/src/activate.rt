@@ -49,7 +49,7 @@ pub fn notify(t: &mut [u64], d: usize) -> Answer
     ensures { λ r. ⌜ r ≡ notify d (view (now (t .entry))) .answer ⌝ }
     ensures { λ _. ⌜ Left (now (t .exit)) (notify d (view (now (t .entry))) .tables) ⌝ }
 {
-    let head = tables::load_head(t, d);
+    let head = domain_rows::load_head(t, d);
     let generation = pools::domain_generation(t, d);
     let queued = update::mark_domain(t, d as u64, generation, head.cores);
     or_refused(queued, Refusal::RING_FULL)

@@ -62,13 +62,13 @@ pub fn new_domain(t: &mut [u64], manager: u64, cores: u64) -> Answer
                 head: 0,
                 count: 0,
             };
-            tables::store_head(t, i, head);
+            domain_rows::store_head(t, i, head);
             stored_slots::store_list(t, i, fresh_list(n));
             let interface = Interface {
                 word: Interface::OPEN,
                 frozen: 0,
             };
-            tables::store_interface(t, i, interface);
+            interface_rows::store_interface(t, i, interface);
             Answer::Done(h.slot)
         }
         Given::Full => Answer::Refused(Refusal::NO_DOMAIN_ROOM),

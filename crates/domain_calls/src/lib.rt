@@ -89,9 +89,9 @@ pub fn set_core_map(t: &mut [u64], h: Handle, cores: u64) -> Answer
 {
     match checks::live_domain(t, h) {
         Answer::Done(d) => {
-            let mut head = tables::load_head(t, d as usize);
+            let mut head = domain_rows::load_head(t, d as usize);
             head.cores = cores;
-            tables::store_head(t, d as usize, head);
+            domain_rows::store_head(t, d as usize, head);
             Answer::Done(0)
         }
         Answer::Refused(r) => Answer::Refused(r),
@@ -108,9 +108,9 @@ pub fn set_interface(t: &mut [u64], h: Handle, word: u64) -> Answer
 {
     match checks::live_domain(t, h) {
         Answer::Done(d) => {
-            let old = tables::load_interface(t, d as usize);
+            let old = interface_rows::load_interface(t, d as usize);
             if old.frozen == 0 {
-                tables::store_interface(t, d as usize, Interface { word, frozen: 0 });
+                interface_rows::store_interface(t, d as usize, Interface { word, frozen: 0 });
                 return Answer::Done(0);
             }
             Answer::Refused(Refusal::FROZEN)
@@ -127,9 +127,9 @@ pub fn freeze_interface(t: &mut [u64], h: Handle) -> Answer
 {
     match checks::live_domain(t, h) {
         Answer::Done(d) => {
-            let mut interface = tables::load_interface(t, d as usize);
+            let mut interface = interface_rows::load_interface(t, d as usize);
             interface.frozen = 1;
-            tables::store_interface(t, d as usize, interface);
+            interface_rows::store_interface(t, d as usize, interface);
             Answer::Done(0)
         }
         Answer::Refused(r) => Answer::Refused(r),

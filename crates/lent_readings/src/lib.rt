@@ -57,7 +57,7 @@ pub fn core_map(t: &[u64], w: &mut [u64], domain: u64, generation: u64) -> Reply
 {
     match domain_read(t, w, domain, generation) {
         Answer::Done(d) => {
-            let x = tables::load_head(t, d as usize);
+            let x = domain_rows::load_head(t, d as usize);
             Reply {
                 refusal: 0,
                 value: x.cores,

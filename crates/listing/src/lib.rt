@@ -37,7 +37,7 @@ pub fn fill_lines(t: &[u64], d: usize, run: &mut [u64]) -> usize
         if k == 0 {
             return n;
         }
-        let q = tables::load_record(t, tables::slot_to(k));
+        let q = record_rows::load_record(t, tables::slot_to(k));
         put_line(run, 5 * n, d as u64, q);
         k = q.next;
         n += 1;

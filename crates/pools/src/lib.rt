@@ -92,8 +92,8 @@ fn wipe_region(t: &mut [u64], i: usize)
     requires { ⌜ Sized (now t) ⌝ }
     ensures { λ _. ⌜ Left (now (t .exit)) (withHash (withRegion (view (now (t .entry))) i noRegion) i noHash) ⌝ }
 {
-    tables::store_region(t, i, tables::no_region());
-    tables::store_hash(t, i, tables::no_hash());
+    region_rows::store_region(t, i, tables::no_region());
+    hash_rows::store_hash(t, i, tables::no_hash());
 }
 
 // Makes the words of record i 0. A domain is never freed, so its record stays.
@@ -104,7 +104,7 @@ fn wipe(t: &mut [u64], q: Pool, i: usize)
     match q {
         Pool::Domains => {}
         Pool::Regions => wipe_region(t, i),
-        Pool::Records => tables::store_record(t, i, tables::no_record()),
+        Pool::Records => record_rows::store_record(t, i, tables::no_record()),
     }
 }
 

@@ -82,7 +82,7 @@ fn largest_reach(t: &[u64], d: usize, start: u64, last: u64) -> u64
         if k == 0 {
             return most;
         }
-        let q = tables::load_record(t, tables::slot_to(k));
+        let q = record_rows::load_record(t, tables::slot_to(k));
         most = larger(most, reach_in(q, start, last));
         k = q.next;
         left -= 1;
@@ -116,7 +116,7 @@ fn count(t: &[u64], d: usize) -> u64
         if k == 0 {
             return n;
         }
-        let q = tables::load_record(t, tables::slot_to(k));
+        let q = record_rows::load_record(t, tables::slot_to(k));
         k = q.next;
         n += 1;
         left -= 1;
@@ -142,7 +142,7 @@ pub fn found_at(t: &[u64], k: u64) -> Found
     requires { ⌜ Sized (now t) ⌝ }
     ensures { λ r. ⌜ r ≡ foundAt (view (now (t .entry))) k ⌝ }
 {
-    let q = tables::load_record(t, tables::slot_to(k));
+    let q = record_rows::load_record(t, tables::slot_to(k));
     let p = Permission {
         start: q.start,
         end: q.end,

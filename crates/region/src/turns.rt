@@ -78,7 +78,7 @@ fn raise(t: &mut [u64], a: AccessRights, c: Cursor, q: Region) -> Progress
     ensures { λ _. ⌜ Left (now (t .exit)) (raiseTurn (view (now (t .entry))) a c q .tables) ⌝ }
 {
     let p = counts::increase(q, a.ops);
-    tables::store_record(t, tables::slot_to(c.at), p);
+    record_rows::store_record(t, tables::slot_to(c.at), p);
     going(c, q.next, q.end, counts::change(q, p))
 }
 
@@ -92,7 +92,7 @@ fn lower(t: &mut [u64], d: usize, a: AccessRights, c: Cursor, q: Region) -> Prog
     let i = tables::slot_to(c.at);
     let change = counts::change(q, p);
     if p.ref_count != 0 {
-        tables::store_record(t, i, p);
+        record_rows::store_record(t, i, p);
         return going(c, q.next, c.start, change);
     }
     links::set_next(t, d, c.prev, q.next);
@@ -147,7 +147,7 @@ fn add(t: &mut [u64], d: usize, a: AccessRights, c: Cursor) -> Progress
     if c.at == 0 {
         return fill(t, d, a, c, a.end);
     }
-    let q = tables::load_record(t, tables::slot_to(c.at));
+    let q = record_rows::load_record(t, tables::slot_to(c.at));
     add_at(t, d, a, c, q)
 }
 
@@ -181,7 +181,7 @@ fn remove(t: &mut [u64], d: usize, a: AccessRights, c: Cursor) -> Progress
     if c.at == 0 {
         return Progress::Over(Answer::Done(c.changed));
     }
-    let q = tables::load_record(t, tables::slot_to(c.at));
+    let q = record_rows::load_record(t, tables::slot_to(c.at));
     remove_at(t, d, a, c, q)
 }
 
@@ -194,7 +194,7 @@ fn merge_at(t: &mut [u64], c: Cursor, q: Region, n: Region) -> Progress
     if !counts::mergeable(q, n) {
         return going(c, q.next, c.start, false);
     }
-    tables::store_record(t, tables::slot_to(c.at), links::bounded(q, n.end, n.next));
+    record_rows::store_record(t, tables::slot_to(c.at), links::bounded(q, n.end, n.next));
     match links::free(t, tables::slot_to(q.next)) {
         Answer::Done(v) => Progress::Going(c),
         Answer::Refused(r) => Progress::Over(Answer::Refused(r)),
@@ -210,11 +210,11 @@ fn merge(t: &mut [u64], c: Cursor) -> Progress
     if c.at == 0 {
         return Progress::Over(Answer::Done(c.changed));
     }
-    let q = tables::load_record(t, tables::slot_to(c.at));
+    let q = record_rows::load_record(t, tables::slot_to(c.at));
     if q.next == 0 {
         return Progress::Over(Answer::Done(c.changed));
     }
-    let n = tables::load_record(t, tables::slot_to(q.next));
+    let n = record_rows::load_record(t, tables::slot_to(q.next));
     merge_at(t, c, q, n)
 }
 

@@ -144,7 +144,7 @@ fn run_reading(t: &[u64], c: Request)
     let kind = c.kind;
     match kind {
         11 => {
-            let h = tables::load_head(t, d);
+            let h = domain_rows::load_head(t, d);
             output::number(h.cores);
         }
         12 => run_permissions(t, d),

@@ -12,7 +12,7 @@ fn leave_parent(t: &mut [u64], i: usize)
     requires { ⌜ Sized (now t) ⌝ }
     ensures { λ _. ⌜ Left (now (t .exit)) (leaveParent i (view (now (t .entry)))) ⌝ }
 {
-    let g = tables::load_region(t, i);
+    let g = region_rows::load_region(t, i);
     if g.kind == RegionCapa::ROOT {
         return;
     }
@@ -26,7 +26,7 @@ fn give_back(t: &mut [u64], g: RegionCapa) -> Answer
     ensures { λ _. ⌜ Left (now (t .exit)) (giveBack g (view (now (t .entry))) .tables) ⌝ }
 {
     if g.kind == RegionCapa::CARVE {
-        let p = tables::load_region(t, tables::slot_to(g.parent));
+        let p = region_rows::load_region(t, tables::slot_to(g.parent));
         let a = segment::access(g.start, g.end, p.rights);
         return domain::activate_region(t, tables::slot_to(p.owner), a);
     }
@@ -51,7 +51,7 @@ fn revoke_leaf(t: &mut [u64], i: usize) -> Answer
     ensures { λ r. ⌜ r ≡ revokeLeaf i (view (now (t .entry))) .answer ⌝ }
     ensures { λ _. ⌜ Left (now (t .exit)) (revokeLeaf i (view (now (t .entry))) .tables) ⌝ }
 {
-    let g = tables::load_region(t, i);
+    let g = region_rows::load_region(t, i);
     let a = segment::access(g.start, g.end, g.rights);
     leave_parent(t, i);
     match domain::deactivate_region(t, tables::slot_to(g.owner), a) {
@@ -75,7 +75,7 @@ fn revoke_region(t: &mut [u64], i: usize, left: u64) -> Answer
     let mut n = left;
     while 0 < n {
         n -= 1;
-        let g = tables::load_region(t, i);
+        let g = region_rows::load_region(t, i);
         if g.child == 0 {
             return revoke_leaf(t, i);
         }

@@ -15,7 +15,7 @@ fn revoke_unless_root(t: &mut [u64], i: usize) -> Answer
     ensures { λ r. ⌜ r ≡ revokeUnlessRoot i (view (now (t .entry))) .answer ⌝ }
     ensures { λ _. ⌜ Left (now (t .exit)) (revokeUnlessRoot i (view (now (t .entry))) .tables) ⌝ }
 {
-    let g = tables::load_region(t, i);
+    let g = region_rows::load_region(t, i);
     if g.kind == RegionCapa::ROOT {
         return Answer::Refused(Refusal::ROOT);
     }
@@ -86,7 +86,7 @@ fn add_revoker(t: &mut [u64], d: usize, i: u64) -> Answer
     ensures { λ r. ⌜ r ≡ revoker d i (view (now (t .entry))) .answer ⌝ }
     ensures { λ _. ⌜ Left (now (t .exit)) (revoker d i (view (now (t .entry))) .tables) ⌝ }
 {
-    let g = tables::load_region(t, i as usize);
+    let g = region_rows::load_region(t, i as usize);
     if g.kind == RegionCapa::ROOT {
         return Answer::Refused(Refusal::ROOT);
     }

@@ -18,7 +18,7 @@ pub fn region_in(p: &[u64], i: usize) -> RegionCapa
     if i < p.len() / REGION_WIDTH {
         let a = i * REGION_WIDTH;
         let e = a + REGION_WIDTH;
-        return tables::regions::region_of(&p[a..e]);
+        return region_rows::region_of(&p[a..e]);
     }
     tables::no_region()
 }
@@ -29,7 +29,7 @@ pub fn record_in(p: &[u64], i: usize) -> Region
     if i < p.len() / RECORD_WIDTH {
         let a = i * RECORD_WIDTH;
         let e = a + RECORD_WIDTH;
-        return tables::records::record_of(&p[a..e]);
+        return record_rows::record_of(&p[a..e]);
     }
     tables::no_record()
 }
@@ -40,7 +40,7 @@ pub fn hash_in(p: &[u64], i: usize) -> RegionHash
     if i < p.len() / HASH_WIDTH {
         let a = i * HASH_WIDTH;
         let e = a + HASH_WIDTH;
-        return tables::hashes::hash_of(&p[a..e]);
+        return hash_rows::hash_of(&p[a..e]);
     }
     tables::no_hash()
 }
@@ -51,7 +51,7 @@ pub fn interface_in(p: &[u64], i: usize) -> Interface
     if i < p.len() / INTERFACE_WIDTH {
         let a = i * INTERFACE_WIDTH;
         let e = a + INTERFACE_WIDTH;
-        return tables::interfaces::interface_of(&p[a..e]);
+        return interface_rows::interface_of(&p[a..e]);
     }
     tables::no_interface()
 }
@@ -62,7 +62,7 @@ pub fn slot_in(p: &[u64], i: usize) -> Slot
     if i < p.len() / SLOT_WIDTH {
         let a = i * SLOT_WIDTH;
         let e = a + SLOT_WIDTH;
-        return tables::domains::slot_of(&p[a..e]);
+        return domain_rows::slot_of(&p[a..e]);
     }
     tables::no_slot()
 }

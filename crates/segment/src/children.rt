@@ -41,7 +41,7 @@ fn find(t: &[u64], p: usize, search: Search) -> Place
     requires { ⌜ Sized (now t) ⌝ }
     ensures { λ c. ⌜ c ≡ find search (view (now (t .entry))) p ⌝ }
 {
-    let parent = tables::load_region(t, p);
+    let parent = region_rows::load_region(t, p);
     let mut prev = 0;
     let mut at = parent.child;
     let mut left = words::size(t, sizes::REGIONS);
@@ -49,7 +49,7 @@ fn find(t: &[u64], p: usize, search: Search) -> Place
         if at == 0 {
             return Place { prev, at };
         }
-        let r = tables::load_region(t, tables::slot_to(at));
+        let r = region_rows::load_region(t, tables::slot_to(at));
         if ends(search, at, r) {
             return Place { prev, at };
         }
@@ -68,14 +68,14 @@ fn link_child(t: &mut [u64], p: usize, prev: u64, link: u64)
     ensures { λ _. ⌜ Left (now (t .exit)) (linkChild (view (now (t .entry))) p prev link) ⌝ }
 {
     if prev == 0 {
-        let mut r = tables::load_region(t, p);
+        let mut r = region_rows::load_region(t, p);
         r.child = link;
-        tables::store_region(t, p, r);
+        region_rows::store_region(t, p, r);
     } else {
         let i = tables::slot_to(prev);
-        let mut r = tables::load_region(t, i);
+        let mut r = region_rows::load_region(t, i);
         r.next = link;
-        tables::store_region(t, i, r);
+        region_rows::store_region(t, i, r);
     }
 }
 
@@ -84,10 +84,10 @@ pub fn insert_child(t: &mut [u64], p: usize, i: usize)
     requires { ⌜ Sized (now t) ⌝ }
     ensures { λ _. ⌜ Left (now (t .exit)) (insertChild (view (now (t .entry))) p i) ⌝ }
 {
-    let mut r = tables::load_region(t, i);
+    let mut r = region_rows::load_region(t, i);
     let c = find(t, p, Search::After(r.start));
     r.next = c.at;
-    tables::store_region(t, i, r);
+    region_rows::store_region(t, i, r);
     link_child(t, p, c.prev, tables::link_to(i as u64));
 }
 
@@ -96,11 +96,11 @@ pub fn remove_child(t: &mut [u64], p: usize, i: usize)
     requires { ⌜ Sized (now t) ⌝ }
     ensures { λ _. ⌜ Left (now (t .exit)) (removeChild (view (now (t .entry))) p i) ⌝ }
 {
-    let mut r = tables::load_region(t, i);
+    let mut r = region_rows::load_region(t, i);
     let next = r.next;
     let c = find(t, p, Search::Link(tables::link_to(i as u64)));
     r.next = 0;
-    tables::store_region(t, i, r);
+    region_rows::store_region(t, i, r);
     link_child(t, p, c.prev, next);
 }
 
@@ -125,7 +125,7 @@ fn check_child(t: &[u64], p: usize, a: AccessRights, carves: bool) -> bool
     requires { ⌜ Sized (now t) ⌝ }
     ensures { λ b. ⌜ b ≡ checkChild carves (view (now (t .entry))) p a ⌝ }
 {
-    let r = tables::load_region(t, p);
+    let r = region_rows::load_region(t, p);
     let o = Overlap {
         start: a.start,
         end: a.end,

@@ -14,10 +14,10 @@ fn add_hcv(t: &mut [u64], i: usize, flags: Rights)
     requires { ⌜ Sized (now t) ⌝ }
     ensures { λ _. ⌜ Left (now (t .exit)) (addHcv i flags (view (now (t .entry)))) ⌝ }
 {
-    let mut r = tables::load_region(t, i);
+    let mut r = region_rows::load_region(t, i);
     let ops = children::rights_of(r.rights).union(flags);
     r.rights = ops.0 as u64;
-    tables::store_region(t, i, r);
+    region_rows::store_region(t, i, r);
 }
 
 // The row of a hash that was given.
@@ -39,7 +39,7 @@ fn set_options(t: &mut [u64], i: usize, flags: Rights, hash: RegionHash)
     ensures { λ _. ⌜ Left (now (t .exit)) (withOptions i flags hash (view (now (t .entry)))) ⌝ }
 {
     add_hcv(t, i, flags);
-    tables::store_hash(t, i, hash);
+    hash_rows::store_hash(t, i, hash);
 }
 
 // Region i was sent: with a flag word its flags join the region's rights, and the hash is stored, or cleared when

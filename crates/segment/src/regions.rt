@@ -43,7 +43,7 @@ pub fn new_region(t: &mut [u64], r: RegionCapa) -> Answer
 {
     match pools::allocate_region(t) {
         Given::At(h) => {
-            tables::store_region(t, h.slot as usize, r);
+            region_rows::store_region(t, h.slot as usize, r);
             Answer::Done(h.slot)
         }
         Given::Full => Answer::Refused(Refusal::NO_REGION),

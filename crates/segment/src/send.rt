@@ -30,7 +30,7 @@ fn send_from(
         if k == 0 {
             return regions::move_piece(t, old, new, rights, x, end);
         }
-        let c = tables::load_region(t, tables::slot_to(k));
+        let c = region_rows::load_region(t, tables::slot_to(k));
         k = c.next;
         if c.kind != RegionCapa::CARVE {
             continue;
@@ -52,10 +52,10 @@ pub fn send_region(t: &mut [u64], i: usize, new: usize) -> Answer
     ensures { λ _. ⌜ Left (now (t .exit)) (sendRegion i new (view (now (t .entry))) .tables) ⌝ }
 {
     let limit = words::size(t, sizes::REGIONS) + 1;
-    let g = tables::load_region(t, i);
+    let g = region_rows::load_region(t, i);
     let mut h = g;
     h.owner = tables::link_to(new as u64);
-    tables::store_region(t, i, h);
+    region_rows::store_region(t, i, h);
     send_from(
         t,
         tables::slot_to(g.owner),

@@ -13,7 +13,7 @@ fn has_room(t: &[u64], d: usize) -> bool
     requires { ⌜ Sized (now t) ⌝ }
     ensures { λ r. ⌜ r ≡ roomB (view (now (t .entry))) d ⌝ }
 {
-    let h = tables::load_head(t, d);
+    let h = domain_rows::load_head(t, d);
     let room = (h.count as usize) < words::size(t, sizes::SLOTS);
     words::both(d < words::size(t, sizes::DOMAINS), room)
 }
@@ -75,7 +75,7 @@ pub fn capa_at(t: &[u64], d: usize, i: usize) -> Slot
         d < words::size(t, sizes::DOMAINS),
         i < words::size(t, sizes::SLOTS),
     ) {
-        tables::load_slot(t, d, i)
+        domain_rows::load_slot(t, d, i)
     } else {
         slot_list::free_slot(0)
     }

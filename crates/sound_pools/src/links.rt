@@ -77,7 +77,7 @@ pub fn top_of(t: &[u64], s: Stack) -> Top
         Stack::Regions => top_in(t, Pool::Regions),
         Stack::Records => top_in(t, Pool::Records),
         Stack::Slots(d) => {
-            let h = tables::load_head(t, d);
+            let h = domain_rows::load_head(t, d);
             Top {
                 head: h.head,
                 count: h.count,

@@ -112,7 +112,7 @@ fn domain_holds(t: &[u64], d: usize, w: &mut [u64]) -> bool
     let free = links::may_meet(t, Stack::Domains, d);
     let slots = slots_hold(t, d, free);
     if free {
-        let head = head_clear(tables::load_head(t, d));
+        let head = head_clear(domain_rows::load_head(t, d));
         words::both(head, slots)
     } else {
         let list = walks::stack_holds(t, Stack::Slots(d), w);

@@ -104,7 +104,7 @@ fn follow_trackers(t: &[u64], w: &mut [u64]) -> Followed
     let mut d = 0;
     while d < n {
         if !links::may_meet(t, Stack::Domains, d) {
-            let first = tables::load_head(t, d).tracker;
+            let first = domain_rows::load_head(t, d).tracker;
             let x = follow(t, Stack::Trackers, 0, records, first, w);
             if !x.ended {
                 return Followed {

@@ -15,7 +15,7 @@ fn update_numbered(t: &[u64], n: usize, read: usize, j: usize) -> Update
     requires { ⌜ read + j ≤ 65536 ⌝ }
     ensures { λ u. ⌜ u ≡ numbered (view (now (t .entry))) n read j ⌝ }
 {
-    tables::load_update(t, (read + j) % n)
+    ring_rows::load_update(t, (read + j) % n)
 }
 
 // Whether the first m updates hold, and the other places are clear.
@@ -79,8 +79,8 @@ pub fn queue_holds(t: &[u64]) -> bool
     ensures { λ r. ⌜ r ≡ queueHolds (view (now (t .entry))) ⌝ }
 {
     let n = words::size(t, 4) + 1;
-    let read = tables::read_place(t) as usize;
-    let write = tables::write_place(t) as usize;
+    let read = ring_rows::read_place(t) as usize;
+    let write = ring_rows::write_place(t) as usize;
     let inside = words::both(read < n, write < n);
     if !inside {
         return false;

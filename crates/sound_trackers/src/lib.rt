@@ -59,7 +59,7 @@ pub fn trackers_hold(t: &[u64], w: &mut [u64]) -> bool
     while d < z.domains {
         if words::word(used, d) == 0 {
             let s = sections::slots_of(t, d);
-            let x = tables::load_head(t, d);
+            let x = domain_rows::load_head(t, d);
             if !domain_holds(
                 s,
                 z.slots,

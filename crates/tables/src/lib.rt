@@ -1,35 +1,13 @@
-// The engine's tables in lent words: records by value, loaded and stored by their numbers.
+// The engine's tables in lent words: the records, which crates of their own load and store by their numbers.
 // docs/TABLES.md has the layout; a record that is not there is all zero, and is not stored.
 ghost use mathlib.Core.Path.{_≡_};
 ghost use Rattle.tables.specs.Tables.{noHead, noSlot, noRegion, noRecord, noUpdate, noHash, noInterface};
 
-pub mod domains;
-pub mod hashes;
-pub mod interfaces;
 pub mod links;
-pub mod records;
-pub mod regions;
-pub mod ring;
 pub mod rows;
 
-pub use domains::load_head;
-pub use domains::load_slot;
-pub use domains::store_head;
-pub use hashes::load_hash;
-pub use hashes::store_hash;
-pub use interfaces::load_interface;
-pub use interfaces::store_interface;
 pub use links::link_to;
 pub use links::slot_to;
-pub use records::load_record;
-pub use records::store_record;
-pub use regions::load_region;
-pub use regions::store_region;
-pub use ring::load_update;
-pub use ring::read_place;
-pub use ring::set_places;
-pub use ring::store_update;
-pub use ring::write_place;
 
 pub struct Handle {
     pub slot: u64,

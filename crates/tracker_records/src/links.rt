@@ -13,7 +13,7 @@ pub fn first(t: &[u64], d: usize) -> u64
     requires { ⌜ Sized (now t) ⌝ }
     ensures { λ r. ⌜ r ≡ firstLink (view (now (t .entry))) d ⌝ }
 {
-    let h = tables::load_head(t, d);
+    let h = domain_rows::load_head(t, d);
     h.tracker
 }
 
@@ -33,13 +33,13 @@ pub fn set_next(t: &mut [u64], d: usize, prev: u64, next: u64)
     ensures { λ _. ⌜ Left (now (t .exit)) (withNext (view (now (t .entry))) d prev next) ⌝ }
 {
     if prev == 0 {
-        let mut h = tables::load_head(t, d);
+        let mut h = domain_rows::load_head(t, d);
         h.tracker = next;
-        tables::store_head(t, d, h);
+        domain_rows::store_head(t, d, h);
     } else {
         let i = tables::slot_to(prev);
-        let q = tables::load_record(t, i);
-        tables::store_record(t, i, bounded(q, q.end, next));
+        let q = record_rows::load_record(t, i);
+        record_rows::store_record(t, i, bounded(q, q.end, next));
     }
 }
 
@@ -51,7 +51,7 @@ pub fn insert(t: &mut [u64], d: usize, prev: u64, q: Region) -> Answer
 {
     match pools::allocate_record(t) {
         Given::At(h) => {
-            tables::store_record(t, h.slot as usize, q);
+            record_rows::store_record(t, h.slot as usize, q);
             let link = tables::link_to(h.slot);
             set_next(t, d, prev, link);
             Answer::Done(link)
@@ -68,12 +68,12 @@ pub fn split_region_at(t: &mut [u64], i: usize, a: u64) -> Answer
 {
     match pools::allocate_record(t) {
         Given::At(h) => {
-            let q = tables::load_record(t, i);
+            let q = record_rows::load_record(t, i);
             let mut right = q;
             right.start = a;
-            tables::store_record(t, h.slot as usize, right);
+            record_rows::store_record(t, h.slot as usize, right);
             let link = tables::link_to(h.slot);
-            tables::store_record(t, i, bounded(q, a, link));
+            record_rows::store_record(t, i, bounded(q, a, link));
             Answer::Done(link)
         }
         Given::Full => Answer::Refused(Refusal::NO_TRACKER),

@@ -87,8 +87,8 @@ pub fn load_ring(t: &[u64]) -> Ring
     ensures { λ r. ⌜ r ≡ ringOf (view (now (t .entry))) ⌝ }
 {
     let s = span_of(t);
-    let read = tables::read_place(t) as usize;
-    let write = tables::write_place(t) as usize;
+    let read = ring_rows::read_place(t) as usize;
+    let write = ring_rows::write_place(t) as usize;
     let a = s.start;
     let e = s.end;
     ring_in(&t[a..e], s.places, read, write)
@@ -99,8 +99,8 @@ fn store_place(t: &mut [u64], i: usize, ring: Ring)
     requires { ⌜ Sized (now t) ⌝ }
     ensures { λ _. ⌜ Left (now (t .exit)) (withPlaces (withUpdate (view (now (t .entry))) i (placeIn ring i)) (ring .read) (ring .write)) ⌝ }
 {
-    tables::store_update(t, i, place_in(ring, i));
-    tables::set_places(t, ring.read as u64, ring.write as u64);
+    ring_rows::store_update(t, i, place_in(ring, i));
+    ring_rows::set_places(t, ring.read as u64, ring.write as u64);
 }
 
 // Queues the domain with its core map unless it is queued already; false where the ring is full.

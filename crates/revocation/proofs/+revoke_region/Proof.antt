@@ -15,7 +15,7 @@ use Rattle.revocation.proofs.revoke_region.Kinds as revoke-region-kinds
 use Rattle.revocation.proofs.+revoke_region.Lts-revoke_region as revoke-region-lts
 use Rattle.revocation.proofs.revoke_leaf.Reads as revoke-leaf-reads
 use Rattle.tables.proofs.slot_to.Reads as slot-to-reads
-use Rattle.tables.proofs.load_region.Reads as load-region-reads
+use Rattle.region_rows.proofs.load_region.Reads as load-region-reads
 use Rattle.revocation.proofs.+revoke_region.{statement}
 use Rattle.revocation.proofs.+revoke_region.Tie.{close}
 
