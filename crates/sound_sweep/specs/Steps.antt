@@ -1,0 +1,123 @@
+-- The sweep's steps as the code has them: one record, and the end. The slot of a record does not matter.
+use mathlib.Core.Path.{_≡_, refl, sym, ap, ap₂, _∙_}
+use mathlib.Core.Bool.{Bool, true, false, not, _&&_}
+use mathlib.Core.List.{List, [], _∷_}
+use Prim.Native.Nat.{ℕ, zero, suc, _/_, _≤_, _<_}
+use lib.Dec.{eqb, ltb, leb}
+use lib.ListN.{length, drop, drop-of-length-le}
+use lib.Seq.{drop-cons}
+use borrow.Author.Tests.{lt-ltb, le-ltb, le-leb, lt-leb}
+use Rattle.base.specs.Cases.{lt, ge, cmp}
+use Rattle.base.specs.Tests.{both}
+use Rattle.model.specs.Lists.{if_then_else_, isEmpty}
+use Rattle.model.specs.State.{Counts, Record}
+use Rattle.model.specs.Tracker.{sameCounts}
+use Rattle.tables.specs.declared.Region.{Region}
+use Rattle.sweep.specs.Events.{Event}
+use Rattle.sweep.specs.Sort.{noEvent}
+use Rattle.sweep.specs.Sweep as sweep
+use Rattle.sweep.specs.Sweep.{upto, next, formed, gap, same, inside, sweepFrom}
+use Rattle.sound_events.specs.Events.{eventsIn}
+use Rattle.sound_events.specs.Words.{length-events}
+use Rattle.sound_sweep.specs.declared.Sums.{Sums}
+use Rattle.sound_sweep.specs.declared.Cursor.{Cursor}
+use Rattle.sound_sweep.specs.declared.Both.{Both}
+use Rattle.sound_sweep.specs.Records.{recordFrom}
+use Rattle.sound_sweep.specs.Sums.{countsOf}
+use Rattle.sound_sweep.specs.Tests.{two}
+use Rattle.sound_sweep.specs.Cursors.{cursorIn, summed, rounds, At, Left}
+
+-- May q stand behind b, at whose end the ends passed have the sums k?
+abbrev pub follows : Record → Record → sweep.Cursor → Counts → Bool
+follows b q p k = formed q && leb (b .end) (q .start) && (if ltb (b .end) (q .start) then gap (q .start) p (summed k) else not (sameCounts (b .counts) (q .counts)))
+
+-- what record q behind b leaves
+abbrev pub turn : ℕ → Record → Record → sweep.Cursor → sweep.Cursor → sweep.Both
+turn n b q p m =
+    let m₁ = upto (b .end) m in
+    let r = inside n q (upto (q .start) p) (upto (q .start) m₁) in
+    record { p = r .p; m = r .m; ok = follows b q p (m₁ .sums) && r .ok }
+
+-- behind the last record b
+abbrev pub ending : Record → sweep.Cursor → sweep.Cursor → Bool
+ending b p m = isEmpty (p .ahead) && same p (upto (b .end) m)
+
+-- ---- a record behind another
+
+pub gap-tested : (s : List ℕ) (x n : ℕ) (p : Cursor) (m : Sums) → n ≡ next (drop (p .place) (eventsIn s)) x → both (eqb (p .sums .«ref_count») (m .«ref_count»)) (leb x n) ≡ gap x (cursorIn s p) (summed (countsOf m))
+gap-tested s x n p m e = rw (← e) (two (eqb (p .sums .«ref_count») (m .«ref_count»)) (leb x n))
+
+module _ (b q : Record) (p : sweep.Cursor) (k : Counts) (v t : Bool) (h : v ≡ formed q) (i : t ≡ both v (leb (b .end) (q .start))) where
+  tested : formed q && leb (b .end) (q .start) ≡ t
+  tested = ap (λ z. z && leb (b .end) (q .start)) (sym h) ∙ sym (two v (leb (b .end) (q .start))) ∙ sym i
+
+  pub follows-no : t ≡ false → false ≡ follows b q p k
+  follows-no f = rw (tested, f)
+
+  pub follows-gap : t ≡ true → b .end < q .start → gap (q .start) p (summed k) ≡ follows b q p k
+  follows-gap f u = rw (tested, f, lt-ltb (b .end) (q .start) u)
+
+  pub follows-touch : t ≡ true → q .start ≤ b .end → not (sameCounts (b .counts) (q .counts)) ≡ follows b q p k
+  follows-touch f u = rw (tested, f, le-ltb (b .end) (q .start) u)
+
+-- ---- a whole turn, of the code's cursors
+
+module _ (s e : List ℕ) where
+  left-at : {d d′ : sweep.Both} {r : Both} → d ≡ d′ → Left s e d r → Left s e d′ r
+  left-at f h = rw f at h
+
+  -- t stands at the end of b, p₁ and m₁ at the start of q
+  pub turned : (b q : Region) (p m t p₁ m₁ : Cursor) (r : Both) (may ok : Bool)
+      → At e t (upto (b .end) (cursorIn e m))
+      → may ≡ follows (recordFrom 0 b) (recordFrom 0 q) (cursorIn s p) (countsOf (t .sums))
+      → At s p₁ (upto (q .start) (cursorIn s p))
+      → At e m₁ (upto (q .start) (cursorIn e t))
+      → Left s e (inside (rounds s e) (recordFrom 0 q) (cursorIn s p₁) (cursorIn e m₁)) r
+      → ok ≡ both may (r .ok)
+      → Left s e (turn (rounds s e) (recordFrom 0 b) (recordFrom 0 q) (cursorIn s p) (cursorIn e m)) (record { p = r .p; m = r .m; ok = ok })
+  turned b q p m t p₁ m₁ r may ok ht hf hp hm hr ho =
+      let l = left-at (ap₂ (inside (rounds s e) (recordFrom 0 q)) (hp .is) (hm .is ∙ ap (upto (q .start)) (ht .is))) hr in
+      record {
+        p = l .p;
+        m = l .m;
+        ok = ho ∙ two may (r .ok) ∙ ap₂ _&&_ (hf ∙ ap (λ (d : sweep.Cursor). follows (recordFrom 0 b) (recordFrom 0 q) (cursorIn s p) (d .sums)) (ht .is)) (l .ok);
+      }
+
+-- ---- the end
+
+none-left : (l : List Event) (i : ℕ) → leb (length l) i ≡ isEmpty (drop i l)
+none-left l i = elim (cmp i (length l)) [
+  | lt h ↦ lt-leb (length l) i h ∙ rw (drop-cons l i noEvent h)
+  | ge h ↦ le-leb (length l) i h ∙ rw (drop-of-length-le l h)
+]
+
+pub ended : (s e : List ℕ) (b : Region) (p m t : Cursor) → At e t (upto (b .end) (cursorIn e m)) → both (leb (length s / 2) (p .place)) (eqb (p .sums .«ref_count») (t .sums .«ref_count»)) ≡ ending (recordFrom 0 b) (cursorIn s p) (cursorIn e m)
+ended s e b p m t h =
+    two (leb (length s / 2) (p .place)) (eqb (p .sums .«ref_count») (t .sums .«ref_count»))
+    ∙ ap₂ _&&_ (ap (λ n. leb n (p .place)) (sym (length-events s)) ∙ none-left (eventsIn s) (p .place)) (ap (same (cursorIn s p)) (h .is))
+
+-- ---- the slot of a record does not matter
+
+module _ (i : ℕ) (q : Region) where
+  inside-slot : (n : ℕ) (p m : sweep.Cursor) → inside n (recordFrom i q) p m ≡ inside n (recordFrom 0 q) p m
+  unfolding inside
+  inside-slot zero p m = refl
+  inside-slot (suc n) p m = rw (inside-slot n)
+
+  pub turn-slot : (n : ℕ) (b : Record) (p m : sweep.Cursor) → turn n b (recordFrom i q) p m ≡ turn n b (recordFrom 0 q) p m
+  turn-slot n b p m =
+      ap (λ (r : sweep.Both). record { p = r .p; m = r .m; ok = follows b (recordFrom 0 q) p (upto (b .end) m .sums) && r .ok })
+      (inside-slot n (upto (q .start) p) (upto (q .start) (upto (b .end) m)))
+
+  pub last-slot : (n : ℕ) (l : List Record) (p m : sweep.Cursor) → sweepFrom n (recordFrom i q) l p m ≡ sweepFrom n (recordFrom 0 q) l p m
+  unfolding sweepFrom
+  last-slot n [] p m = refl
+  last-slot n (x ∷ l) p m = refl
+
+pub sweep-turn : (n : ℕ) (b q : Record) (l : List Record) (p m : sweep.Cursor) → sweepFrom n b (q ∷ l) p m ≡ turn n b q p m .ok && sweepFrom n q l (turn n b q p m .p) (turn n b q p m .m)
+unfolding sweepFrom
+sweep-turn n b q l p m = refl
+
+pub sweep-end : (n : ℕ) (b : Record) (p m : sweep.Cursor) → sweepFrom n b [] p m ≡ ending b p m
+unfolding sweepFrom
+sweep-end n b p m = refl
