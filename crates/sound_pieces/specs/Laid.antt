@@ -1,8 +1,8 @@
 -- Pieces laid down in the work area: in its first half where they start, in its second where they end, two words each. One for which there is
 -- no room is dropped.
 use mathlib.Core.Path.{_≡_, refl, sym, ap, _∙_}
-use mathlib.Core.List.{List, [], _∷_, _++_, map, append-nil, append-assoc}
-use Prim.Native.Nat.{ℕ, suc, _+_, _*_, _/_, _≤_, _<_}
+use mathlib.Core.List.{List, [], _∷_, _++_, map, append-nil, map-append}
+use Prim.Native.Nat.{ℕ, _+_, _*_, _/_, _≤_, _<_}
 use native.Mathlib.Omega.{arith}
 use borrow.Author.Tests.{lt-ltb, le-ltb}
 use lib.Dec.{ltb}
@@ -10,10 +10,10 @@ use lib.ListN.{length, take, length-append, length-map}
 use lib.Seq.{sets, length-sets, take-all, take-append-le, append-snoc}
 use Rattle.base.specs.Cases.{pick, cmp, lt, ge}
 use Rattle.words.specs.Rows.{flat}
+use Rattle.words.specs.Stores.{sets-append, sets-apart}
 use Rattle.sweep.specs.Events.{Piece, Event, starts, ends, startOf, endOf}
 use Rattle.sound_events.specs.Events.{eventWords, wordsOf}
 use Rattle.sound_events.specs.Words.{length-words}
-use Rattle.words.specs.Stores.{sets-append, sets-apart}
 
 -- how many pieces there is room for
 abbrev pub space : List ℕ → ℕ
@@ -68,10 +68,6 @@ unfolding wordsOf flat
 words-append [] m = refl
 words-append (e ∷ l) m = ap (λ (x : List ℕ). e .at ∷ e .rights ∷ x) (words-append l m)
 
-map-append : (f : Piece → Event) (ps qs : List Piece) → map f (ps ++ qs) ≡ map f ps ++ map f qs
-map-append f [] qs = refl
-map-append f (p ∷ ps) qs = ap (λ (x : List Event). f p ∷ x) (map-append f ps qs)
-
 pub length-laid : (w : List ℕ) (ps : List Piece) → length (laid w ps) ≡ length w
 unfolding laid
 length-laid w ps = length-sets (sets w 0 (wordsOf (starts ps))) (2 * space w) (wordsOf (ends ps)) ∙ length-sets w 0 (wordsOf (starts ps))
@@ -102,8 +98,7 @@ module _ (w : List ℕ) where
       ∙ ap (sets (sets w 0 (wordsOf (starts (ps ++ p ∷ [])))) (2 * space w)) (sym (more endOf ps p)))
 
   -- what fits of the pieces ps behind those that are there
-  all-placed : (ds ps : List Piece) → length ds ≤ space w
-      → places (filled (laid w ds) (length ds)) ps ≡ fitted w (ds ++ ps)
+  all-placed : (ds ps : List Piece) → length ds ≤ space w → places (filled (laid w ds) (length ds)) ps ≡ fitted w (ds ++ ps)
   unfolding places
   all-placed ds [] h = rw (append-nil ds, take-all (space w) ds h)
   all-placed ds (p ∷ ps) h =
