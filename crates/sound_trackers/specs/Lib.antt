@@ -1,1 +1,4 @@
+pub mod Area
+pub mod Swept
 pub mod Trackers
+pub mod Turns
