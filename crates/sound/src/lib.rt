@@ -43,7 +43,7 @@ fn tracked_holds(t: &[u64], w: &mut [u64]) -> bool
     if !pool {
         return false;
     }
-    sound_trackers::trackers_hold(t)
+    sound_trackers::trackers_hold(t, w)
 }
 
 // `w` is a work area as long as the tables, all zero. Each group is tested only where those before it hold; the trackers come last, for in
