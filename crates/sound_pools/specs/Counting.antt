@@ -8,7 +8,7 @@ use native.Mathlib.Decide.{ℕ-discrete}
 use borrow.Author.Tests.{eqb-true, eq-eqb, ne-eqb, not-true}
 use lib.Dec.{eqb}
 use lib.ListN.{length}
-use Rattle.base.specs.Cases.{lt, ge, cmp, holds, fails, test, pick}
+use Rattle.base.specs.Cases.{holds, fails, test}
 use Rattle.base.specs.Tests.{both-true, all-at, at-all, true-false}
 use Rattle.sound_pools.specs.Walk.{seen, fresh, mark, covers}
 

@@ -7,3 +7,4 @@ pub mod Rows
 pub mod Loops
 pub mod Turns
 pub mod Answers
+pub mod Checked

@@ -1,5 +1,5 @@
 -- What is read of the tables for a walk: a list's top, and its slots from the words that they stand in.
-use mathlib.Core.Path.{_≡_, refl, sym, ap, _∙_}
+use mathlib.Core.Path.{_≡_, ap, _∙_}
 use Prim.Native.Nat.{ℕ, _-_, _≤_}
 use mathlib.Core.List.{List}
 use native.Mathlib.Nat.{mul-le-mul-right}
@@ -9,8 +9,6 @@ use lib.ListN.{length, getD, take, drop}
 use Rattle.base.specs.Tests.{both}
 use Rattle.words.specs.Cuts.{offset}
 use Rattle.sizes.specs.Sizes.{sizesOf, total, stride}
-use Rattle.tables.specs.declared.Slot.{Slot}
-use Rattle.tables.specs.declared.Region.{Region}
 use Rattle.tables.specs.Kinds.{FREE}
 use Rattle.tables.specs.Tables.{Tables, Arena, slotAt, recordAt}
 use Rattle.tables.specs.View.{view, ofParts, arenaOf, Sized}

@@ -1,5 +1,5 @@
 -- What was met counted, and the marks cleared; and the walk along all trackers, domain by domain.
-use mathlib.Core.Path.{_≡_, refl, sym, ap, subst, _∙_}
+use mathlib.Core.Path.{_≡_, refl, sym, ap, _∙_}
 use Prim.Native.Nat.{ℕ, suc, _+_, _-_, _≤_, _<_}
 use mathlib.Core.Bool.{Bool, true, false}
 use mathlib.Core.Option.{Option, none, some}
@@ -7,10 +7,10 @@ use mathlib.Core.List.{List, []}
 use native.Mathlib.Numerals.{add-one}
 use native.Mathlib.Omega.{arith}
 use lib.Dec.{eqb}
-use lib.ListN.{length, getD, replicate}
+use lib.ListN.{length}
 use Rattle.base.specs.Cases.{pick}
 use Rattle.base.specs.Tests.{both, true-false}
-use Rattle.marks.specs.Marks.{wordsFor, unmarked}
+use Rattle.marks.specs.Marks.{unmarked}
 use Rattle.marks.specs.Laws.{unmarked-zero}
 use Rattle.tables.specs.Tables.{Tables, headAt}
 use Rattle.sound_pools.specs.declared.links.Stack.{Stack}

@@ -1,7 +1,7 @@
 // Free stacks and trackers by their links. The words that a list stands in are taken once; a slot is read from them by its number.
 ghost use mathlib.Core.Path.{_≡_};
 ghost use Rattle.tables.specs.View.{view, Sized};
-ghost use Rattle.sound_pools.specs.Walk.{linkTo, mark as markB};
+ghost use Rattle.sound_pools.specs.Walk.{linkTo, mark};
 ghost use Rattle.sound_pools.specs.Hold.{slotsOf, mayMeet, topOf};
 ghost use Rattle.sound_pools.specs.Reads.{topIn, Lent, linkStep, slotStep, recordStep, stepIn};
 use pools::Pool;
@@ -34,8 +34,9 @@ pub fn link_to(n: usize, x: u64) -> u64
     if (x as usize) < n { x + 1 } else { 0 }
 }
 
-pub fn mark_of(b: bool) -> usize
-    ensures { λ r. ⌜ r ≡ markB b ⌝ }
+// 1 where the test holds.
+pub fn one_if(b: bool) -> usize
+    ensures { λ r. ⌜ r ≡ mark b ⌝ }
 {
     if b { 1 } else { 0 }
 }

@@ -58,7 +58,7 @@ fn count(t: &[u64], s: Stack) -> usize
     let mut i = 0;
     while i < n {
         let x = links::step_at(s, p, records, n, i);
-        k += links::mark_of(x.may);
+        k += links::one_if(x.may);
         i += 1;
     }
     k

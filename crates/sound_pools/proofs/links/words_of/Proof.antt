@@ -1,5 +1,4 @@
 -- Each list by its own words.
-use Rattle.sound_pools.specs.Reads.{Lent}
 use borrow.Author.Needs.{needs}
 use Rattle.sound_pools.proofs.links.words_of.Statement.{statement}
 use Rattle.sound_pools.proofs.links.words_of.Tie as tie

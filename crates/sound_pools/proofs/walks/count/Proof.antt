@@ -1,8 +1,7 @@
 -- The slots before i are counted.
 use mathlib.Core.Path.{_≡_, refl, ap, _∙_}
-use Prim.Native.Nat.{_+_, _-_, _≤_}
+use Prim.Native.Nat.{_-_, _≤_}
 use native.Mathlib.Omega.{arith}
-use native.Mathlib.Numerals.{add-one}
 use borrow.Author.Needs.{needs}
 use Rattle.tables.specs.View.{view}
 use Rattle.sound_pools.specs.declared.links.Step.{Step}
@@ -34,11 +33,11 @@ loop-holds c = (omega arith, refl)
 step-at-requires : tie.Need-step-at-requires Inv-loop μ-loop
 step-at-requires c κs = search needs
 
-mark-of-requires : tie.Need-mark-of-requires Inv-loop μ-loop
-mark-of-requires c κs = search needs
+one-if-requires : tie.Need-one-if-requires Inv-loop μ-loop
+one-if-requires c κs = search needs
 
 add-k : tie.Need-add-k Inv-loop μ-loop
-add-k c = omega (arith, (c .mark-of .ensures), mark-most ((c .before .step-at .result .may)), (c .before .before .before .loop .inv .1), tally-most (mayMeet (view (c .before .before .before .before .before .before .before .before .args .t .now)) (c .before .before .before .before .before .before .before .before .args .s)) (c .before .before .before .loop .i))
+add-k c = omega (arith, (c .one-if .ensures), mark-most ((c .before .step-at .result .may)), (c .before .before .before .loop .inv .1), tally-most (mayMeet (view (c .before .before .before .before .before .before .before .before .args .t .now)) (c .before .before .before .before .before .before .before .before .args .s)) (c .before .before .before .loop .i))
 
 add-i : tie.Need-add-i Inv-loop μ-loop
 add-i c = omega arith
@@ -47,7 +46,7 @@ loop-less : tie.Need-loop-less Inv-loop μ-loop
 loop-less c = omega arith
 
 loop-again : tie.Need-loop-again Inv-loop μ-loop
-loop-again c = (omega arith, tally-next (mayMeet (view (c .before .before .before .before .before .before .before .before .args .t .now)) (c .before .before .before .before .before .before .before .before .args .s)) (c .before .before .before .loop .i) (c .before .before .before .loop .k) (c .mark-of .result) (c .before .before .before .loop .inv .1) ((c .mark-of .ensures) ∙ ap (λ (x : Step). mark (x .may)) (step-is (view (c .before .before .before .before .before .before .before .before .args .t .now)) (c .before .before .before .before .before .before .before .before .args .s) _ _ _ (c .before .before .before .loop .i) _ (c .before .before .before .before .before .words-of .ensures) (c .before .before .before .before .records-of .ensures) (c .before .before .before .before .before .before .slots-of .ensures) (c .before .step-at .ensures))))
+loop-again c = (omega arith, tally-next (mayMeet (view (c .before .before .before .before .before .before .before .before .args .t .now)) (c .before .before .before .before .before .before .before .before .args .s)) (c .before .before .before .loop .i) (c .before .before .before .loop .k) (c .one-if .result) (c .before .before .before .loop .inv .1) ((c .one-if .ensures) ∙ ap (λ (x : Step). mark (x .may)) (step-is (view (c .before .before .before .before .before .before .before .before .args .t .now)) (c .before .before .before .before .before .before .before .before .args .s) _ _ _ (c .before .before .before .loop .i) _ (c .before .before .before .before .before .words-of .ensures) (c .before .before .before .before .records-of .ensures) (c .before .before .before .before .before .before .slots-of .ensures) (c .before .step-at .ensures))))
 
 returns : tie.Need-returns Inv-loop μ-loop
 returns c = tally-all (mayMeet (view (c .before .before .before .before .before .before .args .t .now)) (c .before .before .before .before .before .before .args .s)) (c .before .loop .i) (c .before .before .before .before .slots-of .result) (slotsOf (view (c .before .before .before .before .before .before .args .t .now)) (c .before .before .before .before .before .before .args .s)) (c .before .loop .k) (c .before .loop .inv .0) (c .loop-test .left) (c .before .before .before .before .slots-of .ensures) (c .before .loop .inv .1)
@@ -63,7 +62,7 @@ count-spec =
     records-of-requires
     loop-holds
     step-at-requires
-    mark-of-requires
+    one-if-requires
     add-k
     add-i
     loop-less
