@@ -71,7 +71,8 @@ fn settle(t: &[u64], s: Stack, x: Followed, w: &mut [u64]) -> bool
     ensures { λ r. ⌜ Settled (view (now (t .entry))) s x (now (w .entry)) r (now (w .exit)) ⌝ }
 {
     let all = count(t, s);
-    marks::clear(w, links::slots_of(t, s));
+    let n = links::slots_of(t, s);
+    marks::clear(w, n);
     words::both(x.ended, x.links == all)
 }
 

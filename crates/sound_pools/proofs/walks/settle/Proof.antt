@@ -22,7 +22,7 @@ same-length : tie.Need-same-length
 same-length c = search needs
 
 returns : tie.Need-returns
-returns c = settled _ _ _ _ _ (c .before .before .before .before .before .before .before .before .before .before .args .w .now) (c .before .before .before .before .before .before .before .count .ensures) (c .both .ensures) _ _ (c .before .before .before .before .before .slots-of .ensures) (omega (arith, slots-inside (c .before .before .before .before .before .before .before .before .before .before .args .t .now) (c .before .before .before .before .before .before .before .before .before .before .args .s) (c .before .before .before .before .before .before .before .before .before .before .pre .0), (c .before .before .before .before .before .before .before .before .before .before .pre .1), (c .before .before .before .before .before .slots-of .ensures))) (c .before .before .before .before .clear .ensures)
+returns c = settled _ _ _ _ _ (c .before .before .before .before .before .before .before .before .before .before .args .w .now) (c .before .before .before .before .before .before .before .count .ensures) (c .both .ensures) _ _ (c .before .before .before .before .before .before .slots-of .ensures) (omega (arith, slots-inside (c .before .before .before .before .before .before .before .before .before .before .args .t .now) (c .before .before .before .before .before .before .before .before .before .before .args .s) (c .before .before .before .before .before .before .before .before .before .before .pre .0), (c .before .before .before .before .before .before .before .before .before .before .pre .1), (c .before .before .before .before .before .before .slots-of .ensures))) (c .before .before .before .before .clear .ensures)
 
 pub settle-spec : {M : Type 1} → statement M
 settle-spec =
