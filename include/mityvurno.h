@@ -15,9 +15,9 @@
  *     the words of other sound tables there has made other tables: the test cannot tell a consistent forgery.
  * Where a length is 0, nothing is read or written through its pointer; NULL was tested there.
  *
- * Cost. Every call but making tests all tables first, whatever it does then, and the converter tests what it makes: 40 to 80
- * microseconds at the script program's sizes, 1 to 6 milliseconds on the benchmark's states at the largest, 11 on the slowest sound
- * tables found (bench/README.md).
+ * Cost. Every call but making tests all tables first, whatever it does then, and the converter tests what it makes: 2 to 8
+ * microseconds at the script program's sizes, 18 to 90 at the largest; a call that keeps a copy takes up to 4 and 16 more, and lent
+ * words that are refused take no longer (bench/README.md).
  *
  * Of its host the archive asks for memcpy and memset, nothing else; it uses SSE registers and the red zone, the 128 bytes below the stack
  * pointer: code that interrupts a call must not write there, so it needs a stack of its own. Stack, measured at the largest sizes: up to
