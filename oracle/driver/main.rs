@@ -21,6 +21,7 @@ driver ours PROGRAM SEED CALLS LENGTH  random lists, the Rust beside the proved 
 driver ours PROGRAM FILE               a sample
 driver linked SEED CALLS LENGTH        random lists, the Rust beside the exported functions of libengine.a
 driver damage SEED SHAPES LENGTH WORDS sound tables by lists of up to LENGTH calls, damaged, lent to the exported functions
+driver free-lists SEED                 free lists at sizes about 64, sound and damaged, lent to the exported functions
 driver convert SEED SHAPES LENGTH WORDS  the last delivery's tables, sound and damaged, lent to the converter
 driver convert FILE                    the last delivery's tables as it wrote them, and the lists that made them
 driver former FILE                     the same tables and lists beside the Rust
@@ -77,11 +78,13 @@ fn command(words: &[&str]) -> Result<bool, String> {
         #[cfg(linked)]
         ["damage", seed, shapes, l, words] => Ok(linked::damage(number(seed)?, number(shapes)?, length(l)?, length(words)?)),
         #[cfg(linked)]
+        ["free-lists", seed] => Ok(linked::free_lists(number(seed)?)),
+        #[cfg(linked)]
         ["convert", seed, shapes, l, words] => Ok(linked::convert(number(seed)?, number(shapes)?, length(l)?, length(words)?)),
         #[cfg(linked)]
         ["convert", file] => linked::kept(file),
         #[cfg(not(linked))]
-        ["linked" | "damage" | "convert", ..] => Err("built without target/staticlib/libengine.a: run `rt staticlib engine` and oracle/build".to_string()),
+        ["linked" | "damage" | "free-lists" | "convert", ..] => Err("built without target/staticlib/libengine.a: run `rt staticlib engine` and oracle/build".to_string()),
         ["script"] => script::print(),
         ["scripts", program, seed, count] => scripts::compare(program, number(seed)?, number(count)?),
         ["outside"] => Ok(outside::check()),

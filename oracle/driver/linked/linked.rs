@@ -6,13 +6,16 @@ mod conversions;
 mod damage;
 mod edits;
 mod exported;
+mod free_lists;
 mod lent;
+mod list_damage;
 mod runs;
 mod shapes;
 mod twists;
 
 pub use conversions::{convert, kept};
 pub use damage::damage;
+pub use free_lists::free_lists;
 
 use shared::calls::{show, Answer, Call};
 use shared::decode::LIMITS;
