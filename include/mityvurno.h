@@ -16,8 +16,8 @@
  * Where a length is 0, nothing is read or written through its pointer; NULL was tested there.
  *
  * Cost. Every call but making tests all tables first, whatever it does then, and the converter tests what it makes: 2 to 8
- * microseconds at the script program's sizes, 18 to 90 at the largest; a call that keeps a copy takes up to 4 and 16 more, and lent
- * words that are refused take no longer (bench/README.md).
+ * microseconds at the script program's sizes, 18 to 90 at the largest; a call that changes something takes up to 4 and 32 more, for a
+ * copy of the tables and its own work; lent words that are refused take about as long at most (bench/README.md).
  *
  * Of its host the archive asks for memcpy and memset, nothing else; it uses SSE registers and the red zone, the 128 bytes below the stack
  * pointer: code that interrupts a call must not write there, so it needs a stack of its own. Stack, measured at the largest sizes: up to
