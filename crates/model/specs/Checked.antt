@@ -7,4 +7,5 @@ pub mod SendFlags
 pub mod SendHash
 pub mod HashAlone
 pub mod Interface
+pub mod Marks
 pub mod Example

@@ -1,33 +1,38 @@
 -- The converter (document 02, request 2): "older tables carry over that way", from "the last delivery's tables" in separate memory. Its contract cites this.
 use mathlib.Core.Path.{_≡_}
-use Prim.Native.Nat.{ℕ, _-_, _*_}
+use Prim.Native.Nat.{ℕ, _+_, _-_}
 use mathlib.Core.List.{List}
 use lib.ListN.{length, take}
 use Rattle.refusals.specs.Refusals.{memory}
-use Rattle.model.specs.Lists.{In}
-use Rattle.model.specs.State.{Sizes, Domain, openInterface, State}
+use Rattle.model.specs.Lists.{Each}
+use Rattle.model.specs.State.{Sizes, Update, permission, cleanup, State}
+use Rattle.model.specs.Fields.{allMarks}
 use Rattle.model.specs.Layout.{words, lengthFor}
 use Rattle.model.specs.Perform.{Value, Answer}
 use Rattle.model.specs.Sound.{Sound}
 use Rattle.model.specs.Memory.{zeroed}
 
--- The last delivery's tables had all sections but the last, the interfaces: its words of a state are the first of this delivery's. The sizes are the stored
--- ones, so that this delivery's own tables, 2 D words longer, give 1.
+-- The last delivery's tables had all sections but the last, the marks: its words of a state are the first of this delivery's. The sizes are the stored
+-- ones, so that this delivery's own tables, U + 1 words longer, give 1.
 abbrev pub formerLength : Sizes → ℕ
-formerLength z = lengthFor z - 2 * z .domains
+formerLength z = lengthFor z - (z .updates + 1)
 
 abbrev pub formerWords : State → List ℕ
 formerWords s = take (formerLength (s .sizes)) (words s)
 
--- Every domain has the interface that it opens with: the last delivery could store no other.
-abbrev pub AsOpened : State → Type 0
-AsOpened s = (d : ℕ) (x : Domain) → In (s .domains) d x → x .interface ≡ openInterface
+-- The last delivery kept no marks, so that any of the five counts may have moved: a queued domain has all five marks (request 4).
+abbrev pub HasAllMarks : Update → Type 0
+HasAllMarks (permission h cores marks) = marks ≡ allMarks
+HasAllMarks (cleanup a b) = Unit {0}
+
+abbrev pub AllMarked : State → Type 0
+AllMarked s = Each HasAllMarks (s .queue .items)
 
 -- o are the last delivery's tables of the sound state s, and the new tables t and both work areas v and w have the length of this delivery's:
 -- the new words are built in v and tested with w before t is written.
 pub record Convertible (o t v w : List ℕ) (s : State) : Type 0 where
   pub sound : Sound s
-  pub opened : AsOpened s
+  pub marked : AllMarked s
   pub old : o ≡ formerWords s
   pub tables : length t ≡ lengthFor (s .sizes)
   pub work : length v ≡ lengthFor (s .sizes)

@@ -7,16 +7,14 @@ use mathlib.Core.List.{List, [], _∷_}
 use lib.Dec.{eqb, ltb, leb}
 use Rattle.model.specs.Lists.{if_then_else_, oneIf, exists}
 use Rattle.model.specs.State.{State, Region, Root, Alias, Carve, Counts, Record, domainAt}
-use Rattle.model.specs.Fields.{Field, get, passes, each}
+use Rattle.model.specs.Fields.{Field, get, passes}
+use Rattle.model.specs.Tracker.{noCounts}
 
 -- ---- what is stored
 
 -- Does the range from `from` up to, but not including, `to` hold address a?
 abbrev pub holds : ℕ → ℕ → ℕ → Bool
 holds from to a = leb from a && ltb a to
-
-abbrev pub noCounts : Counts
-noCounts = each (λ f. 0) 0
 
 -- "Stored reach and counts at an address are those of the domain's record there, else 0."
 abbrev pub countsAt : List Record → ℕ → Counts

@@ -1,5 +1,5 @@
 -- The counts of a tracker record by field (document 01, **Tracker**: "with reach, four right counts and an uncacheable count").
-use Prim.Native.Nat.{ℕ}
+use Prim.Native.Nat.{ℕ, _+_, _*_}
 use mathlib.Core.Bool.{Bool, true}
 use mathlib.Core.List.{List, [], _∷_}
 use Rattle.rights.specs.Rights.{has, READ, WRITE, EXEC, SUPER}
@@ -38,3 +38,27 @@ counter f r = oneIf (passes f r)
 -- Counts with n f in each field f, and the uncacheable count u.
 abbrev pub each : (Field → ℕ) → ℕ → Counts
 each n u = record { reach = n Field.Reach; read = n Field.Read; write = n Field.Write; exec = n Field.Exec; super = n Field.Super; uncacheable = u }
+
+-- ---- marks (document 02, request 4): a set of fields as a number
+
+-- "as bits 0 to 4, in that order": "reach and each of the four rights"
+abbrev pub mark : Field → ℕ
+mark Field.Reach = 1
+mark Field.Read = 2
+mark Field.Write = 4
+mark Field.Exec = 8
+mark Field.Super = 16
+
+-- the marks of the fields f where b f holds
+abbrev pub marksWhere : (Field → Bool) → ℕ
+marksWhere b =
+    oneIf (b Field.Reach) * mark Field.Reach + oneIf (b Field.Read) * mark Field.Read + oneIf (b Field.Write) * mark Field.Write
+    + oneIf (b Field.Exec) * mark Field.Exec + oneIf (b Field.Super) * mark Field.Super
+
+-- all five
+abbrev pub allMarks : ℕ
+allMarks = marksWhere (λ f. true)
+
+-- Is the field among the marks?
+abbrev pub isMarked : Field → ℕ → Bool
+isMarked f m = has m (mark f)

@@ -106,12 +106,15 @@ recordSlotWords (some x ∷ ds) i = trackerWords i (x .tracker) (recordSlotWords
 -- kind, then domain slot, generation, core map; or start, end, 0
 abbrev pub updateWords : Option Update → List ℕ
 updateWords none = 0 ∷ 0 ∷ 0 ∷ 0 ∷ []
-updateWords (some (permission h cores)) = 1 ∷ h .slot ∷ h .generation ∷ cores ∷ []
+updateWords (some (permission h cores marks)) = 1 ∷ h .slot ∷ h .generation ∷ cores ∷ []
 updateWords (some (cleanup a b)) = 2 ∷ a ∷ b ∷ 0 ∷ []
 
 -- Place k: the queue's first update stands at the read place, the others follow it, going round. n is U; the read place is below n + 1, so that `-` is exact.
+abbrev pub atPlace : ℕ → Queue → ℕ → Option Update
+atPlace n q k = getElem? (q .items) ((k + (n + 1) - q .readPlace) % (n + 1))
+
 abbrev pub placeWords : ℕ → Queue → ℕ → List ℕ
-placeWords n q k = updateWords (getElem? (q .items) ((k + (n + 1) - q .readPlace) % (n + 1)))
+placeWords n q k = updateWords (atPlace n q k)
 
 -- ---- 9. hashes, 5 words for each of the R regions (document 02, request 1)
 
@@ -127,9 +130,17 @@ abbrev pub interfaceWords : Option Domain → List ℕ
 interfaceWords none = replicate 2 0
 interfaceWords (some x) = x .interface .word ∷ oneIf (x .interface .frozen) ∷ []
 
+-- ---- 11. marks, a word for each of the ring's U + 1 places (document 02, request 4)
+
+-- the marks of the domain that is queued there; 0 for a range to be cleaned up, and where nothing is queued
+abbrev pub markWords : Option Update → List ℕ
+markWords none = 0 ∷ []
+markWords (some (permission h cores marks)) = marks ∷ []
+markWords (some (cleanup a b)) = 0 ∷ []
+
 -- ---- the whole
 
--- The ten sections. The ninth starts at word 17 + 7 D + 3 D S + 10 R + 11 T + 4 U, the tenth 5 R words further on.
+-- The eleven sections. The ninth starts at word 17 + 7 D + 3 D S + 10 R + 11 T + 4 U, the tenth 5 R words further on, the eleventh 2 D words behind that.
 unfoldable pub words : State → List ℕ
 words s =
     headerWords s
@@ -142,9 +153,10 @@ words s =
     ++ flatMap (placeWords (s .sizes .updates) (s .queue)) (countUp 0 (s .sizes .updates + 1))
     ++ flatMap (λ i. hashWords (atSlot (s .regions) i)) (countUp 0 (s .sizes .regions))
     ++ flatMap (λ i. interfaceWords (atSlot (s .domains) i)) (countUp 0 (s .sizes .domains))
+    ++ flatMap (λ k. markWords (atPlace (s .sizes .updates) (s .queue) k)) (countUp 0 (s .sizes .updates + 1))
 
 -- How many words they are (`words-length`, crate laws): what the tables' length must be, and the work area's.
 abbrev pub lengthFor : Sizes → ℕ
 lengthFor z =
     7 + (2 + 2 * z .domains) + (2 + 2 * z .regions) + (2 + 2 * z .records)
-    + z .domains * (5 + 3 * z .slots) + 8 * z .regions + 9 * z .records + 4 * (z .updates + 1) + 5 * z .regions + 2 * z .domains
+    + z .domains * (5 + 3 * z .slots) + 8 * z .regions + 9 * z .records + 4 * (z .updates + 1) + 5 * z .regions + 2 * z .domains + (z .updates + 1)

@@ -1,7 +1,7 @@
 -- All calls as one function, and what a list of calls does.
 use Prim.Native.Nat.{ℕ}
 use mathlib.Core.Option.{Option}
-use mathlib.Core.List.{List, [], _∷_}
+use mathlib.Core.List.{List, [], _∷_, _++_}
 use lib.ListN.{length}
 use Rattle.model.specs.Outcome.{Outcome, ok, refuse, _>>=_}
 use Rattle.refusals.specs.declared.Refusal.{Refusal}
@@ -11,7 +11,7 @@ use Rattle.model.specs.Updates.{pop}
 use Rattle.model.specs.Making.{makeIn}
 use Rattle.model.specs.Calls.{openDomain, openChannel, setCoreMap, setInterface, freezeInterface, createRootRegion, aliasRegion, carveRegion, send, revoke, createRevokeCapa}
 use Rattle.model.specs.Readings.{permissions, getRefcount, holders, coreMap}
-use Rattle.model.specs.Layout.{updateWords, lengthFor}
+use Rattle.model.specs.Layout.{updateWords, markWords, lengthFor}
 
 -- ---- calls and answers
 
@@ -65,12 +65,12 @@ abbrev pub code : Answer → ℕ
 code (Answer.yes r) = 0
 code (Answer.no r) = Refusals.number r
 
--- It has the values of an accepted call's answer, too. Of a list the "whole number of records"; of a pop the words of docs/TABLES.md.
+-- It has the values of an accepted call's answer, too. Of a list the "whole number of records"; of a pop the words of docs/TABLES.md, the marks last: "Pop answers them".
 abbrev pub values : Value → List ℕ
 values done = []
 values (domain h) = h .slot ∷ h .generation ∷ []
 values (local l) = l ∷ []
-values (popped u) = updateWords u
+values (popped u) = updateWords u ++ markWords u
 values (permissionList l) = length l ∷ []
 values (number n) = n ∷ []
 values (domainList l) = length l ∷ []

@@ -2,6 +2,7 @@
 use Prim.Native.Nat.{ℕ, zero, suc}
 use mathlib.Core.Option.{none, some}
 use mathlib.Core.List.{List, [], _∷_}
+use lib.Dec.{eqb}
 use lib.ListN.{set}
 use Rattle.model.specs.Lists.{if_then_else_, isSome, countIf}
 use Rattle.model.specs.Outcome.{Outcome, ok, _>>=_}
@@ -13,9 +14,9 @@ use Rattle.model.specs.Tracker.{Walk, gain, lose}
 use Rattle.model.specs.Updates.{push, pushPermission}
 use Rattle.model.specs.Tree.{Range, accessOf, removeChild, effectiveRanges}
 
--- A domain's new tracker and the record pool are put back; a change queues the domain (**Update ring**).
+-- A domain's new tracker and the record pool are put back; a change, that is any mark, queues the domain (**Update ring**).
 unfoldable pub putWalk : ℕ → Walk → State → Outcome State
-putWalk d w s = let s₁ = withRecordPool (w .pool) (putDomain d (withTracker (w .records) (domainAt s d)) s) in if w .changed then pushPermission d s₁ else ok s₁
+putWalk d w s = let s₁ = withRecordPool (w .pool) (putDomain d (withTracker (w .records) (domainAt s d)) s) in if eqb (w .marks) 0 then ok s₁ else pushPermission d (w .marks) s₁
 
 -- Domain d gains, or loses, a range with its rights (`activate_region`, `deactivate_region`).
 unfoldable pub activate : ℕ → Access → State → Outcome State

@@ -176,18 +176,18 @@ pub record TrackerSound (regions : List (Option Region)) (d : ℕ) (l : List Rec
 
 -- "queued domains are live"
 abbrev pub QueuedLive : Pool → List (Option Domain) → Update → Type 0
-QueuedLive p ds (permission h c) = T (isLive p ds h)
+QueuedLive p ds (permission h cores marks) = T (isLive p ds h)
 QueuedLive p ds (cleanup a b) = Unit {0}
 
 -- "and queued singly": none is queued again further on
 abbrev pub Singly : List Update → Type 0
 Singly [] = Unit {0}
-Singly (permission h c ∷ us) = (countIf (isPermissionOf h) us ≡ 0) × Singly us
+Singly (permission h cores marks ∷ us) = (countIf (isPermissionOf h) us ≡ 0) × Singly us
 Singly (cleanup a b ∷ us) = Singly us
 
--- what is stored are words
+-- what is stored are words, and the marks five bits (document 02, request 4)
 abbrev pub UpdateWords : Update → Type 0
-UpdateWords (permission h c) = Word (h .slot) × Word (h .generation) × Word c
+UpdateWords (permission h cores marks) = Word (h .slot) × Word (h .generation) × Word cores × (marks < 32)
 UpdateWords (cleanup a b) = Word a × Word b
 
 -- The ring for n updates has n + 1 places. "the ring's two places lie inside it": the read place, and at most n updates behind it.

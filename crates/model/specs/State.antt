@@ -133,9 +133,9 @@ pub record SendOptions : Type 0 where
 abbrev pub noOptions : SendOptions
 noOptions = record { flags = none; hash = none }
 
--- **Update ring**: a domain with its core map, or a range to be cleaned up (`Update`).
+-- **Update ring**: a domain with its core map and the marks gathered so far (document 02, request 4), or a range to be cleaned up (`Update`).
 pub data Update : Type 0 where
-  permission : Handle → ℕ → Update
+  permission : Handle → ℕ → ℕ → Update
   cleanup : ℕ → ℕ → Update
 
 -- The ring's read place, and what is queued, oldest first (`Buffer`).

@@ -27,8 +27,8 @@ empty-words : words (emptyTables ones)
     ≡ (1 ∷ 1 ∷ 1 ∷ 1 ∷ 1 ∷ 0 ∷ 0 ∷ [])
     -- 2. to 4. pools
     ++ freePool ++ freePool ++ freePool
-    -- 5. domain, 6. region, 7. tracker record, 8. ring, 9. hash, 10. interface
-    ++ replicate 8 0 ++ replicate 8 0 ++ replicate 9 0 ++ replicate 8 0 ++ replicate 5 0 ++ replicate 2 0
+    -- 5. domain, 6. region, 7. tracker record, 8. ring, 9. hash, 10. interface, 11. marks
+    ++ replicate 8 0 ++ replicate 8 0 ++ replicate 9 0 ++ replicate 8 0 ++ replicate 5 0 ++ replicate 2 0 ++ replicate 2 0
 unfolding computing
 empty-words = refl
 
@@ -45,8 +45,8 @@ abbrev opened : State
 opened = run (emptyTables small) (Call.Do (Step.Open none 5) ∷ Call.Do (Step.Root (dom 0) (access 0 16 3)) ∷ Call.Do (Step.Alias (dom 0) 0 (access 4 8 1)) ∷ []) .1
 
 -- the sections that the last delivery had
-abbrev firstNine : List ℕ
-firstNine =
+abbrev firstTen : List ℕ
+firstTen =
     -- 1. header: the ring's read place 0, write place 1
     (2 ∷ 2 ∷ 3 ∷ 3 ∷ 1 ∷ 0 ∷ 1 ∷ [])
     -- 2. domain pool: slot 1 is free
@@ -79,16 +79,19 @@ firstNine =
     ++ (0 ∷ 0 ∷ 0 ∷ 0 ∷ [])
     -- 9. hashes: none
     ++ replicate 15 0
-
-opened-words : words opened
-    ≡ firstNine
     -- 10. interfaces: domain 0 as it opened; domain 1 is free
     ++ (26 ∷ 0 ∷ [])
     ++ (0 ∷ 0 ∷ [])
+
+opened-words : words opened
+    ≡ firstTen
+    -- 11. marks: domain 0's reach, READ and WRITE came from 0; one place is empty
+    ++ (7 ∷ [])
+    ++ (0 ∷ [])
 unfolding computing
 opened-words = refl
 
-former-words : formerWords opened ≡ firstNine
+former-words : formerWords opened ≡ firstTen
 unfolding computing
 former-words = refl
 
@@ -107,9 +110,9 @@ round = refl
 
 -- ---- lengths
 
--- 39,729 words at the largest sizes, and 3,929 for the script's tables
-full-length : lengthFor (record { domains = 32; slots = 128; regions = 1024; records = 1024; updates = 128 }) ≡ 39_729
+-- 39,858 words at the largest sizes, and 3,962 for the script's tables
+full-length : lengthFor (record { domains = 32; slots = 128; regions = 1024; records = 1024; updates = 128 }) ≡ 39_858
 full-length = refl
 
-script-length : lengthFor (record { domains = 8; slots = 16; regions = 128; records = 128; updates = 32 }) ≡ 3_929
+script-length : lengthFor (record { domains = 8; slots = 16; regions = 128; records = 128; updates = 32 }) ≡ 3_962
 script-length = refl

@@ -4,7 +4,7 @@ use Prim.Native.Nat.{ℕ, _-_, _^_}
 use mathlib.Core.Bool.{Bool, true, false}
 use mathlib.Core.Option.{none, some}
 use mathlib.Core.List.{List, [], _∷_, _++_, map}
-use lib.ListN.{length, drop}
+use lib.ListN.{length, take, drop}
 use Rattle.refusals.specs.Refusals.{noDomain, noSlot, notAllowed, isFrozen}
 use Rattle.model.specs.State.{Sizes, Handle, Interface, noOptions, domainAt}
 use Rattle.model.specs.Making.{emptyTables}
@@ -133,7 +133,7 @@ interface-stored = refl
 
 -- ---- its words
 
--- the interfaces' section: two words for each of three domains, the last of them free
-interface-section : (let t = words (run (emptyTables small) (two ++ (set 0 5 ∷ freeze 0 ∷ [])) .1) in drop (length t - 6) t) ≡ 5 ∷ 1 ∷ 26 ∷ 0 ∷ 0 ∷ 0 ∷ []
+-- the interfaces' section: two words for each of three domains, the last of them free; five marks are behind it
+interface-section : (let t = words (run (emptyTables small) (two ++ (set 0 5 ∷ freeze 0 ∷ [])) .1) in take 6 (drop (length t - 11) t)) ≡ 5 ∷ 1 ∷ 26 ∷ 0 ∷ 0 ∷ 0 ∷ []
 unfolding computing
 interface-section = refl

@@ -112,13 +112,13 @@ table =
     (z 1 4 4 4 4)
     (opened 1 ∷ rootOf 0 4 1 ∷ Call.Do (Step.SetCoreMap (dom 0) 2) ∷ rootOf 4 8 1 ∷ [])
     Call.Pop
-    (Answer.yes (Value.popped (some (permission (dom 0) 1))))
+    (Answer.yes (Value.popped (some (permission (dom 0) 1 3))))
     -- "and CLEANUP queues start and end": after the tracker's changes
     ∷ gives
     (z 1 4 4 4 4)
     (root ++ (carve 4 8 35 ∷ Call.Pop ∷ revoke 1 ∷ []))
     Call.Pop
-    (Answer.yes (Value.popped (some (permission (dom 0) 0))))
+    (Answer.yes (Value.popped (some (permission (dom 0) 0 7))))
     -- "a RegionRevoke of a dead region succeeds"
     ∷ gives (z 1 4 4 4 4) (root ++ (carve 4 8 3 ∷ Call.Do (Step.CreateRevokeCapa (dom 0) 1) ∷ revoke 1 ∷ [])) (revoke 2) (Answer.yes Value.done)
     ∷ []

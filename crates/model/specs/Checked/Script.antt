@@ -45,7 +45,7 @@ domainLines i (some x ∷ l) = map (λ q. d i (q .start) (q .end) (rightsOf (q .
 
 -- "Then the queue, oldest first"
 abbrev queueLine : Update → Line
-queueLine (permission h cores) = p (h .slot) cores
+queueLine (permission h cores marks) = p (h .slot) cores
 queueLine (cleanup a b) = c a b
 
 -- all lines that a list of calls gives

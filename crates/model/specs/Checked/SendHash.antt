@@ -118,9 +118,9 @@ hash-stored = refl
 
 -- ---- its words
 
--- the hashes' section after some calls: five words for each of three regions; two words of the one domain's interface are behind it
+-- the hashes' section after some calls: five words for each of three regions; two words of the one domain's interface and five marks are behind it
 abbrev section : List Call → List ℕ
-section cs = let t = words (run (emptyTables small) cs .1) in take 15 (drop (length t - 17) t)
+section cs = let t = words (run (emptyTables small) cs .1) in take 15 (drop (length t - 22) t)
 
 -- the alias's hash stands in the second five; zeros differ from no hash; a revoke leaves zeros
 hash-section : section hashed ≡ replicate 5 0 ++ (1 ∷ 7 ∷ 2 ∷ 3 ∷ 4 ∷ []) ++ replicate 5 0
