@@ -12,7 +12,7 @@ ghost use Rattle.pools.specs.Wiping.{slotFreed};
 ghost use Rattle.slot_list.specs.Lists.{giveSlot};
 ghost use Rattle.stored_slots.specs.Record.{listAt};
 ghost use Rattle.slots.specs.Capas.{withCapa, withoutCapa};
-ghost use Rattle.ring.specs.Ring.{cleanupOf, pushOf, popOf, markOf};
+ghost use Rattle.ring.specs.Ring.{cleanupOf, pushOf, popOf, queueOf};
 ghost use Rattle.update.specs.Stored.{ringOf, withRingOf};
 ghost use Rattle.bench.specs.Steps.{nothing, flagOf, insertedOf, givenOf, freedOf, capaOf, sizesOf, reply, left, makes, made};
 
@@ -97,12 +97,12 @@ pub extern "C" fn bench_remove(t: &mut [u64], d: usize, i: usize) -> u64
 // ---- The ring
 
 #[no_mangle]
-pub extern "C" fn bench_mark(t: &mut [u64], slot: u64, generation: u64, cores: u64) -> u64
-    ensures { λ r. ⌜ (r ≡ reply (now (t .entry)) (flagOf (markOf (ringOf (view (now (t .entry)))) slot generation cores .ok)))
-        × (now (t .exit) ≡ left (now (t .entry)) (withRingOf (view (now (t .entry))) (markOf (ringOf (view (now (t .entry)))) slot generation cores .ring))) ⌝ }
+pub extern "C" fn bench_queue(t: &mut [u64], slot: u64, generation: u64, cores: u64, marks: u64) -> u64
+    ensures { λ r. ⌜ (r ≡ reply (now (t .entry)) (flagOf (queueOf (ringOf (view (now (t .entry)))) slot generation cores marks .ok)))
+        × (now (t .exit) ≡ left (now (t .entry)) (withRingOf (view (now (t .entry))) (queueOf (ringOf (view (now (t .entry)))) slot generation cores marks .ring))) ⌝ }
 {
     if sizes::is_sized(t) {
-        return flag(update::mark_domain(t, slot, generation, cores));
+        return flag(update::queue_domain(t, slot, generation, cores, marks));
     }
     NOTHING
 }
@@ -121,12 +121,12 @@ pub extern "C" fn bench_push(t: &mut [u64], start: u64, end: u64) -> u64
 // The kind of the update that is popped, 0 for none.
 #[no_mangle]
 pub extern "C" fn bench_pop(t: &mut [u64]) -> u64
-    ensures { λ r. ⌜ (r ≡ reply (now (t .entry)) (popOf (ringOf (view (now (t .entry)))) .item .update .kind))
+    ensures { λ r. ⌜ (r ≡ reply (now (t .entry)) (popOf (ringOf (view (now (t .entry)))) .item .entry .update .kind))
         × (now (t .exit) ≡ left (now (t .entry)) (withRingOf (view (now (t .entry))) (popOf (ringOf (view (now (t .entry)))) .ring))) ⌝ }
 {
     if sizes::is_sized(t) {
         let item = update::pop_update(t);
-        return item.update.kind;
+        return item.entry.update.kind;
     }
     NOTHING
 }

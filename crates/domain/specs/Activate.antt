@@ -6,7 +6,7 @@ use lib.ListN.{getD}
 use Rattle.base.specs.Cases.{pick}
 use Rattle.tables.specs.declared.Slot.{Slot}
 use Rattle.tables.specs.Tables.{Tables, headAt}
-use Rattle.ring.specs.Ring.{markOf, pushOf, cleanupOf}
+use Rattle.ring.specs.Ring.{queueOf, pushOf, cleanupOf}
 use Rattle.update.specs.Stored.{ringOf, withRingOf}
 use Rattle.region.specs.declared.AccessRights.{AccessRights}
 use Rattle.region.specs.Turns.{addRegion, removeRegion}
@@ -38,10 +38,10 @@ insertedAnswer Full = Refused noLocal
 unfoldable pub insert : ℕ → Slot → Tables → Effect
 insert d x s = record { answer = insertedAnswer (giveSlot (listAt s d) .at); tables = withCapa s d x }
 
--- domain d is queued with its core map unless it is queued already (the model's pushPermission)
-unfoldable pub notify : ℕ → Tables → Effect
-notify d s =
-    let p = markOf (ringOf s) d (getD (s .domainPool .gens) d 0) (headAt s d .cores) in
+-- domain d is queued with its core map and marks m, or gathers them (the model's pushPermission)
+unfoldable pub notify : ℕ → ℕ → Tables → Effect
+notify d m s =
+    let p = queueOf (ringOf s) d (getD (s .domainPool .gens) d 0) (headAt s d .cores) m in
     record { answer = orRefused ringFull (p .ok); tables = withRingOf s (p .ring) }
 
 -- start and end are queued for cleanup (the model's push)
@@ -50,9 +50,9 @@ cleanup a b s =
     let p = pushOf (ringOf s) (cleanupOf a b) in
     record { answer = orRefused ringFull (p .ok); tables = withRingOf s (p .ring) }
 
--- a change, told by 1, queues domain d
+-- any mark queues domain d
 abbrev pub notifyIf : ℕ → ℕ → Tables → Effect
-notifyIf d changed s = pick (eqb changed 0) (done 0 s) (notify d s)
+notifyIf d m s = pick (eqb m 0) (done 0 s) (notify d m s)
 
 -- domain d gains, or loses, the range (the model's activate and deactivate)
 unfoldable pub activate : ℕ → AccessRights → Tables → Effect

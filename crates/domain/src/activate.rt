@@ -43,15 +43,15 @@ pub fn insert(t: &mut [u64], d: usize, capa: Slot) -> Answer
 
 // ---- Updates
 
-// Queues domain d with its core map, unless it is queued already.
-pub fn notify(t: &mut [u64], d: usize) -> Answer
+// Queues domain d with its core map and marks; where it is queued already, the marks are gathered there.
+fn notify(t: &mut [u64], d: usize, marks: u64) -> Answer
     requires { ⌜ Sized (now t) ⌝ }
-    ensures { λ r. ⌜ r ≡ notify d (view (now (t .entry))) .answer ⌝ }
-    ensures { λ _. ⌜ Left (now (t .exit)) (notify d (view (now (t .entry))) .tables) ⌝ }
+    ensures { λ r. ⌜ r ≡ notify d marks (view (now (t .entry))) .answer ⌝ }
+    ensures { λ _. ⌜ Left (now (t .exit)) (notify d marks (view (now (t .entry))) .tables) ⌝ }
 {
     let head = domain_rows::load_head(t, d);
     let generation = pools::domain_generation(t, d);
-    let queued = update::mark_domain(t, d as u64, generation, head.cores);
+    let queued = update::queue_domain(t, d as u64, generation, head.cores, marks);
     or_refused(queued, Refusal::RING_FULL)
 }
 
@@ -64,16 +64,16 @@ pub fn cleanup(t: &mut [u64], start: u64, end: u64) -> Answer
     or_refused(queued, Refusal::RING_FULL)
 }
 
-// `changed` is 1 where a count left or came to 0 (`PermissionChange`).
-fn notify_if(t: &mut [u64], d: usize, changed: u64) -> Answer
+// Where a count left or came to 0 (`PermissionChange`).
+fn notify_if(t: &mut [u64], d: usize, marks: u64) -> Answer
     requires { ⌜ Sized (now t) ⌝ }
-    ensures { λ r. ⌜ r ≡ notifyIf d changed (view (now (t .entry))) .answer ⌝ }
-    ensures { λ _. ⌜ Left (now (t .exit)) (notifyIf d changed (view (now (t .entry))) .tables) ⌝ }
+    ensures { λ r. ⌜ r ≡ notifyIf d marks (view (now (t .entry))) .answer ⌝ }
+    ensures { λ _. ⌜ Left (now (t .exit)) (notifyIf d marks (view (now (t .entry))) .tables) ⌝ }
 {
-    if changed == 0 {
+    if marks == 0 {
         return Answer::Done(0);
     }
-    notify(t, d)
+    notify(t, d, marks)
 }
 
 // ---- A range gained and lost
@@ -84,7 +84,7 @@ pub fn activate_region(t: &mut [u64], d: usize, a: AccessRights) -> Answer
     ensures { λ _. ⌜ Left (now (t .exit)) (activate d a (view (now (t .entry))) .tables) ⌝ }
 {
     match region::add_region(t, d, a) {
-        Answer::Done(changed) => notify_if(t, d, changed),
+        Answer::Done(marks) => notify_if(t, d, marks),
         Answer::Refused(r) => Answer::Refused(r),
     }
 }
@@ -95,7 +95,7 @@ pub fn deactivate_region(t: &mut [u64], d: usize, a: AccessRights) -> Answer
     ensures { λ _. ⌜ Left (now (t .exit)) (deactivate d a (view (now (t .entry))) .tables) ⌝ }
 {
     match region::remove_region(t, d, a) {
-        Answer::Done(changed) => notify_if(t, d, changed),
+        Answer::Done(marks) => notify_if(t, d, marks),
         Answer::Refused(r) => Answer::Refused(r),
     }
 }

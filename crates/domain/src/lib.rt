@@ -6,7 +6,6 @@ pub use activate::activate_region;
 pub use activate::cleanup;
 pub use activate::deactivate_region;
 pub use activate::insert;
-pub use activate::notify;
 pub use activate::reserve;
 pub use opened::fresh_list;
 pub use opened::new_domain;

@@ -28,7 +28,7 @@ abbrev pub domainReplyOf : Answer → DomainReply
 domainReplyOf a = record { refusal = code a; slot = valueOf a 0; generation = valueOf a 1 }
 
 abbrev pub updateReplyOf : Answer → UpdateReply
-updateReplyOf a = record { refusal = code a; kind = valueOf a 0; a = valueOf a 1; b = valueOf a 2; c = valueOf a 3 }
+updateReplyOf a = record { refusal = code a; kind = valueOf a 0; a = valueOf a 1; b = valueOf a 2; c = valueOf a 3; marks = valueOf a 4 }
 
 -- ---- contracts
 

@@ -22,6 +22,7 @@ pub struct DomainReply {
 }
 
 // An update as docs/TABLES.md has it: kind 1 with domain slot, generation and core map; kind 2 with start, end and 0; kind 0, none.
+// The marks of a domain are those of document 02, request 4; else 0.
 #[repr(C)]
 pub struct UpdateReply {
     pub refusal: u64,
@@ -29,6 +30,7 @@ pub struct UpdateReply {
     pub a: u64,
     pub b: u64,
     pub c: u64,
+    pub marks: u64,
 }
 
 pub fn refused(r: Refusal) -> Reply

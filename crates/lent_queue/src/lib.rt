@@ -11,13 +11,14 @@ pub fn pop(t: &mut [u64], w: &mut [u64]) -> UpdateReply
 {
     if frame::admits(t, w) {
         let item = update::pop_update(t);
-        let u = item.update;
+        let u = item.entry.update;
         return UpdateReply {
             refusal: 0,
             kind: u.kind,
             a: u.a,
             b: u.b,
             c: u.c,
+            marks: item.entry.marks,
         };
     }
     UpdateReply {
@@ -26,5 +27,6 @@ pub fn pop(t: &mut [u64], w: &mut [u64]) -> UpdateReply
         a: 0,
         b: 0,
         c: 0,
+        marks: 0,
     }
 }

@@ -1,10 +1,10 @@
 -- One turn of a walk over a domain's records (document 01, **Tracker**). Each turn changes one record, or goes on to the next.
-use mathlib.Core.Bool.{Bool, true, false}
 use Prim.Native.Nat.{ℕ, zero, suc, _+_, _*_}
+use lib.Bits.{bitOr}
 use lib.Dec.{eqb, ltb, leb}
 use Rattle.base.specs.Cases.{pick}
 use Rattle.tables.specs.declared.Region.{Region}
-use Rattle.tables.specs.Tables.{Tables, recordAt, withRecord}
+use Rattle.tables.specs.Tables.{Tables, noRecord, recordAt, withRecord}
 use Rattle.answers.specs.declared.Answer.{Answer}
 use Rattle.answers.specs.declared.Answer.the-variants.{Done, Refused}
 use Rattle.refusals.specs.Refusals.{memory}
@@ -15,7 +15,7 @@ use Rattle.region.specs.declared.Progress.{Progress}
 use Rattle.region.specs.declared.Progress.the-variants.{Going, Over}
 use Rattle.region.specs.declared.Way.{Way}
 use Rattle.region.specs.declared.Way.the-variants.{Add, Remove, Merge}
-use Rattle.tracker_records.specs.Counts.{made, raised, lowered, changesB, mergeableB}
+use Rattle.tracker_records.specs.Counts.{made, raised, lowered, crossingsOf, mergeableB}
 use Rattle.tables.specs.Links.{slotTo}
 use Rattle.tracker_records.specs.Links.{withEnd, withNext, firstLink, inserted, split, freedRecord}
 
@@ -36,31 +36,33 @@ abbrev pub onward : Effect → (ℕ → Cursor) → Turn
 onward x f = record { answer = afterStep (x .answer) f; tables = x .tables }
 
 abbrev pub over : Cursor → Tables → Turn
-over c s = to (Over (Done (c .changed))) s
+over c s = to (Over (Done (c .marks))) s
 
 -- ---- cursors
 
-abbrev pub noted : Cursor → Bool → ℕ
-noted c b = pick b 1 (c .changed)
+-- further marks
+abbrev pub noted : Cursor → ℕ → ℕ
+noted c m = bitOr (c .marks) m
 
 -- on to the record behind the one at hand, with the range done up to `start`
-abbrev pub nextOf : Cursor → ℕ → ℕ → Bool → Cursor
-nextOf c k start b = record { prev = c .at; at = k; start = start; changed = noted c b }
+abbrev pub nextOf : Cursor → ℕ → ℕ → ℕ → Cursor
+nextOf c k start m = record { prev = c .at; at = k; start = start; marks = noted c m }
 
 -- the record at hand is gone
-abbrev pub droppedOf : Cursor → ℕ → Bool → Cursor
-droppedOf c k b = record { prev = c .prev; at = k; start = c .start; changed = noted c b }
+abbrev pub droppedOf : Cursor → ℕ → ℕ → Cursor
+droppedOf c k m = record { prev = c .prev; at = k; start = c .start; marks = noted c m }
 
 -- ---- the turns; q is the record at hand
 
--- a gap before it becomes a record up to e
+-- a gap before it becomes a record up to e, whose counts were 0
 unfoldable pub fillTurn : Tables → ℕ → AccessRights → Cursor → ℕ → Turn
 fillTurn s d a c e =
-    onward (inserted s d (c .prev) (made (c .start) e (a .ops .0) (c .at))) (λ k. record { prev = k; at = c .at; start = e; changed = 1 })
+    let q = made (c .start) e (a .ops .0) (c .at) in
+    onward (inserted s d (c .prev) q) (λ k. record { prev = k; at = c .at; start = e; marks = noted c (crossingsOf noRecord q) })
 
 -- it is cut at the range's start, and its right half is at hand
 unfoldable pub cutStart : Tables → Cursor → Turn
-cutStart s c = onward (split s (slotTo (c .at)) (c .start)) (λ k. record { prev = c .at; at = k; start = c .start; changed = c .changed })
+cutStart s c = onward (split s (slotTo (c .at)) (c .start)) (λ k. record { prev = c .at; at = k; start = c .start; marks = c .marks })
 
 -- it is cut at the range's end
 unfoldable pub cutEnd : Tables → Cursor → ℕ → Turn
@@ -69,20 +71,20 @@ cutEnd s c e = onward (split s (slotTo (c .at)) e) (λ k. c)
 unfoldable pub raiseTurn : Tables → AccessRights → Cursor → Region → Turn
 raiseTurn s a c q =
     let p = raised (a .ops .0) q in
-    to (Going (nextOf c (q .next) (q .end) (changesB q p))) (withRecord s (slotTo (c .at)) p)
+    to (Going (nextOf c (q .next) (q .end) (crossingsOf q p))) (withRecord s (slotTo (c .at)) p)
 
--- at reach 0 it is dropped at once
+-- at reach 0 it is dropped at once, and leaves no counts
 unfoldable pub lowerTurn : Tables → ℕ → AccessRights → Cursor → Region → Turn
 lowerTurn s d a c q =
     let p = lowered (a .ops .0) q in
-    pick (eqb (p .«ref_count») 0) (onward (freedRecord (withNext s d (c .prev) (q .next)) (slotTo (c .at))) (λ v. droppedOf c (q .next) (changesB q p)))
-    (to (Going (nextOf c (q .next) (c .start) (changesB q p))) (withRecord s (slotTo (c .at)) p))
+    pick (eqb (p .«ref_count») 0) (onward (freedRecord (withNext s d (c .prev) (q .next)) (slotTo (c .at))) (λ v. droppedOf c (q .next) (crossingsOf q noRecord)))
+    (to (Going (nextOf c (q .next) (c .start) (crossingsOf q p))) (withRecord s (slotTo (c .at)) p))
 
 -- `add_region`, where a record is at hand
 unfoldable pub addAt : Tables → ℕ → AccessRights → Cursor → Region → Turn
 addAt s d a c q =
     pick (ltb (c .start) (q .start)) (fillTurn s d a c (pick (ltb (q .start) (a .end)) (q .start) (a .end)))
-    (pick (leb (q .end) (c .start)) (to (Going (nextOf c (q .next) (c .start) false)) s)
+    (pick (leb (q .end) (c .start)) (to (Going (nextOf c (q .next) (c .start) 0)) s)
     (pick (ltb (q .start) (c .start)) (cutStart s c)
     (pick (ltb (a .end) (q .end)) (cutEnd s c (a .end)) (raiseTurn s a c q))))
 
@@ -95,7 +97,7 @@ addTurn s d a c =
 unfoldable pub removeAt : Tables → ℕ → AccessRights → Cursor → Region → Turn
 removeAt s d a c q =
     pick (leb (a .end) (q .start)) (over c s)
-    (pick (leb (q .end) (c .start)) (to (Going (nextOf c (q .next) (c .start) false)) s)
+    (pick (leb (q .end) (c .start)) (to (Going (nextOf c (q .next) (c .start) 0)) s)
     (pick (ltb (q .start) (c .start)) (cutStart s c)
     (pick (ltb (a .end) (q .end)) (cutEnd s c (a .end)) (lowerTurn s d a c q))))
 
@@ -106,7 +108,7 @@ removeTurn s d a c = pick (eqb (c .at) 0) (over c s) (removeAt s d a c (recordAt
 unfoldable pub mergeAt : Tables → Cursor → Region → Region → Turn
 mergeAt s c q n =
     pick (mergeableB q n) (onward (freedRecord (withRecord s (slotTo (c .at)) (withEnd q (n .end) (n .next))) (slotTo (q .next))) (λ v. c))
-    (to (Going (nextOf c (q .next) (c .start) false)) s)
+    (to (Going (nextOf c (q .next) (c .start) 0)) s)
 
 unfoldable pub mergeTurn : Tables → Cursor → Turn
 mergeTurn s c =
@@ -131,9 +133,9 @@ turns s = 3 * s .sizes .records + 3
 
 -- from domain d's first record
 unfoldable pub walked : Way → ℕ → AccessRights → ℕ → Tables → Effect
-walked w d a changed s = walk w d a (turns s) (record { prev = 0; at = firstLink s d; start = a .start; changed = changed }) s
+walked w d a marks s = walk w d a (turns s) (record { prev = 0; at = firstLink s d; start = a .start; marks = marks }) s
 
--- ---- the whole gain and the whole loss of a range (the model's gain and lose); the answer is 1 where a count left or came to 0, else 0
+-- ---- the whole gain and the whole loss of a range (the model's gain and lose); the answer is the marks of the counts that left or came to 0
 
 unfoldable pub addRegion : ℕ → AccessRights → Tables → Effect
 addRegion d a s = andThen (walked Add d a 0 s) (walked Merge d a)

@@ -16,12 +16,12 @@ pub struct AccessRights {
 }
 
 // Where a walk is: the links of the record before and of the record at hand, the address from which the range is still to be
-// done, and 1 where a count left or came to 0, else 0 (`PermissionChange`).
+// done, and the marks of the counts that left or came to 0 so far (`PermissionChange`; document 02, request 4).
 pub struct Cursor {
     pub prev: u64,
     pub at: u64,
     pub start: u64,
-    pub changed: u64,
+    pub marks: u64,
 }
 
 // What one turn of a walk comes to.

@@ -12,17 +12,17 @@ use refusals::Refusal;
 use tracker_records::links;
 
 // A walk from the first record on. The bound on its turns is met only where links go round.
-fn walk(t: &mut [u64], d: usize, way: Way, a: AccessRights, changed: u64) -> Answer
+fn walk(t: &mut [u64], d: usize, way: Way, a: AccessRights, marks: u64) -> Answer
     requires { ⌜ Sized (now t) ⌝ }
-    ensures { λ r. ⌜ r ≡ walked way d a changed (view (now (t .entry))) .answer ⌝ }
-    ensures { λ _. ⌜ Left (now (t .exit)) (walked way d a changed (view (now (t .entry))) .tables) ⌝ }
+    ensures { λ r. ⌜ r ≡ walked way d a marks (view (now (t .entry))) .answer ⌝ }
+    ensures { λ _. ⌜ Left (now (t .exit)) (walked way d a marks (view (now (t .entry))) .tables) ⌝ }
 {
     let mut left = 3 * words::size(t, sizes::RECORDS) + 3;
     let mut c = Cursor {
         prev: 0,
         at: links::first(t, d),
         start: a.start,
-        changed,
+        marks,
     };
     while 0 < left {
         match turns::turn(t, d, way, a, c) {
@@ -36,14 +36,14 @@ fn walk(t: &mut [u64], d: usize, way: Way, a: AccessRights, changed: u64) -> Ans
     Answer::Refused(Refusal::MEMORY)
 }
 
-// Domain d gains the range; answers 1 where a count left or came to 0, else 0.
+// Domain d gains the range; answers the marks of the counts that left or came to 0.
 pub fn add_region(t: &mut [u64], d: usize, a: AccessRights) -> Answer
     requires { ⌜ Sized (now t) ⌝ }
     ensures { λ r. ⌜ r ≡ addRegion d a (view (now (t .entry))) .answer ⌝ }
     ensures { λ _. ⌜ Left (now (t .exit)) (addRegion d a (view (now (t .entry))) .tables) ⌝ }
 {
     match walk(t, d, Way::Add, a, 0) {
-        Answer::Done(changed) => walk(t, d, Way::Merge, a, changed),
+        Answer::Done(marks) => walk(t, d, Way::Merge, a, marks),
         Answer::Refused(r) => Answer::Refused(r),
     }
 }
@@ -55,7 +55,7 @@ pub fn remove_region(t: &mut [u64], d: usize, a: AccessRights) -> Answer
     ensures { λ _. ⌜ Left (now (t .exit)) (removeRegion d a (view (now (t .entry))) .tables) ⌝ }
 {
     match walk(t, d, Way::Remove, a, 0) {
-        Answer::Done(changed) => walk(t, d, Way::Merge, a, changed),
+        Answer::Done(marks) => walk(t, d, Way::Merge, a, marks),
         Answer::Refused(r) => Answer::Refused(r),
     }
 }

@@ -13,18 +13,18 @@ use tracker_records::counts;
 use tracker_records::links;
 
 // On to the record behind the one at hand, with the range done up to `start`.
-fn going(c: Cursor, next: u64, start: u64, change: bool) -> Progress
-    ensures { λ r. ⌜ r ≡ Going (nextOf c next start change) ⌝ }
+fn going(c: Cursor, next: u64, start: u64, marks: u64) -> Progress
+    ensures { λ r. ⌜ r ≡ Going (nextOf c next start marks) ⌝ }
 {
     Progress::Going(Cursor {
         prev: c.at,
         at: next,
         start,
-        changed: if change { 1 } else { c.changed },
+        marks: c.marks | marks,
     })
 }
 
-// A gap before the record at hand becomes a record up to `end`; that is a change.
+// A gap before the record at hand becomes a record up to `end`, whose counts were 0.
 fn fill(t: &mut [u64], d: usize, a: AccessRights, c: Cursor, end: u64) -> Progress
     requires { ⌜ Sized (now t) ⌝ }
     ensures { λ r. ⌜ r ≡ fillTurn (view (now (t .entry))) d a c end .answer ⌝ }
@@ -36,7 +36,7 @@ fn fill(t: &mut [u64], d: usize, a: AccessRights, c: Cursor, end: u64) -> Progre
             prev: link,
             at: c.at,
             start: end,
-            changed: 1,
+            marks: c.marks | counts::crossings(tables::no_record(), q),
         }),
         Answer::Refused(r) => Progress::Over(Answer::Refused(r)),
     }
@@ -53,7 +53,7 @@ fn cut_start(t: &mut [u64], c: Cursor) -> Progress
             prev: c.at,
             at: link,
             start: c.start,
-            changed: c.changed,
+            marks: c.marks,
         }),
         Answer::Refused(r) => Progress::Over(Answer::Refused(r)),
     }
@@ -79,7 +79,7 @@ fn raise(t: &mut [u64], a: AccessRights, c: Cursor, q: Region) -> Progress
 {
     let p = counts::increase(q, a.ops);
     record_rows::store_record(t, tables::slot_to(c.at), p);
-    going(c, q.next, q.end, counts::change(q, p))
+    going(c, q.next, q.end, counts::crossings(q, p))
 }
 
 // It loses, and at reach 0 it is dropped at once.
@@ -90,27 +90,26 @@ fn lower(t: &mut [u64], d: usize, a: AccessRights, c: Cursor, q: Region) -> Prog
 {
     let p = counts::decrease(q, a.ops);
     let i = tables::slot_to(c.at);
-    let change = counts::change(q, p);
     if p.ref_count != 0 {
         record_rows::store_record(t, i, p);
-        return going(c, q.next, c.start, change);
+        return going(c, q.next, c.start, counts::crossings(q, p));
     }
     links::set_next(t, d, c.prev, q.next);
     match links::free(t, i) {
-        Answer::Done(v) => dropped(c, q.next, change),
+        Answer::Done(v) => dropped(c, q.next, counts::crossings(q, tables::no_record())),
         Answer::Refused(r) => Progress::Over(Answer::Refused(r)),
     }
 }
 
 // The record at hand is gone.
-fn dropped(c: Cursor, next: u64, change: bool) -> Progress
-    ensures { λ r. ⌜ r ≡ Going (droppedOf c next change) ⌝ }
+fn dropped(c: Cursor, next: u64, marks: u64) -> Progress
+    ensures { λ r. ⌜ r ≡ Going (droppedOf c next marks) ⌝ }
 {
     Progress::Going(Cursor {
         prev: c.prev,
         at: next,
         start: c.start,
-        changed: if change { 1 } else { c.changed },
+        marks: c.marks | marks,
     })
 }
 
@@ -124,7 +123,7 @@ fn add_at(t: &mut [u64], d: usize, a: AccessRights, c: Cursor, q: Region) -> Pro
         return fill(t, d, a, c, counts::least(q.start, a.end));
     }
     if q.end <= c.start {
-        return going(c, q.next, c.start, false);
+        return going(c, q.next, c.start, 0);
     }
     if q.start < c.start {
         return cut_start(t, c);
@@ -142,7 +141,7 @@ fn add(t: &mut [u64], d: usize, a: AccessRights, c: Cursor) -> Progress
     ensures { λ _. ⌜ Left (now (t .exit)) (addTurn (view (now (t .entry))) d a c .tables) ⌝ }
 {
     if a.end <= c.start {
-        return Progress::Over(Answer::Done(c.changed));
+        return Progress::Over(Answer::Done(c.marks));
     }
     if c.at == 0 {
         return fill(t, d, a, c, a.end);
@@ -158,10 +157,10 @@ fn remove_at(t: &mut [u64], d: usize, a: AccessRights, c: Cursor, q: Region) -> 
     ensures { λ _. ⌜ Left (now (t .exit)) (removeAt (view (now (t .entry))) d a c q .tables) ⌝ }
 {
     if a.end <= q.start {
-        return Progress::Over(Answer::Done(c.changed));
+        return Progress::Over(Answer::Done(c.marks));
     }
     if q.end <= c.start {
-        return going(c, q.next, c.start, false);
+        return going(c, q.next, c.start, 0);
     }
     if q.start < c.start {
         return cut_start(t, c);
@@ -179,7 +178,7 @@ fn remove(t: &mut [u64], d: usize, a: AccessRights, c: Cursor) -> Progress
     ensures { λ _. ⌜ Left (now (t .exit)) (removeTurn (view (now (t .entry))) d a c .tables) ⌝ }
 {
     if c.at == 0 {
-        return Progress::Over(Answer::Done(c.changed));
+        return Progress::Over(Answer::Done(c.marks));
     }
     let q = record_rows::load_record(t, tables::slot_to(c.at));
     remove_at(t, d, a, c, q)
@@ -192,7 +191,7 @@ fn merge_at(t: &mut [u64], c: Cursor, q: Region, n: Region) -> Progress
     ensures { λ _. ⌜ Left (now (t .exit)) (mergeAt (view (now (t .entry))) c q n .tables) ⌝ }
 {
     if !counts::mergeable(q, n) {
-        return going(c, q.next, c.start, false);
+        return going(c, q.next, c.start, 0);
     }
     record_rows::store_record(t, tables::slot_to(c.at), links::bounded(q, n.end, n.next));
     match links::free(t, tables::slot_to(q.next)) {
@@ -208,11 +207,11 @@ fn merge(t: &mut [u64], c: Cursor) -> Progress
     ensures { λ _. ⌜ Left (now (t .exit)) (mergeTurn (view (now (t .entry))) c .tables) ⌝ }
 {
     if c.at == 0 {
-        return Progress::Over(Answer::Done(c.changed));
+        return Progress::Over(Answer::Done(c.marks));
     }
     let q = record_rows::load_record(t, tables::slot_to(c.at));
     if q.next == 0 {
-        return Progress::Over(Answer::Done(c.changed));
+        return Progress::Over(Answer::Done(c.marks));
     }
     let n = record_rows::load_record(t, tables::slot_to(q.next));
     merge_at(t, c, q, n)

@@ -123,12 +123,13 @@ fn run_pop(t: &mut [u64])
     requires { ⌜ Sized (now t) ⌝ }
 {
     let item = update::pop_update(t);
-    let u = item.update;
+    let u = item.entry.update;
     output::number(0);
     output::number(u.kind);
     output::number(u.a);
     output::number(u.b);
     output::number(u.c);
+    output::number(item.entry.marks);
 }
 
 // The readings of a domain.

@@ -6,12 +6,14 @@ use native.Mathlib.Omega.{arith}
 use borrow.Author.Tests.{ltb-true}
 use lib.ListN.{getD, set}
 use lib.Dec.{ltb, eqb}
+use lib.Bits.{bitOr}
 use Rattle.sizes.specs.Limits.{mostUpdates}
 use Rattle.base.specs.Cases.{pick}
 use Rattle.base.specs.Tests.{both, both-true}
 use Rattle.tables.specs.declared.Update.{Update}
 use Rattle.tables.specs.Kinds.{PERMISSION, CLEANUP}
 use Rattle.tables.specs.Tables.{noUpdate}
+use Rattle.ring.specs.declared.Entry.{Entry}
 use Rattle.ring.specs.declared.Ring.{Ring}
 use Rattle.ring.specs.declared.PushOut.{PushOut}
 use Rattle.ring.specs.declared.PopOut.{PopOut}
@@ -20,11 +22,15 @@ use Rattle.ring.specs.declared.PopOut.{PopOut}
 abbrev pub cap : ℕ
 cap = mostUpdates + 1
 
-abbrev pub permissionOf : ℕ → ℕ → ℕ → Update
-permissionOf d g m = record { kind = PERMISSION; a = d; b = g; c = m }
+abbrev pub noEntry : Entry
+noEntry = record { update = noUpdate; marks = 0 }
 
-abbrev pub cleanupOf : ℕ → ℕ → Update
-cleanupOf s e = record { kind = CLEANUP; a = s; b = e; c = 0 }
+-- domain d of generation g with core map c and marks m
+abbrev pub permissionOf : ℕ → ℕ → ℕ → ℕ → Entry
+permissionOf d g c m = record { update = record { kind = PERMISSION; a = d; b = g; c = c }; marks = m }
+
+abbrev pub cleanupOf : ℕ → ℕ → Entry
+cleanupOf s e = record { update = record { kind = CLEANUP; a = s; b = e; c = 0 }; marks = 0 }
 
 -- the place after i in a ring of n places
 unfoldable pub afterOf : ℕ → ℕ → ℕ
@@ -32,28 +38,28 @@ afterOf i n = pick (ltb (i + 1) n) (i + 1) 0
 
 -- ---- push and pop
 
--- the update stands in the write place, and the write place moves on
-abbrev pub putIn : Ring → Update → Ring
-putIn r u = record { places = set (r .places) (r .write) u; read = r .read; write = afterOf (r .write) (r .size); size = r .size }
+-- the entry stands in the write place, and the write place moves on
+abbrev pub putIn : Ring → Entry → Ring
+putIn r e = record { places = set (r .places) (r .write) e; read = r .read; write = afterOf (r .write) (r .size); size = r .size }
 
 -- the ring is full where the place after the write place is the read place
 abbrev pub roomB : Ring → Bool
 roomB r = both (not (eqb (afterOf (r .write) (r .size)) (r .read))) (ltb (r .write) cap)
 
-unfoldable pub pushOf : Ring → Update → PushOut
-pushOf r u = pick (roomB r) (record { ok = true; ring = putIn r u }) (record { ok = false; ring = r })
+unfoldable pub pushOf : Ring → Entry → PushOut
+pushOf r e = pick (roomB r) (record { ok = true; ring = putIn r e }) (record { ok = false; ring = r })
 
 -- the read place is cleared, and moves on
 abbrev pub takeOut : Ring → Ring
-takeOut r = record { places = set (r .places) (r .read) noUpdate; read = afterOf (r .read) (r .size); write = r .write; size = r .size }
+takeOut r = record { places = set (r .places) (r .read) noEntry; read = afterOf (r .read) (r .size); write = r .write; size = r .size }
 
 abbrev pub someB : Ring → Bool
 someB r = both (not (eqb (r .read) (r .write))) (ltb (r .read) cap)
 
 unfoldable pub popOf : Ring → PopOut
 popOf r =
-    pick (someB r) (record { item = record { got = true; update = getD (r .places) (r .read) noUpdate }; ring = takeOut r })
-    (record { item = record { got = false; update = noUpdate }; ring = r })
+    pick (someB r) (record { item = record { got = true; entry = getD (r .places) (r .read) noEntry }; ring = takeOut r })
+    (record { item = record { got = false; entry = noEntry }; ring = r })
 
 -- a place that passed the test lies in the array
 pub inside : (m n i : ℕ) (b : Bool) → b ≡ both (not (eqb m n)) (ltb i cap) → b ≡ true → i < cap
@@ -65,25 +71,41 @@ inside m n i b e h = ltb-true i cap (both-true (not (eqb m n)) (ltb i cap) (sym 
 unfoldable pub namesOf : Update → ℕ → ℕ → Bool
 namesOf u d g = both (eqb (u .kind) PERMISSION) (both (eqb (u .a) d) (eqb (u .b) g))
 
--- whether one of the next n places from i on, up to the write place, has one
-unfoldable pub queuedFrom : Ring → ℕ → ℕ → ℕ → ℕ → Bool
-queuedFrom r d g zero i = false
-queuedFrom r d g (suc n) i =
-    pick (eqb i (r .write)) false (pick (ltb i cap) (pick (namesOf (getD (r .places) i noUpdate) d g) true (queuedFrom r d g n (afterOf i (r .size)))) false)
+-- the place of the first one among the next n places from i on, up to the write place; else the write place
+unfoldable pub placeFrom : Ring → ℕ → ℕ → ℕ → ℕ → ℕ
+placeFrom r d g zero i = r .write
+placeFrom r d g (suc n) i =
+    pick (eqb i (r .write)) (r .write) (pick (ltb i cap) (pick (namesOf (getD (r .places) i noEntry .update) d g) i (placeFrom r d g n (afterOf i (r .size)))) (r .write))
 
-unfoldable pub queuedOf : Ring → ℕ → ℕ → Bool
-queuedOf r d g = queuedFrom r d g cap (r .read)
+unfoldable pub placeOf : Ring → ℕ → ℕ → ℕ
+placeOf r d g = placeFrom r d g cap (r .read)
 
-unfoldable pub markOf : Ring → ℕ → ℕ → ℕ → PushOut
-markOf r d g m = pick (queuedOf r d g) (record { ok = true; ring = r }) (pushOf r (permissionOf d g m))
+-- ---- a domain is queued
+
+-- marks m join those of an entry
+abbrev pub gathered : Entry → ℕ → Entry
+gathered e m = record { update = e .update; marks = bitOr (e .marks) m }
+
+abbrev pub gatherIn : Ring → ℕ → ℕ → Ring
+gatherIn r i m = record { places = set (r .places) i (gathered (getD (r .places) i noEntry) m); read = r .read; write = r .write; size = r .size }
+
+-- a place other than the write place was found
+abbrev pub foundB : Ring → ℕ → Bool
+foundB r i = both (not (eqb i (r .write))) (ltb i cap)
+
+-- where it is queued already its marks are gathered, and no room is asked (the model's pushPermission)
+unfoldable pub queueOf : Ring → ℕ → ℕ → ℕ → ℕ → PushOut
+queueOf r d g c m =
+    let i = placeOf r d g in
+    pick (foundB r i) (record { ok = true; ring = gatherIn r i m }) (pushOf r (permissionOf d g c m))
 
 -- ---- the search, counted up to cap as the code counts
 
-pub queued-step : (r : Ring) (d g n i : ℕ) → n < cap
-    → queuedFrom r d g (cap - n) i ≡ pick (eqb i (r .write)) false (pick (ltb i cap) (pick (namesOf (getD (r .places) i noUpdate) d g) true (queuedFrom r d g (cap - (n + 1)) (afterOf i (r .size)))) false)
-unfolding queuedFrom
-queued-step r d g n i h = let e : cap - n ≡ suc (cap - (n + 1)) = omega arith in rw e
+pub place-step : (r : Ring) (d g n i : ℕ) → n < cap
+    → placeFrom r d g (cap - n) i ≡ pick (eqb i (r .write)) (r .write) (pick (ltb i cap) (pick (namesOf (getD (r .places) i noEntry .update) d g) i (placeFrom r d g (cap - (n + 1)) (afterOf i (r .size)))) (r .write))
+unfolding placeFrom
+place-step r d g n i h = let e : cap - n ≡ suc (cap - (n + 1)) = omega arith in rw e
 
-pub queued-none : (r : Ring) (d g n i : ℕ) → cap ≤ n → queuedFrom r d g (cap - n) i ≡ false
-unfolding queuedFrom
-queued-none r d g n i h = let e : cap - n ≡ zero = omega arith in rw e
+pub place-none : (r : Ring) (d g n i : ℕ) → cap ≤ n → placeFrom r d g (cap - n) i ≡ r .write
+unfolding placeFrom
+place-none r d g n i h = let e : cap - n ≡ zero = omega arith in rw e

@@ -1,19 +1,19 @@
 // The ring lent (document 01, "The update ring is handed to the steps and changed there").
 ghost use mathlib.Core.Path.{_≡_};
-ghost use Rattle.ring.specs.Ring.{pushOf, popOf, markOf};
+ghost use Rattle.ring.specs.Ring.{pushOf, popOf, queueOf};
+use crate::Entry;
 use crate::Item;
 use crate::PopOut;
 use crate::PushOut;
 use crate::Ring;
-use crate::marked;
 use crate::popped;
 use crate::pushed;
-use tables::Update;
+use crate::queued;
 
-pub fn push(ring: &mut Ring, u: Update) -> bool
-    ensures { λ r. ⌜ (r ≡ pushOf (now (ring .entry)) u .ok) × (now (ring .exit) ≡ pushOf (now (ring .entry)) u .ring) ⌝ }
+pub fn push(ring: &mut Ring, e: Entry) -> bool
+    ensures { λ r. ⌜ (r ≡ pushOf (now (ring .entry)) e .ok) × (now (ring .exit) ≡ pushOf (now (ring .entry)) e .ring) ⌝ }
 {
-    let p = pushed(*ring, u);
+    let p = pushed(*ring, e);
     *ring = p.ring;
     p.ok
 }
@@ -26,21 +26,21 @@ pub fn pop(ring: &mut Ring) -> Item
     p.item
 }
 
-pub fn mark(ring: &mut Ring, slot: u64, generation: u64, cores: u64) -> bool
-    ensures { λ r. ⌜ (r ≡ markOf (now (ring .entry)) slot generation cores .ok) × (now (ring .exit) ≡ markOf (now (ring .entry)) slot generation cores .ring) ⌝ }
+pub fn queue(ring: &mut Ring, slot: u64, generation: u64, cores: u64, marks: u64) -> bool
+    ensures { λ r. ⌜ (r ≡ queueOf (now (ring .entry)) slot generation cores marks .ok) × (now (ring .exit) ≡ queueOf (now (ring .entry)) slot generation cores marks .ring) ⌝ }
 {
-    let p = marked(*ring, slot, generation, cores);
+    let p = queued(*ring, slot, generation, cores, marks);
     *ring = p.ring;
     p.ok
 }
 
 // ---- The same for a ring by value, which is lent here
 
-pub fn push_lent(ring: Ring, u: Update) -> PushOut
-    ensures { λ r. ⌜ r ≡ pushOf ring u ⌝ }
+pub fn push_lent(ring: Ring, e: Entry) -> PushOut
+    ensures { λ r. ⌜ r ≡ pushOf ring e ⌝ }
 {
     let mut r = ring;
-    let ok = push(&mut r, u);
+    let ok = push(&mut r, e);
     PushOut { ok, ring: r }
 }
 
@@ -52,10 +52,10 @@ pub fn pop_lent(ring: Ring) -> PopOut
     PopOut { item, ring: r }
 }
 
-pub fn mark_lent(ring: Ring, slot: u64, generation: u64, cores: u64) -> PushOut
-    ensures { λ r. ⌜ r ≡ markOf ring slot generation cores ⌝ }
+pub fn queue_lent(ring: Ring, slot: u64, generation: u64, cores: u64, marks: u64) -> PushOut
+    ensures { λ r. ⌜ r ≡ queueOf ring slot generation cores marks ⌝ }
 {
     let mut r = ring;
-    let ok = mark(&mut r, slot, generation, cores);
+    let ok = queue(&mut r, slot, generation, cores, marks);
     PushOut { ok, ring: r }
 }

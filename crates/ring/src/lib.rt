@@ -1,24 +1,30 @@
 // The update ring (document 01, "Update ring"), by value: each function gives the ring that it leaves.
 ghost use mathlib.Core.Path.{_≡_};
-ghost use Rattle.ring.specs.Ring.{permissionOf, cleanupOf, afterOf, pushOf, popOf, namesOf, queuedOf, markOf};
+ghost use Rattle.ring.specs.Ring.{noEntry, permissionOf, cleanupOf, afterOf, pushOf, popOf, namesOf, placeOf, queueOf};
 use sizes::MOST_UPDATES;
 use tables::Update;
 
 pub mod lent;
 
-pub use lent::mark;
-pub use lent::mark_lent;
 pub use lent::pop;
 pub use lent::pop_lent;
 pub use lent::push;
 pub use lent::push_lent;
+pub use lent::queue;
+pub use lent::queue_lent;
 
 // The places of the largest ring.
 pub const PLACES: usize = MOST_UPDATES + 1;
 
+// What stands in a place: an update, and the marks of the domain that it queues (document 02, request 4).
+pub struct Entry {
+    pub update: Update,
+    pub marks: u64,
+}
+
 // `size` places are in use, one more than the ring can hold; those past them are nothing.
 pub struct Ring {
-    pub places: [Update; PLACES],
+    pub places: [Entry; PLACES],
     pub read: usize,
     pub write: usize,
     pub size: usize,
@@ -33,7 +39,7 @@ pub struct PushOut {
 // What a pop gives: nothing where `got` is false.
 pub struct Item {
     pub got: bool,
-    pub update: Update,
+    pub entry: Entry,
 }
 
 pub struct PopOut {
@@ -41,26 +47,37 @@ pub struct PopOut {
     pub ring: Ring,
 }
 
-pub fn permission(slot: u64, generation: u64, cores: u64) -> Update
-    ensures { λ r. ⌜ r ≡ permissionOf slot generation cores ⌝ }
+pub fn no_entry() -> Entry
+    ensures { λ r. ⌜ r ≡ noEntry ⌝ }
 {
-    Update {
+    Entry {
+        update: tables::no_update(),
+        marks: 0,
+    }
+}
+
+pub fn permission(slot: u64, generation: u64, cores: u64, marks: u64) -> Entry
+    ensures { λ r. ⌜ r ≡ permissionOf slot generation cores marks ⌝ }
+{
+    let update = Update {
         kind: Update::PERMISSION,
         a: slot,
         b: generation,
         c: cores,
-    }
+    };
+    Entry { update, marks }
 }
 
-pub fn cleanup(start: u64, end: u64) -> Update
+pub fn cleanup(start: u64, end: u64) -> Entry
     ensures { λ r. ⌜ r ≡ cleanupOf start end ⌝ }
 {
-    Update {
+    let update = Update {
         kind: Update::CLEANUP,
         a: start,
         b: end,
         c: 0,
-    }
+    };
+    Entry { update, marks: 0 }
 }
 
 // The place after i in a ring of `size` places.
@@ -77,29 +94,29 @@ fn after(i: usize, size: usize) -> usize
 }
 
 // The ring is full where the place after the write place is the read place.
-pub fn pushed(ring: Ring, u: Update) -> PushOut
-    ensures { λ r. ⌜ r ≡ pushOf ring u ⌝ }
+pub fn pushed(ring: Ring, e: Entry) -> PushOut
+    ensures { λ r. ⌜ r ≡ pushOf ring e ⌝ }
 {
     let write = ring.write;
     let next = after(write, ring.size);
     if words::both(next != ring.read, write < PLACES) {
         let mut r = ring;
-        r.places[write] = u;
+        r.places[write] = e;
         r.write = next;
         return PushOut { ok: true, ring: r };
     }
     PushOut { ok: false, ring }
 }
 
-// The oldest update, whose place is cleared; none of an empty ring.
+// The oldest entry, whose place is cleared; none of an empty ring.
 pub fn popped(ring: Ring) -> PopOut
     ensures { λ r. ⌜ r ≡ popOf ring ⌝ }
 {
     let read = ring.read;
-    let none = tables::no_update();
+    let none = no_entry();
     if words::both(read != ring.write, read < PLACES) {
         let mut places = ring.places;
-        let update = places[read];
+        let entry = places[read];
         places[read] = none;
         let left = Ring {
             places,
@@ -107,12 +124,12 @@ pub fn popped(ring: Ring) -> PopOut
             write: ring.write,
             size: ring.size,
         };
-        let item = Item { got: true, update };
+        let item = Item { got: true, entry };
         return PopOut { item, ring: left };
     }
     let item = Item {
         got: false,
-        update: none,
+        entry: none,
     };
     PopOut { item, ring }
 }
@@ -127,9 +144,9 @@ fn names(u: Update, slot: u64, generation: u64) -> bool
     )
 }
 
-// Whether a permission update of the domain stands between the read place and the write place.
-pub fn queued(ring: Ring, slot: u64, generation: u64) -> bool
-    ensures { λ r. ⌜ r ≡ queuedOf ring slot generation ⌝ }
+// The place of the domain's permission update between the read place and the write place; the write place where there is none.
+pub fn place_of(ring: Ring, slot: u64, generation: u64) -> usize
+    ensures { λ r. ⌜ r ≡ placeOf ring slot generation ⌝ }
 {
     let write = ring.write;
     let size = ring.size;
@@ -137,27 +154,35 @@ pub fn queued(ring: Ring, slot: u64, generation: u64) -> bool
     let mut n = 0;
     while n < PLACES {
         if i == write {
-            return false;
+            return write;
         }
         if i >= PLACES {
-            return false;
+            return write;
         }
-        let u = ring.places[i];
-        if names(u, slot, generation) {
-            return true;
+        let e = ring.places[i];
+        if names(e.update, slot, generation) {
+            return i;
         }
         i = after(i, size);
         n += 1;
     }
-    false
+    write
 }
 
-// Queues the domain with its core map unless it is queued already.
-pub fn marked(ring: Ring, slot: u64, generation: u64, cores: u64) -> PushOut
-    ensures { λ r. ⌜ r ≡ markOf ring slot generation cores ⌝ }
+// Queues the domain with its core map and marks. Where it is queued already, the marks join those that it has, and nothing else
+// changes: no room is asked.
+pub fn queued(ring: Ring, slot: u64, generation: u64, cores: u64, marks: u64) -> PushOut
+    ensures { λ r. ⌜ r ≡ queueOf ring slot generation cores marks ⌝ }
 {
-    if queued(ring, slot, generation) {
-        return PushOut { ok: true, ring };
+    let at = place_of(ring, slot, generation);
+    if words::both(at != ring.write, at < PLACES) {
+        let mut r = ring;
+        let e = r.places[at];
+        r.places[at] = Entry {
+            update: e.update,
+            marks: e.marks | marks,
+        };
+        return PushOut { ok: true, ring: r };
     }
-    pushed(ring, permission(slot, generation, cores))
+    pushed(ring, permission(slot, generation, cores, marks))
 }

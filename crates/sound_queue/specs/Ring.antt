@@ -1,5 +1,5 @@
 -- The clauses about the ring (document 01, **Sound**): the ring's two places lie inside it; queued domains are live and queued singly. Places where
--- nothing is queued are all zero. Of n places, with read place r, update number j is the one j places behind r, going round.
+-- nothing is queued are all zero, and so are marks beside anything but a queued domain. Of n places, with read place r, update number j is the one j places behind r, going round.
 use Prim.Native.Nat.{ℕ, _+_, _-_, _%_}
 use mathlib.Core.Bool.{Bool, true, not}
 use lib.Dec.{eqb, ltb}
@@ -7,7 +7,7 @@ use Rattle.base.specs.Cases.{pick}
 use Rattle.base.specs.Tests.{both, allFrom}
 use Rattle.tables.specs.declared.Update.{Update}
 use Rattle.tables.specs.declared.Handle.{Handle}
-use Rattle.tables.specs.Tables.{Tables, updateAt}
+use Rattle.tables.specs.Tables.{Tables, updateAt, markAt}
 use Rattle.tables.specs.Kinds.{NOTHING, PERMISSION, CLEANUP}
 use Rattle.arena.specs.Arena.{liveB}
 
@@ -31,6 +31,10 @@ liveIn v u = pick (eqb (u .kind) PERMISSION) (liveB (v .domainPool) (handleAt u)
 unfoldable pub updateFits : Tables → Update → Bool → Bool
 updateFits v u queued = pick queued (both (wellFormedB u) (liveIn v u)) (clearB u)
 
+-- the marks beside an update: five bits beside a permission update, none elsewhere (document 02, request 4)
+unfoldable pub marksFit : Update → ℕ → Bool
+marksFit u m = pick (eqb (u .kind) PERMISSION) (ltb m 32) (eqb m 0)
+
 -- both are permission updates of the same handle: slot and generation
 unfoldable pub sameDomain : Update → Update → Bool
 sameDomain u x = both (both (eqb (u .kind) PERMISSION) (eqb (x .kind) PERMISSION)) (both (eqb (u .a) (x .a)) (eqb (u .b) (x .b)))
@@ -44,9 +48,12 @@ allIn p i e = allFrom p i (e - i)
 unfoldable pub numbered : Tables → ℕ → ℕ → ℕ → Update
 numbered v n r j = updateAt v ((r + j) % n)
 
+unfoldable pub markNumbered : Tables → ℕ → ℕ → ℕ → ℕ
+markNumbered v n r j = markAt v ((r + j) % n)
+
 -- the first m are queued
 unfoldable pub numbersHold : Tables → ℕ → ℕ → ℕ → Bool
-numbersHold v n r m = allIn (λ j. updateFits v (numbered v n r j) (ltb j m)) 0 n
+numbersHold v n r m = allIn (λ j. both (updateFits v (numbered v n r j) (ltb j m)) (marksFit (numbered v n r j) (markNumbered v n r j))) 0 n
 
 -- none from number j up to number m is of u's handle
 unfoldable pub noneSame : Tables → ℕ → ℕ → ℕ → Update → ℕ → Bool

@@ -2,7 +2,7 @@
 ghost use mathlib.Core.Path.{_≡_};
 ghost use Prim.Native.Nat.{_+_, _<_, _≤_};
 ghost use Rattle.tables.specs.View.{view, Sized};
-ghost use Rattle.sound_queue.specs.Ring.{numbered, numbersHold, noneSame, singly, queueHolds};
+ghost use Rattle.sound_queue.specs.Ring.{numbered, markNumbered, numbersHold, noneSame, singly, queueHolds};
 
 pub mod updates;
 
@@ -18,6 +18,16 @@ fn update_numbered(t: &[u64], n: usize, read: usize, j: usize) -> Update
     ring_rows::load_update(t, (read + j) % n)
 }
 
+// The marks beside it.
+fn marks_numbered(t: &[u64], n: usize, read: usize, j: usize) -> u64
+    requires { ⌜ Sized (now t) ⌝ }
+    requires { ⌜ 0 < n ⌝ }
+    requires { ⌜ read + j ≤ 65536 ⌝ }
+    ensures { λ m. ⌜ m ≡ markNumbered (view (now (t .entry))) n read j ⌝ }
+{
+    ring_rows::load_mark(t, (read + j) % n)
+}
+
 // Whether the first m updates hold, and the other places are clear.
 fn numbers_hold(t: &[u64], n: usize, read: usize, m: usize) -> bool
     requires { ⌜ Sized (now t) ⌝ }
@@ -27,8 +37,10 @@ fn numbers_hold(t: &[u64], n: usize, read: usize, m: usize) -> bool
     let mut j = 0;
     while j < n {
         let u = update_numbered(t, n, read, j);
+        let marks = marks_numbered(t, n, read, j);
         let fits = updates::update_fits(t, u, j < m);
-        if !fits {
+        let marked = updates::marks_fit(u, marks);
+        if !words::both(fits, marked) {
             return false;
         }
         j += 1;

@@ -1,7 +1,7 @@
 // One update of the ring, and two.
 ghost use mathlib.Core.Path.{_≡_};
 ghost use Rattle.tables.specs.View.{view, Sized};
-ghost use Rattle.sound_queue.specs.Ring.{clearB, wellFormedB, liveIn, updateFits, sameDomain};
+ghost use Rattle.sound_queue.specs.Ring.{clearB, wellFormedB, liveIn, updateFits, marksFit, sameDomain};
 use tables::Handle;
 use tables::Update;
 
@@ -47,6 +47,16 @@ pub fn update_fits(t: &[u64], u: Update, queued: bool) -> bool
         return words::both(well_formed, live);
     }
     is_clear(u)
+}
+
+// Whether the marks beside an update hold: five bits beside a permission update, none elsewhere (document 02, request 4).
+pub fn marks_fit(u: Update, marks: u64) -> bool
+    ensures { λ r. ⌜ r ≡ marksFit u marks ⌝ }
+{
+    if u.kind == Update::PERMISSION {
+        return marks < 32;
+    }
+    marks == 0
 }
 
 // Whether both are permission updates of the same handle.

@@ -1,5 +1,5 @@
 -- A record's six counts, raised and lowered (document 01, **Tracker**).
-use mathlib.Core.Bool.{Bool, not, _||_}
+use mathlib.Core.Bool.{Bool, not}
 use Prim.Native.Nat.{ℕ, _+_, _-_, _^_}
 use lib.Dec.{eqb, leb}
 use Rattle.rights.specs.Counters.{countersOf}
@@ -31,12 +31,18 @@ lowered rights q =
     let c = countersOf rights in
     record { start = q .start; end = q .end; «ref_count» = down (q .«ref_count») 1; «read_count» = down (q .«read_count») (c .«read_count»); «write_count» = down (q .«write_count») (c .«write_count»); «exec_count» = down (q .«exec_count») (c .«exec_count»); «super_count» = down (q .«super_count») (c .«super_count»); «uncache_count» = q .«uncache_count»; next = q .next }
 
--- a count left or came to 0 (the model's crosses and changes)
+-- a count left or came to 0 (the model's crosses)
 abbrev pub crossesB : ℕ → ℕ → Bool
 crossesB a b = pick (eqb a 0) (not (eqb b 0)) (eqb b 0)
 
-unfoldable pub changesB : Region → Region → Bool
-changesB p q = crossesB (p .«ref_count») (q .«ref_count») || crossesB (p .«read_count») (q .«read_count») || crossesB (p .«write_count») (q .«write_count») || crossesB (p .«exec_count») (q .«exec_count») || crossesB (p .«super_count») (q .«super_count»)
+-- its mark then, else 0
+abbrev pub markIf : ℕ → ℕ → ℕ → ℕ
+markIf a b mark = pick (crossesB a b) mark 0
+
+-- the marks of reach and the four rights, bits 0 to 4 (the model's crossings; document 02, request 4)
+unfoldable pub crossingsOf : Region → Region → ℕ
+crossingsOf p q =
+    markIf (p .«ref_count») (q .«ref_count») 1 + markIf (p .«read_count») (q .«read_count») 2 + markIf (p .«write_count») (q .«write_count») 4 + markIf (p .«exec_count») (q .«exec_count») 8 + markIf (p .«super_count») (q .«super_count») 16
 
 -- touching neighbours with six equal counts (the model's mergeable)
 unfoldable pub mergeableB : Region → Region → Bool

@@ -2,7 +2,7 @@
 ghost use mathlib.Core.Path.{_≡_};
 ghost use lib.Dec.{ltb};
 ghost use Rattle.base.specs.Cases.{pick};
-ghost use Rattle.tracker_records.specs.Counts.{up, down, raised, lowered, crossesB, changesB, mergeableB, made};
+ghost use Rattle.tracker_records.specs.Counts.{up, down, raised, lowered, crossesB, markIf, crossingsOf, mergeableB, made};
 use rights::Rights;
 use tables::Region;
 
@@ -86,23 +86,36 @@ fn crosses(a: u64, b: u64) -> bool
     if a == 0 { b != 0 } else { b == 0 }
 }
 
-// Whether one of the five counts left or came to 0.
-pub fn change(p: Region, q: Region) -> bool
-    ensures { λ r. ⌜ r ≡ changesB p q ⌝ }
+// ---- Marks (document 02, request 4)
+
+// of reach and the four rights, bits 0 to 4
+pub const REACH: u64 = 1;
+
+pub const READ: u64 = 2;
+
+pub const WRITE: u64 = 4;
+
+pub const EXEC: u64 = 8;
+
+pub const SUPER: u64 = 16;
+
+// The mark where the count went from a to b and so left or came to 0.
+fn mark_if(a: u64, b: u64, mark: u64) -> u64
+    ensures { λ r. ⌜ r ≡ markIf a b mark ⌝ }
 {
-    if crosses(p.ref_count, q.ref_count) {
-        return true;
-    }
-    if crosses(p.read_count, q.read_count) {
-        return true;
-    }
-    if crosses(p.write_count, q.write_count) {
-        return true;
-    }
-    if crosses(p.exec_count, q.exec_count) {
-        return true;
-    }
-    crosses(p.super_count, q.super_count)
+    if crosses(a, b) { mark } else { 0 }
+}
+
+// The marks of the counts that left or came to 0, from p's to q's.
+pub fn crossings(p: Region, q: Region) -> u64
+    ensures { λ r. ⌜ r ≡ crossingsOf p q ⌝ }
+{
+    let reach = mark_if(p.ref_count, q.ref_count, REACH);
+    let read = mark_if(p.read_count, q.read_count, READ);
+    let write = mark_if(p.write_count, q.write_count, WRITE);
+    let exec = mark_if(p.exec_count, q.exec_count, EXEC);
+    let own = mark_if(p.super_count, q.super_count, SUPER);
+    reach + read + write + exec + own
 }
 
 // Touching neighbours with six equal counts (`same_counts`).

@@ -21,19 +21,33 @@ use Rattle.update.specs.declared.Span.{Span}
 use Rattle.ring.specs.Ring.{cap}
 use Rattle.update.specs.Fitted.{fitted, fitted-empty, fitted-more}
 
+-- updates with their marks, place by place
+abbrev pub entries : List Update → List ℕ → List Entry
+entries [] ms = []
+entries (u ∷ us) [] = record { update = u; marks = 0 } ∷ entries us []
+entries (u ∷ us) (m ∷ ms) = record { update = u; marks = m } ∷ entries us ms
+
+abbrev pub updatesOf : List Entry → List Update
+updatesOf = map (λ (e : Entry). e .update)
+
+abbrev pub marksOf : List Entry → List ℕ
+marksOf = map (λ (e : Entry). e .marks)
+
 unfoldable pub ringOf : Tables → Ring
-ringOf s = record { places = fitted cap (s .ring); read = s .read; write = s .write; size = s .sizes .updates + 1 }
+ringOf s = record { places = fitted cap (entries (s .ring) (s .marks)); read = s .read; write = s .write; size = s .sizes .updates + 1 }
 
 unfoldable pub withRingOf : Tables → Ring → Tables
-withRingOf s r = withPlaces (withRing s (fitted (length (s .ring)) (r .places))) (r .read) (r .write)
+withRingOf s r =
+    let places = fitted (length (s .ring)) (r .places) in
+    withPlaces (withMarks (withRing s (updatesOf places)) (marksOf places)) (r .read) (r .write)
 
--- the ring of the words p, n places
-abbrev pub ringIn : ℕ → List ℕ → ℕ → ℕ → Ring
-ringIn n p i j = record { places = fitted cap (rows updateWidth n updateOf p); read = i; write = j; size = n }
+-- the ring of the words p and of the marks m, n places
+abbrev pub ringIn : ℕ → List ℕ → List ℕ → ℕ → ℕ → Ring
+ringIn n p m i j = record { places = fitted cap (entries (rows updateWidth n updateOf p) (rows markWidth n markOf m)); read = i; write = j; size = n }
 
 -- place i; nothing past the largest ring
-abbrev pub placeIn : Ring → ℕ → Update
-placeIn r i = pick (ltb i cap) (getD (r .places) i noUpdate) noUpdate
+abbrev pub placeIn : Ring → ℕ → Entry
+placeIn r i = pick (ltb i cap) (getD (r .places) i noEntry) noEntry
 
 -- ---- place by place
 

@@ -1,24 +1,28 @@
-// The ring in the tables: loaded, lent to the steps, and the place that a step can change stored.
+// The ring in the tables: loaded with its marks, lent to the steps, and the place that a step can change stored.
 ghost use mathlib.Core.Path.{_≡_};
 ghost use Prim.Native.Nat.{_+_, _*_, _≤_};
 ghost use lib.ListN.{length};
 ghost use Rattle.words.specs.Runs.{part};
-ghost use Rattle.sizes.specs.Sizes.{updateWidth};
-ghost use Rattle.tables.specs.Tables.{withPlaces, withUpdate};
+ghost use Rattle.sizes.specs.Sizes.{updateWidth, markWidth};
+ghost use Rattle.tables.specs.Tables.{withPlaces, withUpdate, withMark};
 ghost use Rattle.tables.specs.View.{view, Sized, Left, updateOf};
-ghost use Rattle.ring.specs.Ring.{cap, cleanupOf, pushOf, popOf, markOf};
+ghost use Rattle.ring.specs.Ring.{cap, cleanupOf, pushOf, popOf, queueOf};
 ghost use Rattle.update.specs.Stored.{ringOf, withRingOf, ringIn, placeIn, RingAt};
+use ring::Entry;
 use ring::Item;
 use ring::PLACES;
 use ring::Ring;
 use ring::cleanup;
+use sizes::MARK_WIDTH;
 use sizes::UPDATE_WIDTH;
 use tables::Update;
 
-// The words of the ring, from `start` up to `end`.
+// The words of the ring, from `start` up to `end`, and those of its marks.
 struct Span {
     start: usize,
     end: usize,
+    marks: usize,
+    marks_end: usize,
     places: usize,
 }
 
@@ -28,15 +32,18 @@ fn span_of(t: &[u64]) -> Span
 {
     let z = sizes::read_sizes(t);
     let start = sizes::ring_at(z);
+    let marks = sizes::marks_at(z);
     let places = z.updates + 1;
     Span {
         start,
         end: start + places * UPDATE_WIDTH,
+        marks,
+        marks_end: marks + places * MARK_WIDTH,
         places,
     }
 }
 
-// ---- In the words of the ring
+// ---- In the words of the ring, p, and of its marks, m
 
 fn read_update(p: &[u64], a: usize) -> Update
     requires { ⌜ a + updateWidth ≤ length (now p) ⌝ }
@@ -50,15 +57,19 @@ fn read_update(p: &[u64], a: usize) -> Update
     }
 }
 
-fn ring_in(p: &[u64], n: usize, read: usize, write: usize) -> Ring
+fn ring_in(p: &[u64], m: &[u64], n: usize, read: usize, write: usize) -> Ring
     requires { ⌜ length (now p) ≡ n * updateWidth ⌝ }
+    requires { ⌜ length (now m) ≡ n * markWidth ⌝ }
     requires { ⌜ n ≤ cap ⌝ }
-    ensures { λ r. ⌜ r ≡ ringIn n (now (p .entry)) read write ⌝ }
+    ensures { λ r. ⌜ r ≡ ringIn n (now (p .entry)) (now (m .entry)) read write ⌝ }
 {
-    let mut places = [tables::no_update(); PLACES];
+    let mut places = [ring::no_entry(); PLACES];
     let mut i = 0;
     while i < n {
-        places[i] = read_update(p, i * UPDATE_WIDTH);
+        places[i] = Entry {
+            update: read_update(p, i * UPDATE_WIDTH),
+            marks: m[i * MARK_WIDTH],
+        };
         i += 1;
     }
     Ring {
@@ -70,13 +81,13 @@ fn ring_in(p: &[u64], n: usize, read: usize, write: usize) -> Ring
 }
 
 // Place i; nothing past the largest ring.
-fn place_in(ring: Ring, i: usize) -> Update
+fn place_in(ring: Ring, i: usize) -> Entry
     ensures { λ r. ⌜ r ≡ placeIn ring i ⌝ }
 {
     if i < PLACES {
         ring.places[i]
     } else {
-        tables::no_update()
+        ring::no_entry()
     }
 }
 
@@ -91,27 +102,31 @@ pub fn load_ring(t: &[u64]) -> Ring
     let write = ring_rows::write_place(t) as usize;
     let a = s.start;
     let e = s.end;
-    ring_in(&t[a..e], s.places, read, write)
+    let b = s.marks;
+    let f = s.marks_end;
+    ring_in(&t[a..e], &t[b..f], s.places, read, write)
 }
 
-// Place i of the ring, and the two that the header names: a step changes no more than these.
+// Place i of the ring with its marks, and the two that the header names: a step changes no more than these.
 fn store_place(t: &mut [u64], i: usize, ring: Ring)
     requires { ⌜ Sized (now t) ⌝ }
-    ensures { λ _. ⌜ Left (now (t .exit)) (withPlaces (withUpdate (view (now (t .entry))) i (placeIn ring i)) (ring .read) (ring .write)) ⌝ }
+    ensures { λ _. ⌜ Left (now (t .exit)) (withPlaces (withMark (withUpdate (view (now (t .entry))) i (placeIn ring i .update)) i (placeIn ring i .marks)) (ring .read) (ring .write)) ⌝ }
 {
-    ring_rows::store_update(t, i, place_in(ring, i));
+    let e = place_in(ring, i);
+    ring_rows::store_update(t, i, e.update);
+    ring_rows::store_mark(t, i, e.marks);
     ring_rows::set_places(t, ring.read as u64, ring.write as u64);
 }
 
-// Queues the domain with its core map unless it is queued already; false where the ring is full.
-pub fn mark_domain(t: &mut [u64], slot: u64, generation: u64, cores: u64) -> bool
+// Queues the domain with its core map and marks, or gathers the marks where it is queued already; false where there is no room.
+pub fn queue_domain(t: &mut [u64], slot: u64, generation: u64, cores: u64, marks: u64) -> bool
     requires { ⌜ Sized (now t) ⌝ }
-    ensures { λ r. ⌜ (r ≡ markOf (ringOf (view (now (t .entry)))) slot generation cores .ok)
-        × Left (now (t .exit)) (withRingOf (view (now (t .entry))) (markOf (ringOf (view (now (t .entry)))) slot generation cores .ring)) ⌝ }
+    ensures { λ r. ⌜ (r ≡ queueOf (ringOf (view (now (t .entry)))) slot generation cores marks .ok)
+        × Left (now (t .exit)) (withRingOf (view (now (t .entry))) (queueOf (ringOf (view (now (t .entry)))) slot generation cores marks .ring)) ⌝ }
 {
     let ring = load_ring(t);
-    let at = ring.write;
-    let p = ring::mark_lent(ring, slot, generation, cores);
+    let at = ring::place_of(ring, slot, generation);
+    let p = ring::queue_lent(ring, slot, generation, cores, marks);
     store_place(t, at, p.ring);
     p.ok
 }
