@@ -28,6 +28,7 @@ empty z =
       ring = replicate (z .updates + 1) noUpdate;
       hashes = replicate (z .regions) noHash;
       interfaces = replicate (z .domains) noInterface;
+      marks = replicate (z .updates + 1) 0;
     }
 
 -- sized words of empty tables but for the pools
@@ -42,3 +43,4 @@ pub record Blank (z : Sizes) (t : List ℕ) : Type 0 where
   pub ring : view t .ring ≡ replicate (z .updates + 1) noUpdate
   pub hashes : view t .hashes ≡ replicate (z .regions) noHash
   pub interfaces : view t .interfaces ≡ replicate (z .domains) noInterface
+  pub marks : view t .marks ≡ replicate (z .updates + 1) 0

@@ -11,8 +11,8 @@ use Rattle.words.specs.Zeros.{zeros, take-zeros, drop-zeros, rows-zeros, cuts-z
 use Rattle.sizes.specs.declared.Sizes.{Sizes}
 use Rattle.tables.specs.Tables.{Tables, withDomainPool, withRegionPool, withRecordPool}
 use Rattle.sizes.specs.Limits.{Limits}
-use Rattle.sizes.specs.Sizes.{sections, sizesOf, widths, stride, total, headerWidth, headWidth, slotWidth, regionWidth, recordWidth, updateWidth, hashWidth, interfaceWidth}
-use Rattle.tables.specs.View.{view, ofParts, Left, layout, domainOf, slotOf, regionOf, recordOf, updateOf, hashOf, interfaceOf}
+use Rattle.sizes.specs.Sizes.{sections, sizesOf, widths, stride, total, headerWidth, headWidth, slotWidth, regionWidth, recordWidth, updateWidth, hashWidth, interfaceWidth, markWidth}
+use Rattle.tables.specs.View.{view, ofParts, Left, layout, domainOf, slotOf, regionOf, recordOf, updateOf, hashOf, interfaceOf, markOf}
 use Rattle.tables.specs.Header.{read-is, write-is, sizes-seen}
 use Rattle.tables.specs.Layout.{words-are}
 use Rattle.arena.specs.Arena.{newArena}
@@ -87,6 +87,7 @@ module _ (z : Sizes) (l : Limits z) (m : List ℕ) (t : List ℕ) (cleared : m �
         ring = ap (λ (x : Tables). x .ring) seen ∙ rows-zeros updateWidth (z .updates + 1) updateOf;
         hashes = ap (λ (x : Tables). x .hashes) seen ∙ rows-zeros hashWidth (z .regions) hashOf;
         interfaces = ap (λ (x : Tables). x .interfaces) seen ∙ rows-zeros interfaceWidth (z .domains) interfaceOf;
+        marks = ap (λ (x : Tables). x .marks) seen ∙ rows-zeros markWidth (z .updates + 1) markOf;
       }
 
 -- ---- three new pools
@@ -100,5 +101,5 @@ unfolding withDomainPool withRegionPool withRecordPool empty
 made z t₁ t₂ t₃ t₄ b l₂ l₃ l₄ =
     let z₂ : sizesOf t₂ ≡ z = sym (sizes-seen t₂) ∙ ap (λ (x : Tables). x .sizes) (l₂ .seen) ∙ sizes-seen t₁ ∙ b .sizes in
     let z₃ : sizesOf t₃ ≡ z = sym (sizes-seen t₃) ∙ ap (λ (x : Tables). x .sizes) (l₃ .seen) ∙ sizes-seen t₂ ∙ z₂ in
-    let all : view t₄ ≡ empty z = l₄ .seen ∙ rw (z₃, l₃ .seen, z₂, l₂ .seen, sizes-seen t₁, b .sizes, b .read, b .write, b .domains, b .regions, b .records, b .ring, b .hashes, b .interfaces) in
+    let all : view t₄ ≡ empty z = l₄ .seen ∙ rw (z₃, l₃ .seen, z₂, l₂ .seen, sizes-seen t₁, b .sizes, b .read, b .write, b .domains, b .regions, b .records, b .ring, b .hashes, b .interfaces, b .marks) in
     words-are t₄ (empty z) (record { seen = all; sized = l₄ .sized })

@@ -1,10 +1,11 @@
-// The update ring: its places, and the two that the header names.
+// The update ring: its places, their marks, and the two that the header names.
 ghost use mathlib.Core.Path.{_≡_};
 ghost use lib.ListN.{length};
 ghost use Rattle.sizes.specs.Sizes.{updateWidth};
-ghost use Rattle.tables.specs.Tables.{updateAt, withUpdate, withPlaces};
+ghost use Rattle.tables.specs.Tables.{updateAt, markAt, withUpdate, withMark, withPlaces};
 ghost use Rattle.tables.specs.View.{view, Sized, Left, updateOf};
-ghost use Rattle.tables.specs.Accessors.{updatePlace};
+ghost use Rattle.tables.specs.Accessors.{updatePlace, markPlace};
+use sizes::MARK_WIDTH;
 use sizes::UPDATE_WIDTH;
 use tables::Update;
 
@@ -46,6 +47,29 @@ pub fn store_update(t: &mut [u64], i: usize, u: Update)
 {
     let a = update_at(t, i);
     words::store(t, a, &[u.kind, u.a, u.b, u.c]);
+}
+
+fn mark_at(t: &[u64], i: usize) -> usize
+    requires { ⌜ Sized (now t) ⌝ }
+    ensures { λ r. ⌜ r ≡ markPlace (now (t .entry)) i ⌝ }
+{
+    let z = sizes::read_sizes(t);
+    tables::rows::row_at(t, sizes::marks_at(z), z.updates + 1, MARK_WIDTH, i)
+}
+
+pub fn load_mark(t: &[u64], i: usize) -> u64
+    requires { ⌜ Sized (now t) ⌝ }
+    ensures { λ r. ⌜ r ≡ markAt (view (now (t .entry))) i ⌝ }
+{
+    words::word(t, mark_at(t, i))
+}
+
+pub fn store_mark(t: &mut [u64], i: usize, m: u64)
+    requires { ⌜ Sized (now t) ⌝ }
+    ensures { λ _. ⌜ Left (now (t .exit)) (withMark (view (now (t .entry))) i m) ⌝ }
+{
+    let a = mark_at(t, i);
+    words::put(t, a, m);
 }
 
 pub fn read_place(t: &[u64]) -> u64

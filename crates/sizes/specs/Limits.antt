@@ -6,7 +6,7 @@ use borrow.Author.Tests.{leb-true, le-leb}
 use lib.Dec.{leb}
 use Rattle.base.specs.Tests.{both, both-true}
 use Rattle.sizes.specs.declared.Sizes.{Sizes}
-use Rattle.sizes.specs.Sizes.{headerWidth, headWidth, slotWidth, regionWidth, recordWidth, updateWidth, hashWidth, interfaceWidth, poolWidth}
+use Rattle.sizes.specs.Sizes.{headerWidth, headWidth, slotWidth, regionWidth, recordWidth, updateWidth, hashWidth, interfaceWidth, markWidth, poolWidth}
 
 abbrev pub mostDomains : ℕ
 mostDomains = 32
@@ -26,7 +26,7 @@ mostUpdates = 128
 -- the words of the largest tables
 abbrev pub mostWords : ℕ
 mostWords =
-    headerWidth + (poolWidth mostDomains + poolWidth mostRegions + poolWidth mostRecords) + mostDomains * (headWidth + mostSlots * slotWidth) + mostRegions * regionWidth + mostRecords * recordWidth + (mostUpdates + 1) * updateWidth + mostRegions * hashWidth + mostDomains * interfaceWidth
+    headerWidth + (poolWidth mostDomains + poolWidth mostRegions + poolWidth mostRecords) + mostDomains * (headWidth + mostSlots * slotWidth) + mostRegions * regionWidth + mostRecords * recordWidth + (mostUpdates + 1) * updateWidth + mostRegions * hashWidth + mostDomains * interfaceWidth + (mostUpdates + 1) * markWidth
 
 pub record Limits (z : Sizes) : Type 0 where
   pub domains-low : 1 ≤ z .domains

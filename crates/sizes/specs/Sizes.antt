@@ -9,7 +9,7 @@ unfoldable pub sizesOf : List ℕ → Sizes
 sizesOf t = record { domains = getD t 0 0; slots = getD t 1 0; regions = getD t 2 0; records = getD t 3 0; updates = getD t 4 0 }
 
 -- ---- how many words each has: the header; a domain before its slots; a slot; a region; a tracker record; a ring place; a region's hash;
--- a domain's interface
+-- a domain's interface; a ring place's marks
 
 abbrev pub headerWidth : ℕ
 headerWidth = 7
@@ -35,6 +35,9 @@ hashWidth = 5
 abbrev pub interfaceWidth : ℕ
 interfaceWidth = 2
 
+abbrev pub markWidth : ℕ
+markWidth = 1
+
 -- a domain with its slots
 abbrev pub stride : Sizes → ℕ
 stride z = headWidth + z .slots * slotWidth
@@ -51,7 +54,7 @@ writeWord = 6
 
 -- how many sections there are
 abbrev pub sections : ℕ
-sections = 10
+sections = 11
 
 -- the place of each in their order
 abbrev pub headerSection : ℕ
@@ -84,10 +87,13 @@ hashSection = 8
 abbrev pub interfaceSection : ℕ
 interfaceSection = 9
 
+abbrev pub markSection : ℕ
+markSection = 10
+
 -- their widths
 abbrev pub widths : Sizes → List ℕ
 widths z =
-    headerWidth ∷ poolWidth (z .domains) ∷ poolWidth (z .regions) ∷ poolWidth (z .records) ∷ (z .domains * stride z) ∷ (z .regions * regionWidth) ∷ (z .records * recordWidth) ∷ ((z .updates + 1) * updateWidth) ∷ (z .regions * hashWidth) ∷ (z .domains * interfaceWidth) ∷ []
+    headerWidth ∷ poolWidth (z .domains) ∷ poolWidth (z .regions) ∷ poolWidth (z .records) ∷ (z .domains * stride z) ∷ (z .regions * regionWidth) ∷ (z .records * recordWidth) ∷ ((z .updates + 1) * updateWidth) ∷ (z .regions * hashWidth) ∷ (z .domains * interfaceWidth) ∷ ((z .updates + 1) * markWidth) ∷ []
 
 unfoldable pub total : Sizes → ℕ
 unfolding offset

@@ -3,7 +3,7 @@ ghost use mathlib.Core.Path.{_≡_};
 ghost use Rattle.words.specs.Cuts.{offset};
 ghost use Rattle.sizes.specs.Limits.{Limits, withinB, limitsB};
 ghost use Rattle.sizes.specs.Tests.{sizedB};
-ghost use Rattle.sizes.specs.Sizes.{sizesOf, stride, regionPoolSection, recordPoolSection, domainsSection, regionsSection, recordsSection, ringSection, hashSection, interfaceSection, widths, total};
+ghost use Rattle.sizes.specs.Sizes.{sizesOf, stride, regionPoolSection, recordPoolSection, domainsSection, regionsSection, recordsSection, ringSection, hashSection, interfaceSection, markSection, widths, total};
 
 // ---- The header's words: five sizes, and the ring's two places
 
@@ -22,7 +22,7 @@ pub const READ: usize = 5;
 pub const WRITE: usize = 6;
 
 // ---- How many words each has: the header; a domain before its slots; a slot; a region; a tracker record; a ring place; a
-// region's hash; a domain's interface
+// region's hash; a domain's interface; a ring place's marks
 
 pub const HEADER_WIDTH: usize = 7;
 
@@ -42,6 +42,8 @@ pub const UPDATE_WIDTH: usize = 4;
 pub const HASH_WIDTH: usize = 5;
 
 pub const INTERFACE_WIDTH: usize = 2;
+
+pub const MARK_WIDTH: usize = 1;
 
 // ---- The limits, and the words of the largest tables
 
@@ -63,7 +65,8 @@ pub const MOST_WORDS: usize = HEADER_WIDTH
     + MOST_RECORDS * RECORD_WIDTH
     + (MOST_UPDATES + 1) * UPDATE_WIDTH
     + MOST_REGIONS * HASH_WIDTH
-    + MOST_DOMAINS * INTERFACE_WIDTH;
+    + MOST_DOMAINS * INTERFACE_WIDTH
+    + (MOST_UPDATES + 1) * MARK_WIDTH;
 
 // How many of each the tables hold; `slots` in each domain.
 pub struct Sizes {
@@ -170,11 +173,18 @@ pub fn interfaces_at(z: Sizes) -> usize
     hashes_at(z) + z.regions * HASH_WIDTH
 }
 
+pub fn marks_at(z: Sizes) -> usize
+    requires { ⌜ Limits z ⌝ }
+    ensures { λ r. ⌜ r ≡ offset (widths z) markSection ⌝ }
+{
+    interfaces_at(z) + z.domains * INTERFACE_WIDTH
+}
+
 pub fn total_of(z: Sizes) -> usize
     requires { ⌜ Limits z ⌝ }
     ensures { λ r. ⌜ r ≡ total z ⌝ }
 {
-    interfaces_at(z) + z.domains * INTERFACE_WIDTH
+    marks_at(z) + (z.updates + 1) * MARK_WIDTH
 }
 
 // Whether the words are as many as the sizes in their header ask.

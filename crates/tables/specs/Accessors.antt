@@ -1,18 +1,21 @@
--- Regions, tracker records, the ring, hashes and interfaces are tables of whole rows: what loading and storing one is in the view.
-use mathlib.Core.Path.{_≡_, refl, ap}
+-- Regions, tracker records, the ring, hashes, interfaces and marks are tables of whole rows: what loading and storing one is in the view.
+use mathlib.Core.Path.{_≡_, refl, sym, ap, _∙_}
 use mathlib.Core.List.{List}
 use Prim.Native.Nat.{ℕ, _+_, _-_}
 use native.Mathlib.Omega.{arith}
-use Rattle.words.specs.Runs.{fetched, stored}
+use lib.ListN.{length, getD, set, List·getD-eq-default}
+use lib.Seq.{set-out}
+use Rattle.base.specs.Cases.{cmp, lt, ge}
+use Rattle.words.specs.Runs.{fetched, fetched-in, fetched-out, stored, stored-in, stored-out, part-at}
 use Rattle.words.specs.Cuts.{cuts}
 use Rattle.tables.specs.declared.RegionCapa.{RegionCapa}
 use Rattle.tables.specs.declared.Region.{Region}
 use Rattle.tables.specs.declared.Update.{Update}
 use Rattle.tables.specs.declared.RegionHash.{RegionHash}
 use Rattle.tables.specs.declared.Interface.{Interface}
-use Rattle.tables.specs.Tables.{regionAt, recordAt, updateAt, hashAt, interfaceAt, withRegions, withRecords, withRing, withHashes, withInterfaces, withRegion, withRecord, withUpdate, withHash, withInterface}
-use Rattle.sizes.specs.Sizes.{sizesOf, regionWidth, recordWidth, updateWidth, hashWidth, interfaceWidth, regionsSection, recordsSection, ringSection, hashSection, interfaceSection}
-use Rattle.tables.specs.View.{view, ofParts, Sized, Left, regionOf, regionWords, recordOf, recordWords, updateOf, updateWords, hashOf, hashWords, interfaceOf, interfaceWords}
+use Rattle.tables.specs.Tables.{regionAt, recordAt, updateAt, hashAt, interfaceAt, markAt, withRegions, withRecords, withRing, withHashes, withInterfaces, withMarks, withRegion, withRecord, withUpdate, withHash, withInterface, withMark}
+use Rattle.sizes.specs.Sizes.{sizesOf, regionWidth, recordWidth, updateWidth, hashWidth, interfaceWidth, markWidth, regionsSection, recordsSection, ringSection, hashSection, interfaceSection, markSection}
+use Rattle.tables.specs.View.{view, ofParts, Sized, Left, regionOf, regionWords, recordOf, recordWords, updateOf, updateWords, hashOf, hashWords, interfaceOf, interfaceWords, markOf, markWords}
 use Rattle.tables.specs.Sections.{only-left}
 use Rattle.tables.specs.Rows.{placed, row-loaded, row-replaced}
 
@@ -31,7 +34,26 @@ hashPlace t i = placed t hashSection (sizesOf t .regions) hashWidth i
 abbrev pub interfacePlace : List ℕ → ℕ → ℕ
 interfacePlace t i = placed t interfaceSection (sizesOf t .domains) interfaceWidth i
 
--- ---- regions, tracker records, the ring, hashes, interfaces: whole rows
+abbrev pub markPlace : List ℕ → ℕ → ℕ
+markPlace t i = placed t markSection (sizesOf t .updates + 1) markWidth i
+
+-- ---- a row of one word: its word alone is fetched and stored
+
+word-fetched : (t : List ℕ) (a : ℕ) → markOf (fetched t a markWidth) ≡ getD t a 0
+word-fetched t a =
+    elim (cmp (length t) (a + 1)) [
+      | lt h ↦ ap markOf (fetched-out t a 1 h) ∙ sym (List·getD-eq-default t 0 {n = a} (omega arith))
+      | ge h ↦ ap markOf (fetched-in t a 1 h) ∙ part-at t a 1 0 (omega arith) ∙ ap (λ (k : ℕ). getD t k 0) (omega arith)
+    ]
+
+word-stored : (t : List ℕ) (a m : ℕ) → set t a m ≡ stored t a (markWords m)
+word-stored t a m =
+    elim (cmp (length t) (a + 1)) [
+      | lt h ↦ set-out t a m (omega arith) ∙ sym (stored-out t a (markWords m) h)
+      | ge h ↦ sym (stored-in t a (markWords m) h)
+    ]
+
+-- ---- regions, tracker records, the ring, hashes, interfaces, marks: whole rows
 
 module _ (t : List ℕ) (s : Sized t) (i a : ℕ) where
   pub region-loaded : (p : List ℕ) → a ≡ regionPlace t i → p ≡ fetched t a regionWidth → regionOf p ≡ regionAt (view t) i
@@ -53,6 +75,10 @@ module _ (t : List ℕ) (s : Sized t) (i a : ℕ) where
   pub interface-loaded : (p : List ℕ) → a ≡ interfacePlace t i → p ≡ fetched t a interfaceWidth → interfaceOf p ≡ interfaceAt (view t) i
   unfolding interfaceAt view ofParts
   interface-loaded p e ep = rw (ep, e) (row-loaded t (interfaceSection - 1) (sizesOf t .domains) interfaceWidth s (omega arith) refl interfaceOf i (omega arith))
+
+  pub mark-loaded : a ≡ markPlace t i → getD t a 0 ≡ markAt (view t) i
+  unfolding markAt view ofParts
+  mark-loaded e = sym (word-fetched t a) ∙ rw e (row-loaded t (markSection - 1) (sizesOf t .updates + 1) markWidth s (omega arith) refl markOf i (omega arith))
 
   pub region-stored : (u : List ℕ) (r : RegionCapa) → a ≡ regionPlace t i → u ≡ stored t a (regionWords r) → Left u (withRegion (view t) i r)
   unfolding view ofParts cuts withRegion withRegions
@@ -83,3 +109,9 @@ module _ (t : List ℕ) (s : Sized t) (i a : ℕ) where
   interface-stored u x e eu =
       let q = row-replaced t (interfaceSection - 1) (sizesOf t .domains) interfaceWidth s (omega arith) refl interfaceOf u (interfaceWords x) i refl (omega arith) (rw e at eu) in
       only-left t u interfaceSection (withInterface (view t) i x) s (q .0) (ap (withInterfaces (view t)) (q .1))
+
+  pub mark-stored : (u : List ℕ) (m : ℕ) → a ≡ markPlace t i → u ≡ set t a m → Left u (withMark (view t) i m)
+  unfolding view ofParts cuts withMark withMarks
+  mark-stored u m e eu =
+      let q = row-replaced t (markSection - 1) (sizesOf t .updates + 1) markWidth s (omega arith) refl markOf u (markWords m) i refl (omega arith) (rw e at (eu ∙ word-stored t a m)) in
+      only-left t u markSection (withMark (view t) i m) s (q .0) (ap (withMarks (view t)) (q .1))

@@ -9,8 +9,8 @@ use Rattle.words.specs.Runs.{part}
 use Rattle.words.specs.Rows.{rows, flat, flat-rows, spell, spelled, spell-drop}
 use Rattle.words.specs.Cuts.{cuts, join, join-cuts, offset}
 use Rattle.tables.specs.Tables.{Tables}
-use Rattle.sizes.specs.Sizes.{sizesOf, widths, stride, total, headerSection, domainPoolSection, regionPoolSection, recordPoolSection, domainsSection, regionsSection, recordsSection, ringSection, hashSection, interfaceSection}
-use Rattle.tables.specs.View.{view, ofParts, Sized, Left, headOf, headWords, slotOf, slotWords, regionOf, regionWords, recordOf, recordWords, updateOf, updateWords, hashOf, hashWords, interfaceOf, interfaceWords, domainOf, domainWords, arenaOf, arenaWords, headerWords, partsOf, layout}
+use Rattle.sizes.specs.Sizes.{sizesOf, widths, stride, total, headerSection, domainPoolSection, regionPoolSection, recordPoolSection, domainsSection, regionsSection, recordsSection, ringSection, hashSection, interfaceSection, markSection}
+use Rattle.tables.specs.View.{view, ofParts, Sized, Left, headOf, headWords, slotOf, slotWords, regionOf, regionWords, recordOf, recordWords, updateOf, updateWords, hashOf, hashWords, interfaceOf, interfaceWords, markOf, markWords, domainOf, domainWords, arenaOf, arenaWords, headerWords, partsOf, layout}
 use Rattle.tables.specs.Sections.{section, section-length}
 
 region-back : (p : List ℕ) → length p ≡ 8 → regionWords (regionOf p) ≡ p
@@ -36,6 +36,10 @@ hash-back p h = spelled p 5 h
 interface-back : (p : List ℕ) → length p ≡ 2 → interfaceWords (interfaceOf p) ≡ p
 unfolding spell
 interface-back p h = spelled p 2 h
+
+mark-back : (p : List ℕ) → length p ≡ 1 → markWords (markOf p) ≡ p
+unfolding spell
+mark-back p h = spelled p 1 h
 
 domain-back : (n : ℕ) (p : List ℕ) → length p ≡ 5 + n * 3 → domainWords (domainOf n p) ≡ p
 unfolding domainWords domainOf spell
@@ -71,7 +75,8 @@ parts-back t s =
     let e₇ : flat updateWords (rows 4 (z .updates + 1) updateOf (section t ringSection)) ≡ section t ringSection = flat-rows 4 (z .updates + 1) updateOf updateWords update-back (section t ringSection) (section-length t ringSection s) in
     let e₈ : flat hashWords (rows 5 (z .regions) hashOf (section t hashSection)) ≡ section t hashSection = flat-rows 5 (z .regions) hashOf hashWords hash-back (section t hashSection) (section-length t hashSection s) in
     let e₉ : flat interfaceWords (rows 2 (z .domains) interfaceOf (section t interfaceSection)) ≡ section t interfaceSection = flat-rows 2 (z .domains) interfaceOf interfaceWords interface-back (section t interfaceSection) (section-length t interfaceSection s) in
-    λ i. e₀ i ∷ e₁ i ∷ e₂ i ∷ e₃ i ∷ e₄ i ∷ e₅ i ∷ e₆ i ∷ e₇ i ∷ e₈ i ∷ e₉ i ∷ []
+    let e₁₀ : flat markWords (rows 1 (z .updates + 1) markOf (section t markSection)) ≡ section t markSection = flat-rows 1 (z .updates + 1) markOf markWords mark-back (section t markSection) (section-length t markSection s) in
+    λ i. e₀ i ∷ e₁ i ∷ e₂ i ∷ e₃ i ∷ e₄ i ∷ e₅ i ∷ e₆ i ∷ e₇ i ∷ e₈ i ∷ e₉ i ∷ e₁₀ i ∷ []
 
 pub layout-view : (t : List ℕ) → Sized t → layout (view t) ≡ t
 unfolding layout total

@@ -23,7 +23,7 @@ pub record Domain : Type 0 where
   pub head : DomainHead
   pub slots : List Slot
 
--- `read` and `write` are the ring's two places
+-- `read` and `write` are the ring's two places; `marks` has a word for each place of the ring
 pub record Tables : Type 0 where
   pub sizes : Sizes
   pub read : ℕ
@@ -37,6 +37,7 @@ pub record Tables : Type 0 where
   pub ring : List Update
   pub hashes : List RegionHash
   pub interfaces : List Interface
+  pub marks : List ℕ
 
 -- ---- the records that are all zero
 
@@ -92,47 +93,54 @@ hashAt s i = getD (s .hashes) i noHash
 unfoldable pub interfaceAt : Tables → ℕ → Interface
 interfaceAt s i = getD (s .interfaces) i noInterface
 
+unfoldable pub markAt : Tables → ℕ → ℕ
+markAt s i = getD (s .marks) i 0
+
 -- ---- one field changed
 
 unfoldable pub withPlaces : Tables → ℕ → ℕ → Tables
 withPlaces s r w =
-    record { sizes = s .sizes; read = r; write = w; domainPool = s .domainPool; regionPool = s .regionPool; recordPool = s .recordPool; domains = s .domains; regions = s .regions; records = s .records; ring = s .ring; hashes = s .hashes; interfaces = s .interfaces }
+    record { sizes = s .sizes; read = r; write = w; domainPool = s .domainPool; regionPool = s .regionPool; recordPool = s .recordPool; domains = s .domains; regions = s .regions; records = s .records; ring = s .ring; hashes = s .hashes; interfaces = s .interfaces; marks = s .marks }
 
 unfoldable pub withDomainPool : Tables → Arena → Tables
 withDomainPool s a =
-    record { sizes = s .sizes; read = s .read; write = s .write; domainPool = a; regionPool = s .regionPool; recordPool = s .recordPool; domains = s .domains; regions = s .regions; records = s .records; ring = s .ring; hashes = s .hashes; interfaces = s .interfaces }
+    record { sizes = s .sizes; read = s .read; write = s .write; domainPool = a; regionPool = s .regionPool; recordPool = s .recordPool; domains = s .domains; regions = s .regions; records = s .records; ring = s .ring; hashes = s .hashes; interfaces = s .interfaces; marks = s .marks }
 
 unfoldable pub withRegionPool : Tables → Arena → Tables
 withRegionPool s a =
-    record { sizes = s .sizes; read = s .read; write = s .write; domainPool = s .domainPool; regionPool = a; recordPool = s .recordPool; domains = s .domains; regions = s .regions; records = s .records; ring = s .ring; hashes = s .hashes; interfaces = s .interfaces }
+    record { sizes = s .sizes; read = s .read; write = s .write; domainPool = s .domainPool; regionPool = a; recordPool = s .recordPool; domains = s .domains; regions = s .regions; records = s .records; ring = s .ring; hashes = s .hashes; interfaces = s .interfaces; marks = s .marks }
 
 unfoldable pub withRecordPool : Tables → Arena → Tables
 withRecordPool s a =
-    record { sizes = s .sizes; read = s .read; write = s .write; domainPool = s .domainPool; regionPool = s .regionPool; recordPool = a; domains = s .domains; regions = s .regions; records = s .records; ring = s .ring; hashes = s .hashes; interfaces = s .interfaces }
+    record { sizes = s .sizes; read = s .read; write = s .write; domainPool = s .domainPool; regionPool = s .regionPool; recordPool = a; domains = s .domains; regions = s .regions; records = s .records; ring = s .ring; hashes = s .hashes; interfaces = s .interfaces; marks = s .marks }
 
 unfoldable pub withDomains : Tables → List Domain → Tables
 withDomains s ds =
-    record { sizes = s .sizes; read = s .read; write = s .write; domainPool = s .domainPool; regionPool = s .regionPool; recordPool = s .recordPool; domains = ds; regions = s .regions; records = s .records; ring = s .ring; hashes = s .hashes; interfaces = s .interfaces }
+    record { sizes = s .sizes; read = s .read; write = s .write; domainPool = s .domainPool; regionPool = s .regionPool; recordPool = s .recordPool; domains = ds; regions = s .regions; records = s .records; ring = s .ring; hashes = s .hashes; interfaces = s .interfaces; marks = s .marks }
 
 unfoldable pub withRegions : Tables → List RegionCapa → Tables
 withRegions s rs =
-    record { sizes = s .sizes; read = s .read; write = s .write; domainPool = s .domainPool; regionPool = s .regionPool; recordPool = s .recordPool; domains = s .domains; regions = rs; records = s .records; ring = s .ring; hashes = s .hashes; interfaces = s .interfaces }
+    record { sizes = s .sizes; read = s .read; write = s .write; domainPool = s .domainPool; regionPool = s .regionPool; recordPool = s .recordPool; domains = s .domains; regions = rs; records = s .records; ring = s .ring; hashes = s .hashes; interfaces = s .interfaces; marks = s .marks }
 
 unfoldable pub withRecords : Tables → List Region → Tables
 withRecords s rs =
-    record { sizes = s .sizes; read = s .read; write = s .write; domainPool = s .domainPool; regionPool = s .regionPool; recordPool = s .recordPool; domains = s .domains; regions = s .regions; records = rs; ring = s .ring; hashes = s .hashes; interfaces = s .interfaces }
+    record { sizes = s .sizes; read = s .read; write = s .write; domainPool = s .domainPool; regionPool = s .regionPool; recordPool = s .recordPool; domains = s .domains; regions = s .regions; records = rs; ring = s .ring; hashes = s .hashes; interfaces = s .interfaces; marks = s .marks }
 
 unfoldable pub withRing : Tables → List Update → Tables
 withRing s us =
-    record { sizes = s .sizes; read = s .read; write = s .write; domainPool = s .domainPool; regionPool = s .regionPool; recordPool = s .recordPool; domains = s .domains; regions = s .regions; records = s .records; ring = us; hashes = s .hashes; interfaces = s .interfaces }
+    record { sizes = s .sizes; read = s .read; write = s .write; domainPool = s .domainPool; regionPool = s .regionPool; recordPool = s .recordPool; domains = s .domains; regions = s .regions; records = s .records; ring = us; hashes = s .hashes; interfaces = s .interfaces; marks = s .marks }
 
 unfoldable pub withHashes : Tables → List RegionHash → Tables
 withHashes s hs =
-    record { sizes = s .sizes; read = s .read; write = s .write; domainPool = s .domainPool; regionPool = s .regionPool; recordPool = s .recordPool; domains = s .domains; regions = s .regions; records = s .records; ring = s .ring; hashes = hs; interfaces = s .interfaces }
+    record { sizes = s .sizes; read = s .read; write = s .write; domainPool = s .domainPool; regionPool = s .regionPool; recordPool = s .recordPool; domains = s .domains; regions = s .regions; records = s .records; ring = s .ring; hashes = hs; interfaces = s .interfaces; marks = s .marks }
 
 unfoldable pub withInterfaces : Tables → List Interface → Tables
 withInterfaces s xs =
-    record { sizes = s .sizes; read = s .read; write = s .write; domainPool = s .domainPool; regionPool = s .regionPool; recordPool = s .recordPool; domains = s .domains; regions = s .regions; records = s .records; ring = s .ring; hashes = s .hashes; interfaces = xs }
+    record { sizes = s .sizes; read = s .read; write = s .write; domainPool = s .domainPool; regionPool = s .regionPool; recordPool = s .recordPool; domains = s .domains; regions = s .regions; records = s .records; ring = s .ring; hashes = s .hashes; interfaces = xs; marks = s .marks }
+
+unfoldable pub withMarks : Tables → List ℕ → Tables
+withMarks s ms =
+    record { sizes = s .sizes; read = s .read; write = s .write; domainPool = s .domainPool; regionPool = s .regionPool; recordPool = s .recordPool; domains = s .domains; regions = s .regions; records = s .records; ring = s .ring; hashes = s .hashes; interfaces = s .interfaces; marks = ms }
 
 -- ---- a region with one field changed
 
@@ -173,3 +181,6 @@ withHash s i h = withHashes s (set (s .hashes) i h)
 
 unfoldable pub withInterface : Tables → ℕ → Interface → Tables
 withInterface s i x = withInterfaces s (set (s .interfaces) i x)
+
+unfoldable pub withMark : Tables → ℕ → ℕ → Tables
+withMark s i m = withMarks s (set (s .marks) i m)

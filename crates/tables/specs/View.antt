@@ -16,7 +16,7 @@ use Rattle.tables.specs.declared.RegionHash.{RegionHash}
 use Rattle.tables.specs.declared.Interface.{Interface}
 use Rattle.tables.specs.Tables.{Tables, Domain, Arena}
 use Rattle.sizes.specs.Limits.{Limits}
-use Rattle.sizes.specs.Sizes.{sizesOf, readWord, writeWord, headWidth, slotWidth, regionWidth, recordWidth, updateWidth, hashWidth, interfaceWidth, stride, headerSection, domainPoolSection, regionPoolSection, recordPoolSection, domainsSection, regionsSection, recordsSection, ringSection, hashSection, interfaceSection, widths, total}
+use Rattle.sizes.specs.Sizes.{sizesOf, readWord, writeWord, headWidth, slotWidth, regionWidth, recordWidth, updateWidth, hashWidth, interfaceWidth, markWidth, stride, headerSection, domainPoolSection, regionPoolSection, recordPoolSection, domainsSection, regionsSection, recordsSection, ringSection, hashSection, interfaceSection, markSection, widths, total}
 
 -- ---- a record in its words
 
@@ -43,6 +43,9 @@ hashOf p = record { given = getD p 0 0; word0 = getD p 1 0; word1 = getD p 2 0; 
 abbrev pub interfaceOf : List ℕ → Interface
 interfaceOf p = record { word = getD p 0 0; frozen = getD p 1 0 }
 
+abbrev pub markOf : List ℕ → ℕ
+markOf p = getD p 0 0
+
 -- a pool over n slots
 unfoldable pub arenaOf : ℕ → List ℕ → Arena
 arenaOf n p = record { head = getD p 0 0; count = getD p 1 0; links = part p 2 n; gens = part p (2 + n) n }
@@ -68,6 +71,7 @@ ofParts z ps =
       ring = rows updateWidth (z .updates + 1) updateOf (getD ps ringSection []);
       hashes = rows hashWidth (z .regions) hashOf (getD ps hashSection []);
       interfaces = rows interfaceWidth (z .domains) interfaceOf (getD ps interfaceSection []);
+      marks = rows markWidth (z .updates + 1) markOf (getD ps markSection []);
     }
 
 unfoldable pub view : List ℕ → Tables
@@ -107,6 +111,9 @@ hashWords h = h .given ∷ h .word0 ∷ h .word1 ∷ h .word2 ∷ h .word3 ∷ [
 abbrev pub interfaceWords : Interface → List ℕ
 interfaceWords x = x .word ∷ x .frozen ∷ []
 
+abbrev pub markWords : ℕ → List ℕ
+markWords m = m ∷ []
+
 unfoldable pub arenaWords : Arena → List ℕ
 arenaWords a = a .head ∷ a .count ∷ a .links ++ a .gens
 
@@ -119,7 +126,7 @@ headerWords s =
 
 unfoldable pub partsOf : Tables → List (List ℕ)
 partsOf s =
-    headerWords s ∷ arenaWords (s .domainPool) ∷ arenaWords (s .regionPool) ∷ arenaWords (s .recordPool) ∷ flat domainWords (s .domains) ∷ flat regionWords (s .regions) ∷ flat recordWords (s .records) ∷ flat updateWords (s .ring) ∷ flat hashWords (s .hashes) ∷ flat interfaceWords (s .interfaces) ∷ []
+    headerWords s ∷ arenaWords (s .domainPool) ∷ arenaWords (s .regionPool) ∷ arenaWords (s .recordPool) ∷ flat domainWords (s .domains) ∷ flat regionWords (s .regions) ∷ flat recordWords (s .records) ∷ flat updateWords (s .ring) ∷ flat hashWords (s .hashes) ∷ flat interfaceWords (s .interfaces) ∷ flat markWords (s .marks) ∷ []
 
 unfoldable pub layout : Tables → List ℕ
 layout s = join (partsOf s)
