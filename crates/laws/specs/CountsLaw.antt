@@ -12,7 +12,8 @@ use Rattle.model.specs.State.{Region, Record, State, Domain}
 use Rattle.base.specs.Cases.{lt, ge, cmp}
 use Rattle.base.specs.Tests.{true-is}
 use Rattle.model.specs.Fields.{Field, passes}
-use Rattle.model.specs.Counts.{holds, noCounts, countsAt, countsFor, tally, regionCount, Agree}
+use Rattle.model.specs.Tracker.{noCounts}
+use Rattle.model.specs.Counts.{holds, countsAt, countsFor, tally, regionCount, Agree}
 use Rattle.model.specs.Sound.{TrackerSound}
 use Rattle.laws.specs.Fields.{get-none}
 
