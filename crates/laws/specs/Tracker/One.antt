@@ -22,29 +22,25 @@ use Rattle.laws.specs.Tracker.Span.{Span, span-append}
 use Rattle.laws.specs.Tracker.Cut.{Reads, Cut, cutting}
 use Rattle.laws.specs.Within.{within, W, within-same}
 
--- what a gain makes of the counts at an address, and whether that is a change
+-- what a gain makes of the counts at an address
 abbrev pub gained : ℕ → Option Counts → Option Counts
 gained r none = some (newCounts r)
 gained r (some k) = some (raise r k)
-
-abbrev pub grows : ℕ → Option Counts → Bool
-grows r none = true
-grows r (some k) = changes k (raise r k)
 
 -- the same of a loss
 abbrev pub lost : ℕ → Option Counts → Option Counts
 lost r none = none
 lost r (some k) = if eqb (k .reach - 1) 0 then none else some (lower r k)
 
-abbrev pub shrinks : ℕ → Option Counts → Bool
-shrinks r none = false
-shrinks r (some k) = changes k (lower r k)
+-- Does the field's count come to or leave 0 where g is made of the counts?
+abbrev pub moves : (Option Counts → Option Counts) → Field → Option Counts → Bool
+moves g f x = crosses (get f (countsOf x)) (get f (countsOf (g x)))
 
--- What a walk leaves of q, where g is made of its counts from s up to e, and c tells whether one came to or left 0.
-pub record One (g : Option Counts → Option Counts) (c : Option Counts → Bool) (s e : ℕ) (q : Record) (w : Walk) : Type 0 where
+-- What a walk leaves of q, where g is made of its counts from s up to e.
+pub record One (g : Option Counts → Option Counts) (s e : ℕ) (q : Record) (w : Walk) : Type 0 where
   pub reads : (a : ℕ) → look (w .records) a ≡ within (q .start) (q .end) a (within s e a (g (some (q .counts))) (some (q .counts))) none
   pub span : Span (q .start) (q .end) (w .records)
-  pub flag : w .changed ≡ (meets s e q && c (some (q .counts)))
+  pub flag : (f : Field) → isMarked f (w .marks) ≡ (meets s e q && moves g f (some (q .counts)))
 
 module _ (g : Option Counts → Option Counts) (c : Option Counts → Bool) (s e : ℕ) (q : Record) (n : q .start < q .end) where
   -- q is not met

@@ -23,10 +23,10 @@ use Rattle.laws.specs.Within.{within, W, within-same}
 abbrev pub Turned : (Option Counts → Option Counts) → ℕ → ℕ → List Record → List Record → Type 0
 Turned g s e l m = (a : ℕ) → look m a ≡ within s e a (g (look l a)) (look l a)
 
-pub record Walked (g : Option Counts → Option Counts) (c : Option Counts → Bool) (lo s e : ℕ) (l : List Record) (w : Walk) : Type 0 where
+pub record Walked (g : Option Counts → Option Counts) (lo s e : ℕ) (l : List Record) (w : Walk) : Type 0 where
   pub reads : Turned g s e l (w .records)
   pub rising : Rising lo (w .records)
-  pub flag : Flagged c s e l (w .changed)
+  pub flag : (f : Field) → Flagged (moves g f) s e l (isMarked f (w .marks))
 
 module _ (g : Option Counts → Option Counts) (c : Option Counts → Bool) (s e : ℕ) where
   -- what is in the gap, the first record and the rest, put together
