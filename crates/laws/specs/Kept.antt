@@ -18,7 +18,6 @@ use Rattle.model.specs.Updates.{isPermissionOf, push, pushPermission}
 use Rattle.model.specs.Tracker.{Walk, gain, lose}
 use Rattle.model.specs.Tree.{Range, removeChild}
 use Rattle.model.specs.Regions.{putWalk, activate, deactivate, newRegion, freeRegion, sendRanges, sendRegion, applyOptions, giveBack, leaveParent, revokeLeaf, revokeRegion}
-use Rattle.model.specs.Perform.{step}
 
 -- ---- pools
 

@@ -1,4 +1,4 @@
--- Equal places of the ring, with the same read place, give the same queue: update number j stands j places behind the read place, going round,
+-- Equal places and marks of the ring, with the same read place, give the same queue: update number j stands j places behind the read place, going round,
 -- and there are fewer updates than places.
 use mathlib.Core.Path.{_≡_, refl, ap, ap₂, sym, _∙_}
 use Prim.Native.Nat.{ℕ, zero, suc, _+_, _-_, _%_, _≤_, _<_}
