@@ -7,12 +7,13 @@ use mathlib.Core.List.{List, [], _∷_}
 use native.Mathlib.Omega.{arith}
 use lib.Dec.{T, leb→le, ltb→lt}
 use lib.Ieee.Fits.{and-l, and-r}
-use Rattle.model.specs.Lists.{oneIf, exists, Each, In}
-use Rattle.model.specs.State.{Region, Record, State, Domain}
+use Rattle.model.specs.Lists.{oneIf, exists, Each}
+use Rattle.model.specs.State.{Region, Record}
 use Rattle.base.specs.Cases.{lt, ge, cmp}
 use Rattle.base.specs.Tests.{true-is}
 use Rattle.model.specs.Fields.{Field, passes}
-use Rattle.model.specs.Counts.{holds, noCounts, countsAt, countsFor, tally, regionCount, Agree}
+use Rattle.model.specs.Tracker.{noCounts}
+use Rattle.model.specs.Counts.{holds, countsAt, countsFor, tally, regionCount, Agree}
 use Rattle.model.specs.Sound.{TrackerSound}
 use Rattle.laws.specs.Fields.{get-none}
 

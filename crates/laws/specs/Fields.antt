@@ -1,15 +1,13 @@
 -- What holds of every field: the counts that are made field by field, and the tests of all fields.
 use mathlib.Core.Path.{_≡_, refl}
 use Prim.Native.Nat.{ℕ, _+_, _-_}
-use mathlib.Core.Bool.{Bool, true, false, not, _||_}
-use mathlib.Core.List.{List, [], _∷_}
+use mathlib.Core.Bool.{Bool}
 use lib.Dec.{T}
-use lib.Ieee.Fits.{and-l, and-r, and-i}
-use Rattle.model.specs.Lists.{exists, every}
+use lib.Ieee.Fits.{and-l, and-r}
+use Rattle.model.specs.Lists.{every}
 use Rattle.model.specs.State.{Counts}
 use Rattle.model.specs.Fields.{Field, fields, get, counter, each}
-use Rattle.model.specs.Tracker.{newCounts, raise, lower}
-use Rattle.model.specs.Counts.{noCounts}
+use Rattle.model.specs.Tracker.{newCounts, raise, lower, noCounts}
 
 -- ---- counts made field by field
 
@@ -42,15 +40,3 @@ every-field p t Field.Read = search (and-l, and-r)
 every-field p t Field.Write = search (and-l, and-r)
 every-field p t Field.Exec = search (and-l, and-r)
 every-field p t Field.Super = search (and-l, and-r)
-
--- where no field passes the test, each fails it
-fails-all : {A : Type 0} (p : A → Bool) (l : List A) → T (not (exists p l)) → T (every (λ x. not (p x)) l)
-fails-all p [] t = tt
-fails-all p (x ∷ l) t = let (u, v) = not-or (p x) (exists p l) t in and-i (not (p x)) (every (λ y. not (p y)) l) u (fails-all p l v)
-  where
-    not-or : (b c : Bool) → T (not (b || c)) → T (not b) × T (not c)
-    not-or true c t = absurd t
-    not-or false c t = (tt, t)
-
-pub no-field : (p : Field → Bool) → T (not (exists p fields)) → (f : Field) → T (not (p f))
-no-field p t = every-field (λ f. not (p f)) (fails-all p fields t)

@@ -85,13 +85,13 @@ module _ (s₀ : State) where
   unfolding push
   push-kept u s h = and-then _ (accepted h)
 
-  permission-kept : (d : ℕ) (s : State) → Keeps s₀ s → All (Keeps s₀) (pushPermission d s)
+  permission-kept : (d m : ℕ) (s : State) → Keeps s₀ s → All (Keeps s₀) (pushPermission d m s)
   unfolding pushPermission
-  permission-kept d s h = branch (exists (isPermissionOf (handleOf (s .domainPool) d)) (s .queue .items)) (accepted h) (push-kept _ s h)
+  permission-kept d m s h = branch (exists (isPermissionOf (handleOf (s .domainPool) d)) (s .queue .items)) (accepted h) (push-kept _ s h)
 
   walk-kept : (d : ℕ) (w : Walk) (s : State) → Keeps s₀ s → All (Keeps s₀) (putWalk d w s)
   unfolding putWalk
-  walk-kept d w s h = let k = put-kept d _ s refl h in branch (w .changed) (permission-kept d _ k) (accepted k)
+  walk-kept d w s h = let k = put-kept d _ s refl h in branch (eqb (w .marks) 0) (accepted k) (permission-kept d _ _ k)
 
   activate-kept : (d : ℕ) (a : Access) (s : State) → Keeps s₀ s → All (Keeps s₀) (activate d a s)
   unfolding activate

@@ -3,6 +3,7 @@ use mathlib.Core.Path.{_≡_, refl, _∙_}
 use Prim.Native.Nat.{ℕ, zero, suc}
 use mathlib.Core.Option.{Option, none, some}
 use mathlib.Core.List.{List, [], _∷_}
+use lib.Dec.{eqb}
 use lib.ListN.{length, length-set}
 use Rattle.model.specs.Lists.{exists}
 use Rattle.rights.specs.Rights.{has, CLEANUP}
@@ -10,14 +11,13 @@ use Rattle.model.specs.Outcome.{Outcome}
 use Rattle.refusals.specs.declared.Refusal.{Refusal}
 use Rattle.laws.specs.Accepted.{All, accepted, refused, bind, bind-any, and-then, branch, weaken}
 use Rattle.laws.specs.Tracker.Slots.{gain-slots, lose-slots}
-use Rattle.model.specs.State.{State, Pool, Capa, Domain, Region, Kind, Root, Alias, Carve, Access, Record, Update, SendOptions, withRecordPool, withTracker, putDomain, putRegion, domainAt, regionAt}
+use Rattle.model.specs.State.{State, Pool, Capa, Domain, Region, Kind, Root, Alias, Carve, Access, Record, Update, SendOptions, Queue, withQueue, withRecordPool, withTracker, putDomain, putRegion, domainAt, regionAt}
 use Rattle.model.specs.Pool.{allocate, free, handleOf}
 use Rattle.model.specs.Locals.{hasCapacity, insertCapa, removeCapa, emptyCapa}
 use Rattle.model.specs.Updates.{isPermissionOf, push, pushPermission}
 use Rattle.model.specs.Tracker.{Walk, gain, lose}
 use Rattle.model.specs.Tree.{Range, removeChild}
 use Rattle.model.specs.Regions.{putWalk, activate, deactivate, newRegion, freeRegion, sendRanges, sendRegion, applyOptions, giveBack, leaveParent, revokeLeaf, revokeRegion}
-use Rattle.model.specs.Perform.{step}
 
 -- ---- pools
 
@@ -89,20 +89,23 @@ pub empty-kept : (d i : ℕ) (s : State) → Kept s (emptyCapa d i s)
 unfolding emptyCapa
 empty-kept d i s = put-domain d _ s
 
+queue-kept : (q : Queue) (s : State) → Kept s (withQueue q s)
+queue-kept q s = record { sizes = refl; domains = refl; regions = refl; domainGens = refl; regionGens = refl; recordGens = refl }
+
 push-kept : (u : Update) (s : State) → All (Kept s) (push u s)
 unfolding push
-push-kept u s = and-then _ (accepted (record { sizes = refl; domains = refl; regions = refl; domainGens = refl; regionGens = refl; recordGens = refl }))
+push-kept u s = and-then _ (accepted (queue-kept _ s))
 
-permission-kept : (d : ℕ) (s : State) → All (Kept s) (pushPermission d s)
+permission-kept : (d m : ℕ) (s : State) → All (Kept s) (pushPermission d m s)
 unfolding pushPermission
-permission-kept d s = branch (exists (isPermissionOf (handleOf (s .domainPool) d)) (s .queue .items)) (accepted (same s)) (push-kept _ s)
+permission-kept d m s = branch (exists (isPermissionOf (handleOf (s .domainPool) d)) (s .queue .items)) (accepted (queue-kept _ s)) (push-kept _ s)
 
 walk-kept : (d : ℕ) (w : Walk) (s : State) → PoolOf (s .recordPool) w → All (Kept s) (putWalk d w s)
 unfolding putWalk
 walk-kept d w s h =
     let s₁ = withRecordPool (w .pool) (putDomain d (withTracker (w .records) (domainAt s d)) s) in
     let k : Kept s s₁ = record { sizes = refl; domains = length-set (s .domains) d _; regions = refl; domainGens = refl; regionGens = refl; recordGens = h } in
-    branch (w .changed) (weaken (permission-kept d s₁) (λ t j. trans s s₁ t j k)) (accepted k)
+    branch (eqb (w .marks) 0) (accepted k) (weaken (permission-kept d _ s₁) (λ t j. trans s s₁ t j k))
 
 pub activate-kept : (d : ℕ) (a : Access) (s : State) → All (Kept s) (activate d a s)
 unfolding activate

@@ -8,6 +8,7 @@ pub mod Parts
 pub mod Stack
 pub mod Fields
 pub mod Tracker
+pub mod Gather
 pub mod Tree
 pub mod Options
 pub mod Kept

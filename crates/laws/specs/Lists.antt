@@ -3,7 +3,7 @@ use mathlib.Core.Path.{_≡_, refl}
 use Prim.Native.Nat.{ℕ, zero, suc, _+_, _<_}
 use mathlib.Core.Bool.{Bool, true, false}
 use mathlib.Core.Option.{Option, none, some}
-use mathlib.Core.List.{List, [], _∷_, _++_}
+use mathlib.Core.List.{List, [], _∷_, _++_, map}
 use native.Mathlib.Omega.{arith}
 use lib.ListN.{getD}
 use Rattle.model.specs.Lists.{oneIf, countIf, Each, isSome}
@@ -14,6 +14,11 @@ use Rattle.model.specs.State.{Word}
 pub each-weaken : {A : Type 0} (P Q : A → Type 0) (l : List A) → ((x : A) → P x → Q x) → Each P l → Each Q l
 each-weaken P Q [] f h = tt
 each-weaken P Q (x ∷ l) f h = (f x (h .0), each-weaken P Q l f (h .1))
+
+-- each member is changed
+pub each-map : {A : Type 0} (f : A → A) (P Q : A → Type 0) → ((x : A) → P x → Q (f x)) → (l : List A) → Each P l → Each Q (map f l)
+each-map f P Q k [] h = tt
+each-map f P Q k (x ∷ l) h = (k x (h .0), each-map f P Q k l (h .1))
 
 pub each-join : {A : Type 0} (P : A → Type 0) (l m : List A) → Each P l → Each P m → Each P (l ++ m)
 each-join P [] m h k = k

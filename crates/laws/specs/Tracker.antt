@@ -2,6 +2,7 @@
 pub mod Look
 pub mod Span
 pub mod Cut
+pub mod Marks
 pub mod One
 pub mod Flag
 pub mod Walked

@@ -154,7 +154,7 @@ module _ (rp rp′ : Pool) (rs rs′ : List (Option Region)) (dp dp′ : Pool) (
   }
 
 queued-onward : (p q : Pool) (l m : List (Option Domain)) → ((h : Handle) → T (isLive p l h) → T (isLive q m h)) → (u : Update) → QueuedLive p l u → QueuedLive q m u
-queued-onward p q l m live (permission h c) t = live h t
+queued-onward p q l m live (permission h c n) t = live h t
 queued-onward p q l m live (cleanup a b) t = tt
 
 pub queue-onward : (n : ℕ) (p q : Pool) (l m : List (Option Domain)) → ((h : Handle) → T (isLive p l h) → T (isLive q m h)) → (r : Queue) → QueueSound n p l r → QueueSound n q m r

@@ -1,4 +1,4 @@
--- An update joins the queue. Invariant: queued domains are live and queued singly, and what is queued are words.
+-- An update joins the queue, or a queued one gathers marks. Invariant: queued domains are live and queued singly, and what is queued are words.
 use mathlib.Core.Path.{_≡_, refl, sym, ap, subst}
 use Prim.Native.Nat.{ℕ, _<_}
 use mathlib.Core.Bool.{Bool, true, false, not, _||_}
@@ -20,26 +20,27 @@ use Rattle.laws.specs.Capas.Live.{handle-same, handle-live}
 use Rattle.laws.specs.Capas.Held.{Shares, Held}
 use Rattle.laws.specs.Lists.{word-at, count-end, each-end}
 use Rattle.laws.specs.Tree.Steps.{domain-at}
+use Rattle.laws.specs.Gather.{gather-queue}
 
 -- ---- a list with one more at its end
 
 -- u is not the domain that v queues
 abbrev Apart : Update → Update → Type 0
-Apart u (permission k c) = isPermissionOf k u ≡ false
+Apart u (permission k c m) = isPermissionOf k u ≡ false
 Apart u (cleanup a b) = Unit {0}
 
 alone : (u : Update) → Singly (u ∷ [])
-alone (permission h c) = (refl, tt)
+alone (permission h c m) = (refl, tt)
 alone (cleanup a b) = tt
 
 singly-end : (l : List Update) (u : Update) → Singly l → Each (Apart u) l → Singly (l ++ (u ∷ []))
 singly-end [] u s e = alone u
-singly-end (permission k c ∷ l) u s e = (omega (arith, count-end (isPermissionOf k) l u, s .0, ap oneIf (e .0)), singly-end l u (s .1) (e .1))
+singly-end (permission k c m ∷ l) u s e = (omega (arith, count-end (isPermissionOf k) l u, s .0, ap oneIf (e .0)), singly-end l u (s .1) (e .1))
 singly-end (cleanup a b ∷ l) u s e = singly-end l u s (e .1)
 
 apart-cleanup : (a b : ℕ) (l : List Update) → Each (Apart (cleanup a b)) l
 apart-cleanup a b [] = tt
-apart-cleanup a b (permission k c ∷ l) = (refl, apart-cleanup a b l)
+apart-cleanup a b (permission k c m ∷ l) = (refl, apart-cleanup a b l)
 apart-cleanup a b (cleanup x y ∷ l) = (tt, apart-cleanup a b l)
 
 or-none : (a b : Bool) → T (not (a || b)) → T (not a) × T (not b)
@@ -49,10 +50,10 @@ or-none false b t = (tt, t)
 turned : (h k : Handle) → T (not (sameHandle h k)) → sameHandle k h ≡ false
 turned h k t = is-false (not-T (sameHandle k h) (λ u. T-not (sameHandle h k) t (subst (λ x. T (sameHandle x k)) (handle-same k h u) (and-i (eqb (k .slot) (k .slot)) (eqb (k .generation) (k .generation)) (eqb-refl (k .slot)) (eqb-refl (k .generation))))))
 
-apart-new : (h : Handle) (c : ℕ) (l : List Update) → T (not (exists (isPermissionOf h) l)) → Each (Apart (permission h c)) l
-apart-new h c [] t = tt
-apart-new h c (permission k d ∷ l) t = let (a, b) = or-none (sameHandle h k) (exists (isPermissionOf h) l) t in (turned h k a, apart-new h c l b)
-apart-new h c (cleanup x y ∷ l) t = (tt, apart-new h c l t)
+apart-new : (h : Handle) (c m : ℕ) (l : List Update) → T (not (exists (isPermissionOf h) l)) → Each (Apart (permission h c m)) l
+apart-new h c m [] t = tt
+apart-new h c m (permission k d n ∷ l) t = let (a, b) = or-none (sameHandle h k) (exists (isPermissionOf h) l) t in (turned h k a, apart-new h c m l b)
+apart-new h c m (cleanup x y ∷ l) t = (tt, apart-new h c m l t)
 
 -- ---- the queue
 
@@ -80,10 +81,10 @@ module _ (own man : Shares) (s : State) (h : Held own man s) where
   pub cleanup-held : (a b : ℕ) → Word a → Word b → All (λ t. Held own man t × SameBut s t) (push (cleanup a b) s)
   cleanup-held a b u v = push-held (cleanup a b) tt (apart-cleanup a b (s .queue .items)) (u, v)
 
-  pub permission-held : (d : ℕ) (x : Domain) → In (s .domains) d x → All (λ t. Held own man t × SameBut s t) (pushPermission d s)
+  pub permission-held : (d m : ℕ) (x : Domain) → In (s .domains) d x → m < 32 → All (λ t. Held own man t × SameBut s t) (pushPermission d m s)
   unfolding pushPermission
-  permission-held d x e = branch-on (exists (isPermissionOf (handleOf (s .domainPool) d)) (s .queue .items)) (λ t. accepted (h, (s .queue, refl))) (λ t.
+  permission-held d m x e marks = branch-on (exists (isPermissionOf (handleOf (s .domainPool) d)) (s .queue .items)) (λ t. accepted (with-queue _ (gather-queue (handleOf (s .domainPool) d) m marks (s .sizes .updates) (s .domainPool) (s .domains) (s .queue) (h .queue)), (_, refl))) (λ t.
       let small = leb→le (s .sizes .domains) 32 (search (and-l, and-r)) in
       let low : d < 32 = omega (arith, h .domainsLength, in-length (s .domains) d x e) in
-      push-held (permission (handleOf (s .domainPool) d) (domainAt s d .cores)) (handle-live (s .domainPool) (s .domains) d x e) (apart-new (handleOf (s .domainPool) d) (domainAt s d .cores) (s .queue .items) t)
-      (omega arith, word-at (s .domainPool .gens) d (h .domainPool .gensWords), subst (λ (y : Domain). Word (y .cores)) (sym (domain-at s d x e)) (h .coresWords d x e)))
+      push-held (permission (handleOf (s .domainPool) d) (domainAt s d .cores) m) (handle-live (s .domainPool) (s .domains) d x e) (apart-new (handleOf (s .domainPool) d) (domainAt s d .cores) m (s .queue .items) t)
+      (omega arith, word-at (s .domainPool .gens) d (h .domainPool .gensWords), subst (λ (y : Domain). Word (y .cores)) (sym (domain-at s d x e)) (h .coresWords d x e), marks))

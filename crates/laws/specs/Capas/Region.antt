@@ -19,7 +19,7 @@ use Rattle.model.specs.Lists.{isSome, countIf, atSlot, In}
 use Rattle.model.specs.State.{Handle, Pool, Record, Domain, Region, State, withRegions, putRegion}
 use Rattle.model.specs.Pool.{free, handleOf, isLive}
 use Rattle.model.specs.Tree.{isRootKind}
-use Rattle.model.specs.Counts.{noCounts}
+use Rattle.model.specs.Tracker.{noCounts}
 use Rattle.model.specs.Regions.{freeRegion}
 use Rattle.model.specs.Sound.{PoolSound, LiveOrOlder, HandleFit, slotUses, isRegionOf}
 use Rattle.laws.specs.Accepted.{All, accepted, bind, both, and-then}

@@ -1,10 +1,9 @@
 -- A gain or a loss of a range: a tracker is written and a domain may be queued; lists, managers, regions and the generations stay.
 use mathlib.Core.Path.{_≡_, refl, sym, ap, subst, _∙_}
-use Prim.Native.Nat.{ℕ}
-use mathlib.Core.Bool.{Bool}
+use Prim.Native.Nat.{ℕ, _<_}
 use mathlib.Core.Option.{none, some}
 use mathlib.Core.List.{List, [], _∷_}
-use lib.Dec.{T}
+use lib.Dec.{T, eqb}
 use lib.Seq.{getD-set-same, getD-set-other}
 use native.Mathlib.Decide.{ℕ-discrete}
 use Rattle.base.specs.Options.{some-same}
@@ -15,7 +14,8 @@ use Rattle.model.specs.State.{Pool, Record, Domain, State, Access, putDomain, w
 use Rattle.model.specs.Tracker.{Walk}
 use Rattle.model.specs.Tree.{Range}
 use Rattle.model.specs.Regions.{putWalk, activate, deactivate, sendRanges}
-use Rattle.laws.specs.Accepted.{All, accepted, bind, bind-any, weaken, branch}
+use Rattle.laws.specs.Accepted.{All, accepted, bind, weaken, branch}
+use Rattle.laws.specs.Tracker.Marks.{gain-small, lose-small}
 use Rattle.laws.specs.Tree.Slots.{in-length, is-live, live-is}
 use Rattle.laws.specs.Capas.Held.{Shares, Held}
 use Rattle.laws.specs.Capas.Domain.{SameManagers, same-managers-then, back, put-held}
@@ -93,21 +93,21 @@ module _ (own man : Shares) (s : State) (h : Held own man s) (d : ℕ) (x : Doma
     regionPool = refl;
   }
 
-  walk-go : (b : Bool) → All (Walked own man s) (if b then pushPermission d tracked else ok tracked)
-  walk-go b = branch b (weaken (permission-held own man tracked (tracked-walked .held) d (withTracker l x) there) (λ t k. walked-then own man s tracked t tracked-walked (queued-walked own man tracked t k))) (accepted tracked-walked)
+  walk-go : (m : ℕ) → m < 32 → All (Walked own man s) (if eqb m 0 then ok tracked else pushPermission d m tracked)
+  walk-go m low = branch (eqb m 0) (accepted tracked-walked) (weaken (permission-held own man tracked (tracked-walked .held) d m (withTracker l x) there low) (λ t k. walked-then own man s tracked t tracked-walked (queued-walked own man tracked t k)))
 
 module _ (own man : Shares) (s : State) (h : Held own man s) (d : ℕ) (x : Domain) (e : In (s .domains) d x) where
-  walk-held : (w : Walk) → All (Walked own man s) (putWalk d w s)
+  walk-held : (w : Walk) → w .marks < 32 → All (Walked own man s) (putWalk d w s)
   unfolding putWalk
-  walk-held w = subst (λ (y : Domain). All (Walked own man s) (let t = withRecordPool (w .pool) (putDomain d (withTracker (w .records) y) s) in if w .changed then pushPermission d t else ok t)) (sym (domain-at s d x e)) (walk-go own man s h d x e (w .records) (w .pool) (w .changed))
+  walk-held w low = subst (λ (y : Domain). All (Walked own man s) (let t = withRecordPool (w .pool) (putDomain d (withTracker (w .records) y) s) in if eqb (w .marks) 0 then ok t else pushPermission d (w .marks) t)) (sym (domain-at s d x e)) (walk-go own man s h d x e (w .records) (w .pool) (w .marks) low)
 
   pub activate-held : (a : Access) → All (Walked own man s) (activate d a s)
   unfolding activate
-  activate-held a = bind-any _ walk-held
+  activate-held a = bind (gain-small _ _ _ _ _) walk-held
 
   pub deactivate-held : (a : Access) → All (Walked own man s) (deactivate d a s)
   unfolding deactivate
-  deactivate-held a = bind-any _ walk-held
+  deactivate-held a = bind (lose-small _ _ _ _ _) walk-held
 
 -- ---- the ranges of a send
 

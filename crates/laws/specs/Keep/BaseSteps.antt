@@ -15,7 +15,8 @@ use Rattle.model.specs.Tree.{Range, insertChild}
 use Rattle.model.specs.Locals.{insertCapa}
 use Rattle.model.specs.Regions.{putWalk, activate, deactivate, newRegion, sendRanges}
 use Rattle.model.specs.Calls.{exchangeRights, addChild}
-use Rattle.laws.specs.Accepted.{All, accepted, bind, bind-any, weaken, branch, both}
+use Rattle.laws.specs.Accepted.{All, accepted, bind, weaken, branch, both}
+use Rattle.laws.specs.Tracker.Marks.{gain-small, lose-small}
 use Rattle.laws.specs.Tree.Slots.{in-length, live-is}
 use Rattle.laws.specs.Keep.Slots.{every-put, taken-alive}
 use Rattle.laws.specs.Keep.SameDomains.{SameDomains, SameOutside, same-domains-self, same-domains-then, same-domains-live}
@@ -37,21 +38,21 @@ Ready d s = Base s × Live s d
 -- ---- a tracker is written
 
 module _ (s : State) (d : ℕ) (r : Ready d s) where
-  put-base : (w : Walk) → All (λ t. Base t × SameOutside s t) (putWalk d w s)
+  put-base : (w : Walk) → w .marks < 32 → All (λ t. Base t × SameOutside s t) (putWalk d w s)
   unfolding putWalk
-  put-base w =
+  put-base w low =
       let (x, e) = live-is (atSlot (s .domains) d) (r .1) in
       let b = put-beside s d x e w in
       let k = same-domains-base s (put s d w) (b (s .queue) .sameDomains) refl (r .0 .regions) (r .0) in
-      weaken (both (branch (w .changed) (permission-ring d _ (put s d w) (getD-set-same (s .domains) d _ none (in-length (s .domains) d x e)) (k .ring)) (accepted (k .ring))) (put-queue s d w (SameOutside s) b)) (λ t (z, c). (same-outside-base s t c z (r .0), c))
+      weaken (both (branch (eqb (w .marks) 0) (accepted (k .ring)) (permission-ring d (w .marks) _ (put s d w) (getD-set-same (s .domains) d _ none (in-length (s .domains) d x e)) low (k .ring))) (put-queue s d w (SameOutside s) b)) (λ t (z, c). (same-outside-base s t c z (r .0), c))
 
   pub gained-base : (a : Access) → All (λ t. Base t × SameOutside s t) (activate d a s)
   unfolding activate
-  gained-base a = bind-any _ put-base
+  gained-base a = bind (gain-small _ _ _ _ _) put-base
 
   pub lost-base : (a : Access) → All (λ t. Base t × SameOutside s t) (deactivate d a s)
   unfolding deactivate
-  lost-base a = bind-any _ put-base
+  lost-base a = bind (lose-small _ _ _ _ _) put-base
 
 pub exchange-base : (s : State) (d : ℕ) → Ready d s → (old : ℕ) (a : Access) → All Base (exchangeRights d old a s)
 unfolding exchangeRights

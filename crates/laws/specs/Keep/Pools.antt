@@ -14,7 +14,7 @@ use Rattle.model.specs.Lists.{oneIf, countIf, isSome, atSlot, In, Each}
 use Rattle.refusals.specs.declared.Refusal.{Refusal}
 use Rattle.model.specs.State.{Word, Pool}
 use Rattle.model.specs.Pool.{allocate, free}
-use Rattle.model.specs.Counts.{noCounts}
+use Rattle.model.specs.Tracker.{noCounts}
 use Rattle.model.specs.Sound.{PoolSound, slotUses}
 use Rattle.laws.specs.Accepted.{All, accepted, refused, weaken, both}
 use Rattle.laws.specs.Answers.{answer}

@@ -42,15 +42,15 @@ pub push-stops : (u : Update) (s : State) → MayStop (push u s)
 unfolding push
 push-stops u s = gives-checked _ _ (inr (inr refl)) (λ t. gives tt)
 
-permission-stops : (d : ℕ) (s : State) → MayStop (pushPermission d s)
+permission-stops : (d m : ℕ) (s : State) → MayStop (pushPermission d m s)
 unfolding pushPermission
-permission-stops d s = gives-branch (exists (isPermissionOf (handleOf (s .domainPool) d)) (s .queue .items)) (gives tt) (push-stops _ s)
+permission-stops d m s = gives-branch (exists (isPermissionOf (handleOf (s .domainPool) d)) (s .queue .items)) (gives tt) (push-stops _ s)
 
 -- ---- trackers
 
 put-stops : (d : ℕ) (w : Walk) (s : State) → MayStop (putWalk d w s)
 unfolding putWalk
-put-stops d w s = gives-branch (w .changed) (permission-stops d _) (gives tt)
+put-stops d w s = gives-branch (eqb (w .marks) 0) (gives tt) (permission-stops d _ _)
 
 pub activate-stops : (d : ℕ) (a : Access) (s : State) → MayStop (activate d a s)
 unfolding activate

@@ -1,5 +1,5 @@
 -- The update ring through the steps on trackers. Invariant: the ring is sound, and so is what a newly queued domain is queued with: its slot number,
--- generation and core map are words. An update joins only where the ring has room, and a domain only where it is not queued already.
+-- generation and core map are words, its marks five bits. An update joins only where the ring has room, and a domain only where it is not queued already.
 use mathlib.Core.Path.{_≡_, refl, sym, ap, ap₂, subst, _∙_}
 use Prim.Native.Nat.{ℕ, _≤_, _<_}
 use mathlib.Core.Bool.{Bool, not, _&&_}
@@ -22,6 +22,7 @@ use Rattle.laws.specs.Stack.{any-count}
 use Rattle.laws.specs.Tree.Slots.{in-length, is-live}
 use Rattle.laws.specs.Lists.{word-at, each-weaken, count-end, each-end}
 use Rattle.laws.specs.Tree.Steps.{domain-at}
+use Rattle.laws.specs.Gather.{gather-queue}
 
 pub record Ring (s : State) : Type 0 where
   pub queue : QueueSound (s .sizes .updates) (s .domainPool) (s .domains) (s .queue)
@@ -40,7 +41,7 @@ sound-ring s h = record { queue = h .queue; cores = h .outside .coresWords; gens
 
 -- a cleanup, and a domain that is not queued, may join
 abbrev Fresh : Update → List Update → Type 0
-Fresh (permission h c) l = countIf (isPermissionOf h) l ≡ 0
+Fresh (permission h c m) l = countIf (isPermissionOf h) l ≡ 0
 Fresh (cleanup a b) l = Unit {0}
 
 pub eqb-turned : (m n : ℕ) → eqb m n ≡ eqb n m
@@ -50,11 +51,11 @@ same-turned : (h k : Handle) → sameHandle h k ≡ sameHandle k h
 same-turned h k = ap₂ _&&_ (eqb-turned (h .slot) (k .slot)) (eqb-turned (h .generation) (k .generation))
 
 singly-end : (l : List Update) (u : Update) → Fresh u l → Singly l → Singly (l ++ (u ∷ []))
-singly-end [] (permission h c) f s = (refl, tt)
+singly-end [] (permission h c m) f s = (refl, tt)
 singly-end [] (cleanup a b) f s = tt
-singly-end (permission k c ∷ l) (permission h b) f s = (omega (arith, count-end (isPermissionOf k) l (permission h b), s .0, ap oneIf (same-turned h k)), singly-end l (permission h b) (omega arith) (s .1))
-singly-end (permission k c ∷ l) (cleanup a b) f s = (omega (arith, count-end (isPermissionOf k) l (cleanup a b), s .0), singly-end l (cleanup a b) tt (s .1))
-singly-end (cleanup k c ∷ l) (permission h b) f s = singly-end l (permission h b) (omega arith) s
+singly-end (permission k c n ∷ l) (permission h b m) f s = (omega (arith, count-end (isPermissionOf k) l (permission h b m), s .0, ap oneIf (same-turned h k)), singly-end l (permission h b m) (omega arith) (s .1))
+singly-end (permission k c n ∷ l) (cleanup a b) f s = (omega (arith, count-end (isPermissionOf k) l (cleanup a b), s .0), singly-end l (cleanup a b) tt (s .1))
+singly-end (cleanup k c ∷ l) (permission h b m) f s = singly-end l (permission h b m) (omega arith) s
 singly-end (cleanup k c ∷ l) (cleanup a b) f s = singly-end l (cleanup a b) tt s
 
 -- ---- an update joins
@@ -83,15 +84,21 @@ cleanup-ring a b s r u v = join-ring (cleanup a b) s r tt tt (u, v)
 none-counted : {A : Type 0} (p : A → Bool) (l : List A) → T (not (exists p l)) → countIf p l ≡ 0
 none-counted p l t = elim (cmp 0 (countIf p l)) [ lt h ↦ absurd (T-not (exists p l) t (rw (any-count p l, lt-ltb 0 (countIf p l) h) tt)) | ge h ↦ omega arith ]
 
-pub permission-ring : (d : ℕ) (x : Domain) (s : State) → In (s .domains) d x → Ring s → All Ring (pushPermission d s)
+pub permission-ring : (d m : ℕ) (x : Domain) (s : State) → In (s .domains) d x → m < 32 → Ring s → All Ring (pushPermission d m s)
 unfolding pushPermission
-permission-ring d x s e r =
+permission-ring d m x s e marks r =
     let h = handleOf (s .domainPool) d in
-    branch-on (exists (isPermissionOf h) (s .queue .items)) (λ t. accepted r) (λ t.
-    join-ring (permission h (domainAt s d .cores)) s r
+    branch-on (exists (isPermissionOf h) (s .queue .items)) (λ t. accepted (record {
+      queue = gather-queue h m marks (s .sizes .updates) (s .domainPool) (s .domains) (s .queue) (r .queue);
+      cores = r .cores;
+      gens = r .gens;
+      sizesGood = r .sizesGood;
+      slots = r .slots;
+    })) (λ t.
+    join-ring (permission h (domainAt s d .cores) m) s r
     (and-i (isSome (atSlot (s .domains) d)) (eqb (h .generation) (h .generation)) (is-live _ x e) (eqb-refl (h .generation)))
     (none-counted (isPermissionOf h) (s .queue .items) t)
-    (small d (omega (arith, in-length (s .domains) d x e, r .slots)), word-at (s .domainPool .gens) d (r .gens), rw (domain-at s d x e) (r .cores d x e)))
+    (small d (omega (arith, in-length (s .domains) d x e, r .slots)), word-at (s .domainPool .gens) d (r .gens), rw (domain-at s d x e) (r .cores d x e), marks))
   where
     small : (n : ℕ) → n < 32 → Word n
     small n l = omega arith
@@ -108,7 +115,7 @@ pub record QueueKept (s t : State) : Type 0 where
   pub queue : t .queue ≡ s .queue
 
 live-kept : (s t : State) → QueueKept s t → (u : Update) → QueuedLive (s .domainPool) (s .domains) u → QueuedLive (t .domainPool) (t .domains) u
-live-kept s t c (permission h k) l =
+live-kept s t c (permission h k m) l =
     and-i (isSome (atSlot (t .domains) (h .slot))) (eqb (getD (t .domainPool .gens) (h .slot) 0) (h .generation))
     (c .live (h .slot) (and-l (isSome (atSlot (s .domains) (h .slot))) (eqb (getD (s .domainPool .gens) (h .slot) 0) (h .generation)) l))
     (rw (c .gens) (and-r (isSome (atSlot (s .domains) (h .slot))) (eqb (getD (s .domainPool .gens) (h .slot) 0) (h .generation)) l))

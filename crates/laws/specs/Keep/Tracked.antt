@@ -70,9 +70,9 @@ pub push-queue : (P : State → Type 0) (u : Update) (s : State) → ((q : Queue
 unfolding push
 push-queue P u s h = and-then _ (accepted (h _))
 
-permission-queue : (P : State → Type 0) (d : ℕ) (s : State) → ((q : Queue) → P (withQueue q s)) → All P (pushPermission d s)
+permission-queue : (P : State → Type 0) (d m : ℕ) (s : State) → ((q : Queue) → P (withQueue q s)) → All P (pushPermission d m s)
 unfolding pushPermission
-permission-queue P d s h = branch (exists (isPermissionOf (handleOf (s .domainPool) d)) (s .queue .items)) (accepted (h (s .queue))) (push-queue P _ s h)
+permission-queue P d m s h = branch (exists (isPermissionOf (handleOf (s .domainPool) d)) (s .queue .items)) (accepted (h _)) (push-queue P _ s h)
 
 module _ (s : State) (d : ℕ) (w : Walk) where
   abbrev pub put : State
@@ -80,7 +80,7 @@ module _ (s : State) (d : ℕ) (w : Walk) where
 
   pub put-queue : (P : State → Type 0) → ((q : Queue) → P (withQueue q put)) → All P (putWalk d w s)
   unfolding putWalk
-  put-queue P h = branch (w .changed) (permission-queue P d put h) (accepted (h (put .queue)))
+  put-queue P h = branch (eqb (w .marks) 0) (accepted (h (put .queue))) (permission-queue P d _ put h)
 
 -- ---- a walk is put back
 

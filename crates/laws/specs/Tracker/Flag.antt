@@ -1,4 +1,4 @@
--- The change flag of a walk. Invariant: it is set if and only if at some address of the range the counts that were there change.
+-- One mark of a walk, as a flag. Invariant: it is set if and only if at some address of the range the test c tells a change of the counts that were there.
 -- A list's flag is its gap's, its first record's and the others', each with addresses of its own.
 use mathlib.Core.Path.{_≡_, sym}
 use mathlib.Core.Logic.{_↔_}

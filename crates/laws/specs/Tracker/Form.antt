@@ -1,7 +1,6 @@
 -- The form of a tracker: rising, merged, every reach above 0, every uncacheable count 0 or 1. Gain and loss keep it.
 -- A property of every record's counts is one of the counts at every address, so the law there gives it with no look at the steps.
 use Prim.Native.Nat.{ℕ, _≤_, _<_, _-_}
-use mathlib.Core.Bool.{Bool}
 use mathlib.Core.Option.{Option, none, some}
 use mathlib.Core.List.{List}
 use native.Mathlib.Omega.{arith}
@@ -34,15 +33,15 @@ pub sound-form : (rs : List (Option Region)) (d : ℕ) (l : List Record) → Tra
 sound-form rs d l h = record { rising = h .rising; merged = h .merged; reached = h .reached; uncacheable = h .uncacheable }
 
 -- what a change keeps of one set of counts it keeps of all
-each-kept : (P : Counts → Type 0) (g : Option Counts → Option Counts) (c : Option Counts → Bool) (s e : ℕ) (l : List Record) (w : Walk) → ((x : Option Counts) → Has P x → Has P (g x)) → Done g c s e l w → Each (λ q. P (q .counts)) l → Each (λ q. P (q .counts)) (w .records)
-each-kept P g c s e l w f d h = each-of-look P 0 (w .records) (d .rising) (λ a. let k = has-look P l h a in rw (d .reads a) (has-within P s e a (g (look l a)) (look l a) (λ i j. f (look l a) k) k))
+each-kept : (P : Counts → Type 0) (g : Option Counts → Option Counts) (s e : ℕ) (l : List Record) (w : Walk) → ((x : Option Counts) → Has P x → Has P (g x)) → Done g s e l w → Each (λ q. P (q .counts)) l → Each (λ q. P (q .counts)) (w .records)
+each-kept P g s e l w f d h = each-of-look P 0 (w .records) (d .rising) (λ a. let k = has-look P l h a in rw (d .reads a) (has-within P s e a (g (look l a)) (look l a) (λ i j. f (look l a) k) k))
 
-form-kept : (g : Option Counts → Option Counts) (c : Option Counts → Bool) (s e : ℕ) (l : List Record) (w : Walk) → ((x : Option Counts) → Has Reached x → Has Reached (g x)) → ((x : Option Counts) → Has Bit x → Has Bit (g x)) → Form l → Done g c s e l w → Form (w .records)
-form-kept g c s e l w f h k d = record {
+form-kept : (g : Option Counts → Option Counts) (s e : ℕ) (l : List Record) (w : Walk) → ((x : Option Counts) → Has Reached x → Has Reached (g x)) → ((x : Option Counts) → Has Bit x → Has Bit (g x)) → Form l → Done g s e l w → Form (w .records)
+form-kept g s e l w f h k d = record {
   rising = d .rising;
   merged = d .merged;
-  reached = each-kept Reached g c s e l w f d (k .reached);
-  uncacheable = each-kept Bit g c s e l w h d (k .uncacheable);
+  reached = each-kept Reached g s e l w f d (k .reached);
+  uncacheable = each-kept Bit g s e l w h d (k .uncacheable);
 }
 
 gained-reached : (r : ℕ) (x : Option Counts) → Has Reached x → Has Reached (gained r x)
@@ -67,7 +66,7 @@ lost-bit r (some k) h = lost-has Bit r k (λ i. h)
 
 module _ (r s e : ℕ) (l : List Record) (p : Pool) (k : Form l) (z : s < e) where
   pub gain-form : All (λ w. Form (w .records)) (gain r s e l p)
-  gain-form = weaken (gain-done r s e l p (k .rising) z) (λ w d. form-kept (gained r) _ s e l w (gained-reached r) (gained-bit r) k d)
+  gain-form = weaken (gain-done r s e l p (k .rising) z) (λ w d. form-kept (gained r) s e l w (gained-reached r) (gained-bit r) k d)
 
   pub lose-form : All (λ w. Form (w .records)) (lose r s e l p)
-  lose-form = weaken (lose-done r s e l p (k .rising) z) (λ w d. form-kept (lost r) _ s e l w (lost-reached r) (lost-bit r) k d)
+  lose-form = weaken (lose-done r s e l p (k .rising) z) (λ w d. form-kept (lost r) s e l w (lost-reached r) (lost-bit r) k d)

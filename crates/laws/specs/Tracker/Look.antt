@@ -9,7 +9,8 @@ use borrow.Author.Tests.{lt-ltb, le-ltb, le-leb, lt-leb}
 use Rattle.base.specs.Cases.{lt, ge, cmp, below, inside, above, pos}
 use Rattle.model.specs.Lists.{Each}
 use Rattle.model.specs.State.{Counts, Record}
-use Rattle.model.specs.Counts.{noCounts, countsAt}
+use Rattle.model.specs.Counts.{countsAt}
+use Rattle.model.specs.Tracker.{noCounts}
 use Rattle.model.specs.Sound.{Rising}
 use Rattle.laws.specs.Within.{within, W, within-in, within-hi}
 

@@ -3,6 +3,7 @@ use mathlib.Core.Path.{_≡_, refl, ap, _∙_}
 use Prim.Native.Nat.{ℕ}
 use mathlib.Core.Option.{Option, none, some}
 use mathlib.Core.List.{List, [], _∷_}
+use lib.Dec.{eqb}
 use lib.ListN.{set}
 use Rattle.base.specs.Options.{none-some, some-same}
 use Rattle.model.specs.Lists.{exists, In}
@@ -24,13 +25,13 @@ push-regions : (u : Update) (s : State) → All (SameRegions s) (push u s)
 unfolding push
 push-regions u s = and-then _ (accepted refl)
 
-permission-regions : (d : ℕ) (s : State) → All (SameRegions s) (pushPermission d s)
+permission-regions : (d m : ℕ) (s : State) → All (SameRegions s) (pushPermission d m s)
 unfolding pushPermission
-permission-regions d s = branch (exists (isPermissionOf (handleOf (s .domainPool) d)) (s .queue .items)) (accepted refl) (push-regions _ s)
+permission-regions d m s = branch (exists (isPermissionOf (handleOf (s .domainPool) d)) (s .queue .items)) (accepted refl) (push-regions _ s)
 
 walk-regions : (d : ℕ) (w : Walk) (s : State) → All (SameRegions s) (putWalk d w s)
 unfolding putWalk
-walk-regions d w s = branch (w .changed) (permission-regions d (withRecordPool (w .pool) (putDomain d (withTracker (w .records) (domainAt s d)) s))) (accepted refl)
+walk-regions d w s = branch (eqb (w .marks) 0) (accepted refl) (permission-regions d _ (withRecordPool (w .pool) (putDomain d (withTracker (w .records) (domainAt s d)) s)))
 
 pub activate-regions : (d : ℕ) (a : Access) (s : State) → All (SameRegions s) (activate d a s)
 unfolding activate

@@ -1,15 +1,15 @@
 -- A law: the words of sound tables are as many as the sizes say. Each row has its width, whatever it holds.
 use mathlib.Core.Path.{_≡_, refl, ap, _∙_}
-use Prim.Native.Nat.{ℕ, suc, _+_, _-_, _*_, _%_}
+use Prim.Native.Nat.{ℕ, suc, _+_, _*_}
 use mathlib.Core.Option.{Option, none, some}
 use mathlib.Core.List.{List, [], _∷_, map, flatMap}
 use native.Mathlib.Omega.{arith}
 use lib.Dec.{eqb}
-use lib.ListN.{length, drop, getElem?, length-append, length-map, replicate, length-replicate}
+use lib.ListN.{length, drop, length-append, length-map, replicate, length-replicate}
 use Rattle.base.specs.Cases.{holds, fails, test}
 use Rattle.model.specs.Lists.{atSlot, countUp, firstOf, afterIn}
 use Rattle.model.specs.State.{Sizes, Pool, Capa, noCapa, region, regionRevoke, management, channel, LocalList, Record, Domain, parentOf, Hash, Region, Update, permission, cleanup, Queue, State}
-use Rattle.model.specs.Layout.{link, slotOr0, headerWords, freeLink, poolWords, capaWords, slotWords, domainWords, kindWord, siblings, regionWords, trackerWords, recordSlotWords, updateWords, placeWords, hashWords, interfaceWords, words, lengthFor}
+use Rattle.model.specs.Layout.{link, slotOr0, headerWords, freeLink, poolWords, capaWords, slotWords, domainWords, kindWord, siblings, regionWords, trackerWords, recordSlotWords, updateWords, atPlace, placeWords, hashWords, interfaceWords, markWords, words, lengthFor}
 use Rattle.model.specs.Sound.{PoolSound, Sound}
 use Rattle.laws.specs.Parts.{join, in-turn, sum, join-length, up-length, rows-length}
 
@@ -67,11 +67,11 @@ record-width (some x ∷ ds) i = tracker-width i (x .tracker) (recordSlotWords d
 
 update-width : (o : Option Update) → length (updateWords o) ≡ 4
 update-width none = refl
-update-width (some (permission h c)) = refl
+update-width (some (permission h c m)) = refl
 update-width (some (cleanup a b)) = refl
 
 pub place-width : (n : ℕ) (q : Queue) (k : ℕ) → length (placeWords n q k) ≡ 4
-place-width n q k = update-width (getElem? (q .items) ((k + (n + 1) - q .readPlace) % (n + 1)))
+place-width n q k = update-width (atPlace n q k)
 
 -- `hashWords` by the hash; used only in proofs
 abbrev pub hashRow : Option Hash → List ℕ
@@ -95,7 +95,15 @@ domain-interface-width (some x) = refl
 pub interface-width : (ds : List (Option Domain)) (i : ℕ) → length (interfaceWords (atSlot ds i)) ≡ 2
 interface-width ds i = domain-interface-width (atSlot ds i)
 
--- ---- the ten sections
+update-mark-width : (o : Option Update) → length (markWords o) ≡ 1
+update-mark-width none = refl
+update-mark-width (some (permission h c m)) = refl
+update-mark-width (some (cleanup a b)) = refl
+
+pub mark-width : (n : ℕ) (q : Queue) (k : ℕ) → length (markWords (atPlace n q k)) ≡ 1
+mark-width n q k = update-mark-width (atPlace n q k)
+
+-- ---- the eleven sections
 
 -- the sections, and how long each is; used only in proofs
 abbrev pub sections : State → List (List ℕ)
@@ -110,12 +118,13 @@ sections s =
     ∷ flatMap (placeWords (s .sizes .updates) (s .queue)) (countUp 0 (s .sizes .updates + 1))
     ∷ flatMap (λ i. hashWords (atSlot (s .regions) i)) (countUp 0 (s .sizes .regions))
     ∷ flatMap (λ i. interfaceWords (atSlot (s .domains) i)) (countUp 0 (s .sizes .domains))
+    ∷ flatMap (λ k. markWords (atPlace (s .sizes .updates) (s .queue) k)) (countUp 0 (s .sizes .updates + 1))
     ∷ []
 
 abbrev pub widths : Sizes → List ℕ
 widths z =
     7 ∷ (2 + 2 * z .domains) ∷ (2 + 2 * z .regions) ∷ (2 + 2 * z .records)
-    ∷ z .domains * (5 + 3 * z .slots) ∷ z .regions * 8 ∷ z .records * 9 ∷ (z .updates + 1) * 4 ∷ z .regions * 5 ∷ z .domains * 2 ∷ []
+    ∷ z .domains * (5 + 3 * z .slots) ∷ z .regions * 8 ∷ z .records * 9 ∷ (z .updates + 1) * 4 ∷ z .regions * 5 ∷ z .domains * 2 ∷ (z .updates + 1) * 1 ∷ []
 
 pub words-join : (s : State) → words s ≡ join (sections s)
 unfolding words
@@ -138,7 +147,8 @@ section-lengths s h =
     let us = rows-length _ _ (place-width (z .updates) (s .queue)) 0 (z .updates + 1) in
     let hs = rows-length _ _ (hash-width (s .regions)) 0 (z .regions) in
     let fs = rows-length _ _ (interface-width (s .domains)) 0 (z .domains) in
-    λ i. 7 ∷ d i ∷ r i ∷ t i ∷ ds i ∷ rs i ∷ ts i ∷ us i ∷ hs i ∷ fs i ∷ []
+    let ms = rows-length _ _ (mark-width (z .updates) (s .queue)) 0 (z .updates + 1) in
+    λ i. 7 ∷ d i ∷ r i ∷ t i ∷ ds i ∷ rs i ∷ ts i ∷ us i ∷ hs i ∷ fs i ∷ ms i ∷ []
 
 pub words-length : (s : State) → Sound s → length (words s) ≡ lengthFor (s .sizes)
 words-length s h = ap length (words-join s) ∙ join-length (sections s) ∙ ap sum (section-lengths s h) ∙ omega arith

@@ -8,7 +8,7 @@ use Rattle.model.specs.State.{Sizes, Domain, State}
 use Rattle.model.specs.Layout.{words}
 use Rattle.model.specs.Sound.{Sound}
 use Rattle.laws.specs.Parts.{same-parts, same-rows}
-use Rattle.laws.specs.Words.Length.{sections, words-join, section-lengths, domain-width, region-width, record-width, place-width, hash-width, interface-width}
+use Rattle.laws.specs.Words.Length.{sections, words-join, section-lengths, domain-width, region-width, record-width, place-width, hash-width, interface-width, mark-width}
 use Rattle.laws.specs.Words.SameTables.{same-pool}
 use Rattle.laws.specs.Words.SameRegions.{same-regions}
 use Rattle.laws.specs.Words.SameDomains.{Listed, same-domains}
@@ -45,9 +45,10 @@ same-state s t₀ h k e =
     let qrows = same-rows _ _ _ (place-width (z .updates) (s .queue)) (place-width (z .updates) (t .queue)) (z .updates + 1) (part 7) in
     let hrows = same-rows _ _ _ (hash-width (s .regions)) (hash-width (t .regions)) (z .regions) (part 8) in
     let irows = same-rows _ _ _ (interface-width (s .domains)) (interface-width (t .domains)) (z .domains) (part 9) in
+    let mrows = same-rows _ _ _ (mark-width (z .updates) (s .queue)) (mark-width (z .updates) (t .queue)) (z .updates + 1) (part 10) in
     let ds = same-domains _ _ _ (s .domains) (t .domains) (h .outside .domainsLength) (k .outside .domainsLength) (dp .1) drows trows irows (listed s h) (listed t k) (h .tracked .recordPool) (k .tracked .recordPool) in
     let rs = same-regions _ (s .regions) (t .regions) (h .outside .regionsLength) (k .outside .regionsLength) (rp .1) rrows hrows (h .outside .regions) (k .outside .regions) in
-    let q = same-queue (z .updates) (s .queue) (t .queue) (ap (λ l. getD l 5 0) (part 0)) (h .queue .readPlace) (h .queue .fits) (k .queue .fits) qrows in
+    let q = same-queue (z .updates) (s .queue) (t .queue) (ap (λ l. getD l 5 0) (part 0)) (h .queue .readPlace) (h .queue .fits) (k .queue .fits) qrows mrows in
     λ i. record { sizes = z; domainPool = dp .0 i; regionPool = rp .0 i; recordPool = tp .0 i; domains = ds i; regions = rs i; queue = q i }
 
 pub words-unique : (s t : State) → Sound s → Sound t → words s ≡ words t → s ≡ t
