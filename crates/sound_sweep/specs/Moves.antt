@@ -4,8 +4,7 @@ use mathlib.Core.List.{List}
 use Prim.Native.Nat.{ℕ, _+_, _*_, _/_, _≤_, _<_, min}
 use native.Mathlib.Omega.{arith}
 use lib.ListN.{length, drop, getD}
-use Rattle.model.specs.Tracker.{raise}
-use Rattle.model.specs.Tracker.{noCounts}
+use Rattle.model.specs.Tracker.{noCounts, raise}
 use Rattle.sweep.specs.Sweep.{pass, upto, next}
 use Rattle.sweep.specs.Loops.{place-go, place-stop, place-end, place-next, place-none}
 use Rattle.sound_events.specs.Events.{eventsIn}

@@ -11,8 +11,7 @@ use Rattle.rights.specs.declared.Counters.{Counters}
 use Rattle.model.specs.Lists.{oneIf}
 use Rattle.model.specs.State.{Counts}
 use Rattle.model.specs.Fields.{Field, get, passes}
-use Rattle.model.specs.Tracker.{raise}
-use Rattle.model.specs.Tracker.{noCounts}
+use Rattle.model.specs.Tracker.{noCounts, raise}
 use Rattle.laws.specs.Stack.{one-at-most}
 use Rattle.laws.specs.Fields.{get-none, get-raise}
 use Rattle.sound_sweep.specs.declared.Sums.{Sums}

@@ -2,8 +2,7 @@
 ghost use mathlib.Core.Path.{_≡_};
 ghost use Prim.Native.Nat.{_+_};
 ghost use lib.Dec.{eqb};
-ghost use Rattle.model.specs.Tracker.{raise, sameCounts};
-ghost use Rattle.model.specs.Tracker.{noCounts};
+ghost use Rattle.model.specs.Tracker.{noCounts, raise, sameCounts};
 ghost use Rattle.sweep.specs.Sweep.{agrees};
 ghost use Rattle.sound_sweep.specs.Records.{countsFrom};
 ghost use Rattle.sound_sweep.specs.Sums.{countsOf, Low, most};
