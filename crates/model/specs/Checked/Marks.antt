@@ -9,7 +9,7 @@ use Rattle.refusals.specs.Refusals.{noTracker, ringFull}
 use Rattle.model.specs.State.{noOptions, permission, cleanup}
 use Rattle.model.specs.Making.{emptyTables}
 use Rattle.model.specs.Layout.{words}
-use Rattle.model.specs.Perform.{Step, Call, Value, Answer, run}
+use Rattle.model.specs.Perform.{Step, Call, Value, popped, Answer, values, run}
 use Rattle.model.specs.Checked.Compute.{computing}
 use Rattle.model.specs.Checked.Script.{dom, access}
 use Rattle.model.specs.Checked.OurCases.{SizedCase, answered, gives, z, opened, rootOf, channel, revoke}
@@ -101,16 +101,30 @@ pub mark-answers : map answered table ≡ map (λ x. x .answer) table
 unfolding computing
 mark-answers = refl
 
+-- "Pop answers them": kind, domain slot, generation, core map, marks; a range and nothing have none
+pub pop-values : map values (popped (some (permission (dom 1) 5 7)) ∷ popped (some (cleanup 4 8)) ∷ popped none ∷ [])
+    ≡ (1 ∷ 1 ∷ 0 ∷ 5 ∷ 7 ∷ [])
+    ∷ (2 ∷ 4 ∷ 8 ∷ 0 ∷ 0 ∷ [])
+    ∷ (0 ∷ 0 ∷ 0 ∷ 0 ∷ 0 ∷ [])
+    ∷ []
+pop-values = refl
+
 -- ---- their words: the marks stand behind all other sections, by place
 
--- a ring of two places, its read place 1: the second update stands in the first place
+-- of a ring with three places
 abbrev section : List Call → List ℕ
-section cs = let t = words (run (emptyTables (z 1 4 4 4 1)) cs .1) in drop (length t - 2) t
+section cs = let t = words (run (emptyTables (z 1 4 4 4 2)) cs .1) in drop (length t - 3) t
 
-pub mark-section : section one ≡ 7 ∷ 0 ∷ []
+pub mark-section : section one ≡ 7 ∷ 0 ∷ 0 ∷ []
 unfolding computing
 mark-section = refl
 
-pub round-section : section (one ++ (Call.Pop ∷ rootOf 20 24 4 ∷ [])) ≡ 0 ∷ 9 ∷ []
+-- a popped place has none, and the next update stands in the next place
+pub next-section : section (one ++ (Call.Pop ∷ rootOf 20 24 4 ∷ [])) ≡ 0 ∷ 9 ∷ 0 ∷ []
+unfolding computing
+next-section = refl
+
+-- a carve with CLEANUP is revoked: domain 0 stands in the last place, and the range, which has no marks, in the first
+pub round-section : section (one ++ (Call.Pop ∷ carveOf 0 4 8 35 ∷ Call.Pop ∷ revoke 1 ∷ [])) ≡ 0 ∷ 0 ∷ 7 ∷ []
 unfolding computing
 round-section = refl
