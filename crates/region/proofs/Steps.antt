@@ -1,13 +1,12 @@
 -- The steps of the turns and walks: what a callee's answer makes of its caller's.
 use mathlib.Core.Path.{_≡_, refl, sym, ap, _∙_}
-use mathlib.Core.Bool.{Bool}
 use mathlib.Core.List.{List}
 use Prim.Native.Nat.{ℕ, suc, _+_, _*_, _-_, _≤_, _<_}
 use native.Mathlib.Omega.{arith}
 use borrow.Author.Tests.{eq-eqb, ne-eqb}
 use lib.ListN.{getD}
 use Rattle.tables.specs.declared.Region.{Region}
-use Rattle.tables.specs.Tables.{Tables, withRecord}
+use Rattle.tables.specs.Tables.{Tables, noRecord, withRecord}
 use Rattle.sizes.specs.Sizes.{sizesOf}
 use Rattle.tables.specs.View.{view, ofParts, Sized, Left}
 use Rattle.answers.specs.declared.Answer.{Answer}
@@ -21,7 +20,7 @@ use Rattle.region.specs.declared.Progress.{Progress}
 use Rattle.region.specs.declared.Progress.the-variants.{Going, Over}
 use Rattle.region.specs.declared.Way.{Way}
 use Rattle.region.specs.declared.Way.the-variants.{Merge}
-use Rattle.tracker_records.specs.Counts.{lowered, changesB}
+use Rattle.tracker_records.specs.Counts.{lowered, crossingsOf}
 use Rattle.tables.specs.Links.{slotTo}
 use Rattle.answers.specs.Then.{stays}
 use Rattle.tracker_records.specs.Links.{withNext, firstLink, freedRecord}
@@ -36,24 +35,24 @@ module _ (x : Effect) (f : ℕ → Cursor) (r : Answer) (u : List ℕ) (h : (r �
   onward-refused y e = rw (← (h .0), e) (refl, h .1)
 
 -- a record that is lowered stays, or goes at reach 0
-module _ (s : Tables) (d : ℕ) (a : AccessRights) (c : Cursor) (q p : Region) (b : Bool) (ep : p ≡ lowered (a .ops .0) q) (eb : b ≡ changesB q p) where
-  pub lower-kept : (u : List ℕ) → (p .«ref_count» ≡ 0 → ⊥) → Left u (withRecord s (slotTo (c .at)) p)
-      → (Going (nextOf c (q .next) (c .start) b) ≡ lowerTurn s d a c q .answer) × Left u (lowerTurn s d a c q .tables)
+module _ (s : Tables) (d : ℕ) (a : AccessRights) (c : Cursor) (q p : Region) (ep : p ≡ lowered (a .ops .0) q) where
+  pub lower-kept : (m : ℕ) (u : List ℕ) → (p .«ref_count» ≡ 0 → ⊥) → m ≡ crossingsOf q p → Left u (withRecord s (slotTo (c .at)) p)
+      → (Going (nextOf c (q .next) (c .start) m) ≡ lowerTurn s d a c q .answer) × Left u (lowerTurn s d a c q .tables)
   unfolding lowerTurn
-  lower-kept u n l = rw (ne-eqb _ _ (rw ep at n)) (rw (eb, ep), rw ep at l)
+  lower-kept m u n em l = rw (ne-eqb _ _ (rw ep at n)) (rw (em, ep), rw ep at l)
 
-  pub lower-gone : p .«ref_count» ≡ 0 → lowerTurn s d a c q ≡ onward (freedRecord (withNext s d (c .prev) (q .next)) (slotTo (c .at))) (λ v. droppedOf c (q .next) b)
+  pub lower-gone : p .«ref_count» ≡ 0 → lowerTurn s d a c q ≡ onward (freedRecord (withNext s d (c .prev) (q .next)) (slotTo (c .at))) (λ v. droppedOf c (q .next) (crossingsOf q noRecord))
   unfolding lowerTurn
-  lower-gone e = rw (eq-eqb _ _ (rw ep at e), eb, ep)
+  lower-gone e = rw (eq-eqb _ _ (rw ep at e))
 
 -- ---- walks
 
 module _ (w : Way) (d : ℕ) (a : AccessRights) (t : List ℕ) where
   -- the number of turns and the first record as they are read from the words
-  pub walk-start : (n k : ℕ) (changed : ℕ) → n ≡ getD t 3 0 → k ≡ firstLink (view t) d
-      → walk w d a (3 * n + 3) (record { prev = 0; at = k; start = a .start; changed = changed }) (view t) ≡ walked w d a changed (view t)
+  pub walk-start : (n k marks : ℕ) → n ≡ getD t 3 0 → k ≡ firstLink (view t) d
+      → walk w d a (3 * n + 3) (record { prev = 0; at = k; start = a .start; marks = marks }) (view t) ≡ walked w d a marks (view t)
   unfolding walked view ofParts sizesOf
-  walk-start n k changed en ek = rw (en, ek)
+  walk-start n k marks en ek = rw (en, ek)
 
   pub walk-end : (c : Cursor) (n : ℕ) → n ≤ 0 → Sized t → (Refused memory ≡ walk w d a n c (view t) .answer) × Left t (walk w d a n c (view t) .tables)
   unfolding walk

@@ -11,10 +11,10 @@ use Rattle.region.proofs.tracker.walk.Statement.{statement}
 use Rattle.region.proofs.tracker.walk.Tie as tie
 
 abbrev Inv-loop : tie.InvT-loop
-Inv-loop t₀ d way a changed left₀ c₀ t left c = (length t ≡ length t₀) × Sized t × (walk way d a left c (view t) ≡ walk way d a left₀ c₀ (view t₀))
+Inv-loop t₀ d way a marks left₀ c₀ t left c = (length t ≡ length t₀) × Sized t × (walk way d a left c (view t) ≡ walk way d a left₀ c₀ (view t₀))
 
 abbrev μ-loop : tie.MeasureT-loop
-μ-loop t₀ d way a changed left₀ c₀ t left c = left
+μ-loop t₀ d way a marks left₀ c₀ t left c = left
 
 size-requires : tie.Need-size-requires Inv-loop μ-loop
 size-requires c κs = search needs

@@ -1,4 +1,4 @@
--- Onward with the new record's link.
+-- Onward with the new record's link and its marks.
 use Rattle.region.proofs.Steps.{onward-done, onward-refused}
 use Rattle.region.specs.Turns.{fillTurn}
 use borrow.Author.Needs.{needs}
@@ -14,6 +14,12 @@ insert-requires c κs = search needs
 enum-known-link : tie.Need-enum-known-link
 enum-known-link c = search needs
 
+no-record-requires : tie.Need-no-record-requires
+no-record-requires c κs = search needs
+
+crossings-requires : tie.Need-crossings-requires
+crossings-requires c κs = search needs
+
 enum-known-r : tie.Need-enum-known-r
 enum-known-r c = search needs
 
@@ -22,7 +28,7 @@ same-length c = search needs
 
 returns : tie.Need-returns
 unfolding fillTurn
-returns c = onward-done _ _ _ _ (rw (c .before .before .before .before .before .before .before .new .ensures) at (c .before .before .before .before .before .insert .ensures)) _ (c .before .link .given .1)
+returns c = rw ((c .before .crossings .ensures), (c .before .before .no-record .ensures), (c .before .before .before .before .before .before .before .before .before .before .new .ensures)) (onward-done _ _ _ _ (rw (c .before .before .before .before .before .before .before .before .before .before .new .ensures) at (c .before .before .before .before .before .before .before .before .insert .ensures)) _ (c .before .before .before .before .link .given .1))
 
 same-length-2 : tie.Need-same-length-2
 same-length-2 c = search needs
@@ -38,6 +44,8 @@ fill-spec =
     new-requires
     insert-requires
     enum-known-link
+    no-record-requires
+    crossings-requires
     enum-known-r
     same-length
     returns

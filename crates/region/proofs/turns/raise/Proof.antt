@@ -14,8 +14,8 @@ slot-to-requires c κs = search needs
 store-record-requires : tie.Need-store-record-requires
 store-record-requires c κs = search needs
 
-change-requires : tie.Need-change-requires
-change-requires c κs = search needs
+crossings-requires : tie.Need-crossings-requires
+crossings-requires c κs = search needs
 
 going-requires : tie.Need-going-requires
 going-requires c κs = search needs
@@ -25,7 +25,7 @@ same-length c = search needs
 
 returns : tie.Need-returns
 unfolding raiseTurn
-returns c = ((c .going .ensures) ∙ rw ((c .before .change .ensures), (c .before .before .before .before .before .before .before .increase .ensures)), rw ((c .before .before .before .before .before .before .before .increase .ensures), (c .before .before .before .before .before .slot-to .ensures)) at (c .before .before .before .before .store-record .ensures))
+returns c = ((c .going .ensures) ∙ rw ((c .before .crossings .ensures), (c .before .before .before .before .before .before .before .increase .ensures)), rw ((c .before .before .before .before .before .before .before .increase .ensures), (c .before .before .before .before .before .slot-to .ensures)) at (c .before .before .before .before .store-record .ensures))
 
 pub raise-spec : {M : Type 1} → statement M
 raise-spec =
@@ -34,7 +34,7 @@ raise-spec =
     increase-requires
     slot-to-requires
     store-record-requires
-    change-requires
+    crossings-requires
     going-requires
     same-length
     returns)
