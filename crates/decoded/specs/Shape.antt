@@ -12,8 +12,8 @@ use Rattle.words.specs.Cuts.{cuts, join, offset}
 use Rattle.tables.specs.declared.Slot.{Slot}
 use Rattle.tables.specs.Tables.{Tables, Arena, Domain}
 use Rattle.sizes.specs.Limits.{Limits}
-use Rattle.sizes.specs.Sizes.{sizesOf, widths, stride, poolWidth, total, headWidth, slotWidth, regionWidth, recordWidth, updateWidth, hashWidth, interfaceWidth}
-use Rattle.tables.specs.View.{view, ofParts, Sized, slotOf, slotWords, regionOf, regionWords, recordOf, recordWords, updateOf, updateWords, hashOf, hashWords, interfaceOf, interfaceWords, domainOf, domainWords, arenaOf, arenaWords, headerWords, partsOf, layout}
+use Rattle.sizes.specs.Sizes.{sizesOf, widths, stride, poolWidth, total, headWidth, slotWidth, regionWidth, recordWidth, updateWidth, hashWidth, interfaceWidth, markWidth}
+use Rattle.tables.specs.View.{view, ofParts, Sized, slotOf, slotWords, regionOf, regionWords, recordOf, recordWords, updateOf, updateWords, hashOf, hashWords, interfaceOf, interfaceWords, markOf, markWords, domainOf, domainWords, arenaOf, arenaWords, headerWords, partsOf, layout}
 use Rattle.decoded.specs.Rows.{Read, each-any, flat-length, rows-flat, cuts-join}
 
 -- a pool over n slots
@@ -33,6 +33,7 @@ pub record Shaped (x : Tables) : Type 0 where
   pub ring : length (x .ring) ≡ x .sizes .updates + 1
   pub hashes : length (x .hashes) ≡ x .sizes .regions
   pub interfaces : length (x .interfaces) ≡ x .sizes .domains
+  pub marks : length (x .marks) ≡ x .sizes .updates + 1
 
 -- ---- pools
 
@@ -96,9 +97,12 @@ module _ (x : Tables) (h : Shaped x) where
   read₉ : Read (x .sizes .domains * interfaceWidth) (rows interfaceWidth (x .sizes .domains) interfaceOf) (flat interfaceWords) (x .interfaces)
   read₉ = table-read 2 (x .sizes .domains) interfaceOf interfaceWords (x .interfaces) (h .interfaces) (each-any _ (x .interfaces) (λ r. (refl, refl)))
 
+  read₁₀ : Read ((x .sizes .updates + 1) * markWidth) (rows markWidth (x .sizes .updates + 1) markOf) (flat markWords) (x .marks)
+  read₁₀ = table-read 1 (x .sizes .updates + 1) markOf markWords (x .marks) (h .marks) (each-any _ (x .marks) (λ m. (refl, refl)))
+
   part-lengths : map length (partsOf x) ≡ widths (x .sizes)
   unfolding partsOf headerWords
-  part-lengths = λ i. 7 ∷ read₁ .0 i ∷ read₂ .0 i ∷ read₃ .0 i ∷ read₄ .0 i ∷ read₅ .0 i ∷ read₆ .0 i ∷ read₇ .0 i ∷ read₈ .0 i ∷ read₉ .0 i ∷ []
+  part-lengths = λ i. 7 ∷ read₁ .0 i ∷ read₂ .0 i ∷ read₃ .0 i ∷ read₄ .0 i ∷ read₅ .0 i ∷ read₆ .0 i ∷ read₇ .0 i ∷ read₈ .0 i ∷ read₉ .0 i ∷ read₁₀ .0 i ∷ []
 
   parts-cut : cuts (widths (x .sizes)) (layout x) ≡ partsOf x
   unfolding layout
@@ -111,7 +115,7 @@ module _ (x : Tables) (h : Shaped x) where
   pub view-layout : view (layout x) ≡ x
   unfolding view ofParts partsOf headerWords
   view-layout =
-      let all : ofParts (x .sizes) (partsOf x) ≡ x = λ i. record { sizes = x .sizes; read = x .read; write = x .write; domainPool = read₁ .1 i; regionPool = read₂ .1 i; recordPool = read₃ .1 i; domains = read₄ .1 i; regions = read₅ .1 i; records = read₆ .1 i; ring = read₇ .1 i; hashes = read₈ .1 i; interfaces = read₉ .1 i } in
+      let all : ofParts (x .sizes) (partsOf x) ≡ x = λ i. record { sizes = x .sizes; read = x .read; write = x .write; domainPool = read₁ .1 i; regionPool = read₂ .1 i; recordPool = read₃ .1 i; domains = read₄ .1 i; regions = read₅ .1 i; records = read₆ .1 i; ring = read₇ .1 i; hashes = read₈ .1 i; interfaces = read₉ .1 i; marks = read₁₀ .1 i } in
       rw sizes-seen (ap (ofParts (x .sizes)) parts-cut ∙ all)
 
   pub layout-sized : Sized (layout x)

@@ -7,7 +7,7 @@ use lib.ListN.{length, replicate, getElem?}
 use Rattle.model.specs.Lists.{if_then_else_, oneIf, atSlot, countUp, firstOf, afterIn}
 use Rattle.model.specs.State as state
 use Rattle.model.specs.State.{State, Capa, noCapa, region, regionRevoke, management, channel, parentOf, permission, cleanup}
-use Rattle.model.specs.Layout.{link, slotOr0, freeLink, kindWord, siblings, writePlace}
+use Rattle.model.specs.Layout.{link, slotOr0, freeLink, kindWord, siblings, atPlace, writePlace}
 use Rattle.sizes.specs.declared.Sizes.{Sizes}
 use Rattle.tables.specs.declared.Handle.{Handle}
 use Rattle.tables.specs.declared.DomainHead.{DomainHead}
@@ -142,12 +142,20 @@ recordIn (some x ∷ ds) i = inTrackerFor i (x .tracker) (recordIn ds i)
 
 abbrev pub updateFor : Option state.Update → Update
 updateFor none = noUpdate
-updateFor (some (permission h cores)) = record { kind = PERMISSION; a = h .slot; b = h .generation; c = cores }
+updateFor (some (permission h cores marks)) = record { kind = PERMISSION; a = h .slot; b = h .generation; c = cores }
 updateFor (some (cleanup a b)) = record { kind = CLEANUP; a = a; b = b; c = 0 }
 
 -- place k of a ring for n updates
 abbrev pub placeFor : ℕ → state.Queue → ℕ → Update
 placeFor n q k = updateFor (getElem? (q .items) ((k + (n + 1) - q .readPlace) % (n + 1)))
+
+-- ---- marks (document 02, request 4)
+
+-- of a domain that is queued; anything else has none
+abbrev pub markFor : Option state.Update → ℕ
+markFor none = 0
+markFor (some (permission h cores marks)) = marks
+markFor (some (cleanup a b)) = 0
 
 -- ---- the whole
 
@@ -162,6 +170,9 @@ recordsFor n ds = map (recordIn ds) (countUp 0 n)
 
 unfoldable pub ringFor : ℕ → state.Queue → List Update
 ringFor n q = map (placeFor n q) (countUp 0 (n + 1))
+
+unfoldable pub marksFor : ℕ → state.Queue → List ℕ
+marksFor n q = map (λ k. markFor (atPlace n q k)) (countUp 0 (n + 1))
 
 unfoldable pub hashesFor : ℕ → List (Option state.Region) → List RegionHash
 hashesFor n rs = map (λ i. slotHash (atSlot rs i)) (countUp 0 n)
@@ -184,4 +195,5 @@ tablesOf s =
       ring = ringFor (s .sizes .updates) (s .queue);
       hashes = hashesFor (s .sizes .regions) (s .regions);
       interfaces = interfacesFor (s .sizes .domains) (s .domains);
+      marks = marksFor (s .sizes .updates) (s .queue);
     }

@@ -20,12 +20,12 @@ use Rattle.words.specs.Rows.{flat}
 use Rattle.words.specs.Cuts.{join}
 use Rattle.tables.specs.declared.Region.{Region}
 use Rattle.tables.specs.Tables.{Domain, noSlot}
-use Rattle.tables.specs.View.{headWords, slotWords, regionWords, recordWords, updateWords, hashWords, interfaceWords, domainWords, arenaWords, headerWords, partsOf, layout, view, Sized, Left}
+use Rattle.tables.specs.View.{headWords, slotWords, regionWords, recordWords, updateWords, hashWords, interfaceWords, markWords, domainWords, arenaWords, headerWords, partsOf, layout, view, Sized, Left}
 use Rattle.tables.specs.Layout.{words-are}
 use Rattle.decoded.specs.Rows.{map-up-length, each-map, flat-map}
 use Rattle.decoded.specs.Sizes.{good-limits}
 use Rattle.decoded.specs.Shape.{PoolShaped, Shaped, view-layout, layout-sized}
-use Rattle.decoded.specs.Tables.{poolOf, slotFor, headFor, domainFor, regionFor, inTrackerFor, recordIn, updateFor, placeFor, regionHashFor, slotHash, slotInterface, domainsFor, regionsFor, recordsFor, ringFor, hashesFor, interfacesFor, tablesOf}
+use Rattle.decoded.specs.Tables.{poolOf, slotFor, headFor, domainFor, regionFor, inTrackerFor, recordIn, updateFor, placeFor, markFor, regionHashFor, slotHash, slotInterface, domainsFor, regionsFor, recordsFor, ringFor, hashesFor, interfacesFor, marksFor, tablesOf}
 
 -- ---- the words of each row
 
@@ -71,7 +71,7 @@ record-words (some x ∷ ds) i = tracker-words i (x .tracker) (recordIn ds i) (m
 
 update-words : (o : Option state.Update) → updateWords (updateFor o) ≡ model.updateWords o
 update-words none = refl
-update-words (some (permission h c)) = refl
+update-words (some (permission h c m)) = refl
 update-words (some (cleanup a b)) = refl
 
 place-words : (n : ℕ) (q : state.Queue) (k : ℕ) → updateWords (placeFor n q k) ≡ model.placeWords n q k
@@ -89,10 +89,15 @@ interface-words : (o : Option state.Domain) → interfaceWords (slotInterface o)
 interface-words none = refl
 interface-words (some x) = refl
 
+mark-words : (o : Option state.Update) → markWords (markFor o) ≡ model.markWords o
+mark-words none = refl
+mark-words (some (permission h c m)) = refl
+mark-words (some (cleanup a b)) = refl
+
 -- ---- the whole
 
 parts-words : (s : State) → partsOf (tablesOf s) ≡ laws.sections s
-unfolding partsOf tablesOf headerWords domainsFor regionsFor recordsFor ringFor hashesFor interfacesFor
+unfolding partsOf tablesOf headerWords domainsFor regionsFor recordsFor ringFor hashesFor interfacesFor marksFor
 parts-words s =
     let z = s .sizes in
     let p₁ = pool-words (z .domains) (s .domainPool) in
@@ -104,7 +109,8 @@ parts-words s =
     let p₇ = flat-map updateWords (placeFor (z .updates) (s .queue)) (model.placeWords (z .updates) (s .queue)) (countUp 0 (z .updates + 1)) (place-words (z .updates) (s .queue)) in
     let p₈ = flat-map hashWords (λ i. slotHash (atSlot (s .regions) i)) _ (countUp 0 (z .regions)) (λ i. slot-hash-words (atSlot (s .regions) i)) in
     let p₉ = flat-map interfaceWords (λ i. slotInterface (atSlot (s .domains) i)) _ (countUp 0 (z .domains)) (λ i. interface-words (atSlot (s .domains) i)) in
-    λ i. model.headerWords s ∷ p₁ i ∷ p₂ i ∷ p₃ i ∷ p₄ i ∷ p₅ i ∷ p₆ i ∷ p₇ i ∷ p₈ i ∷ p₉ i ∷ []
+    let p₁₀ = flat-map markWords (λ k. markFor (model.atPlace (z .updates) (s .queue) k)) _ (countUp 0 (z .updates + 1)) (λ k. mark-words (model.atPlace (z .updates) (s .queue) k)) in
+    λ i. model.headerWords s ∷ p₁ i ∷ p₂ i ∷ p₃ i ∷ p₄ i ∷ p₅ i ∷ p₆ i ∷ p₇ i ∷ p₈ i ∷ p₉ i ∷ p₁₀ i ∷ []
 
 same-join : (l : List (List ℕ)) → join l ≡ parts.join l
 unfolding join
@@ -137,7 +143,7 @@ slots-many n none = length-replicate n noSlot
 slots-many n (some x) = map-up-length (λ i. slotFor (x .locals .free) i (atSlot (x .locals .held) i)) n
 
 pub tables-shaped : (s : State) → Fits s → Shaped (tablesOf s)
-unfolding tablesOf domainsFor regionsFor recordsFor ringFor hashesFor interfacesFor
+unfolding tablesOf domainsFor regionsFor recordsFor ringFor hashesFor interfacesFor marksFor
 tables-shaped s h =
     let z = s .sizes in
     record {
@@ -152,6 +158,7 @@ tables-shaped s h =
       ring = map-up-length (placeFor (z .updates) (s .queue)) (z .updates + 1);
       hashes = map-up-length (λ i. slotHash (atSlot (s .regions) i)) (z .regions);
       interfaces = map-up-length (λ i. slotInterface (atSlot (s .domains) i)) (z .domains);
+      marks = map-up-length (λ k. markFor (model.atPlace (z .updates) (s .queue) k)) (z .updates + 1);
     }
 
 module _ (s : State) (h : Fits s) where

@@ -11,7 +11,6 @@ use Rattle.base.specs.Lists.{getD-any}
 use Rattle.model.specs.Lists.{Each, In, countUp}
 use Rattle.model.specs.State as state
 use Rattle.model.specs.Sound.{recordUses}
-use Rattle.tables.specs.declared.Region.{Region}
 use Rattle.tables.specs.Tables.{Tables, Domain, noDomain, noRegion, noRecord, noHash, noInterface}
 use Rattle.decoded.specs.Shape.{Shaped}
 use Rattle.decoded.specs.Tables.{domainFor, regionFor, slotHash, slotInterface, recordIn, domainsFor, regionsFor, recordsFor, hashesFor, interfacesFor, tablesOf}
@@ -24,7 +23,7 @@ use Rattle.decoded.specs.Canonical.Pools.{pool-kept, table-used, table-i
 use Rattle.decoded.specs.Canonical.Domains.{domain-kept, interface-kept}
 use Rattle.decoded.specs.Canonical.Regions.{hash-kept, region-kept, next-kept}
 use Rattle.decoded.specs.Canonical.Records.{walked-stored, record-kept}
-use Rattle.decoded.specs.Canonical.Ring.{ring-kept, write-kept}
+use Rattle.decoded.specs.Canonical.Ring.{ring-kept, marks-kept, write-kept}
 
 pub each-at : {A : Type 0} (P : A → Type 0) (l : List A) → Each P l → (i : ℕ) (d : A) → i < length l → P (getD l i d)
 each-at P [] h i d b = absurd (omega arith)
@@ -98,6 +97,7 @@ module _ (v : Tables) (s : Shaped v) (t : WellFormed v) (w : Walked v) where
       let dp = pool-kept (v .sizes .domains) (v .domainPool) (s .domainPool .links) (t .outside .domainPool) (w .outside .domainMarks) in
       let rp = pool-kept (v .sizes .regions) (v .regionPool) (s .regionPool .links) (t .outside .regionPool) (w .outside .regionMarks) in
       let tp = pool-kept (v .sizes .records) (v .recordPool) (s .recordPool .links) (t .tracked .recordPool) (t .tracked .recordMarks) in
-      let write = write-kept (v .sizes .updates) (v .read) (v .write) (v .ring) (s .ring) (w .queue .read) (w .queue .write) (t .queue .queued) (t .queue .unqueued) in
-      let ring = ring-kept (v .sizes .updates) (v .read) (v .write) (v .ring) (s .ring) (w .queue .read) (w .queue .write) (t .queue .queued) (t .queue .unqueued) in
-      λ i. record { sizes = v .sizes; read = v .read; write = write i; domainPool = dp i; regionPool = rp i; recordPool = tp i; domains = domains-kept i; regions = regions-kept i; records = records-kept i; ring = ring i; hashes = hashes-kept i; interfaces = interfaces-kept i }
+      let write = write-kept (v .sizes .updates) (v .read) (v .write) (v .ring) (v .marks) (s .ring) (s .marks) (w .queue .read) (w .queue .write) (t .queue .queued) (t .queue .unqueued) in
+      let ring = ring-kept (v .sizes .updates) (v .read) (v .write) (v .ring) (v .marks) (s .ring) (s .marks) (w .queue .read) (w .queue .write) (t .queue .queued) (t .queue .unqueued) in
+      let marks = marks-kept (v .sizes .updates) (v .read) (v .write) (v .ring) (v .marks) (s .ring) (s .marks) (w .queue .read) (w .queue .write) (t .queue .queued) (t .queue .unqueued) in
+      λ i. record { sizes = v .sizes; read = v .read; write = write i; domainPool = dp i; regionPool = rp i; recordPool = tp i; domains = domains-kept i; regions = regions-kept i; records = records-kept i; ring = ring i; hashes = hashes-kept i; interfaces = interfaces-kept i; marks = marks i }

@@ -133,7 +133,7 @@ module _ (v : Tables) (h : QueueSound (v .sizes .updates) (stateOf v .domainPool
       let places = placesFrom n (v .write) n (v .read) in
       elim (cmp (v .write) n) [
         | lt b ↦ b
-        | ge b ↦ absurd (omega (arith, h .fits, length-map places (λ k. updateFrom (getD (v .ring) k noUpdate)), places-outside n (v .write) b n (v .read) read-place))
+        | ge b ↦ absurd (omega (arith, h .fits, length-map places (λ k. updateFrom (getD (v .ring) k noUpdate) (getD (v .marks) k 0)), places-outside n (v .write) b n (v .read) read-place))
       ]
 
   pub queue-walked : QueueWalked v

@@ -14,7 +14,7 @@ use Rattle.base.specs.Rounds.{along-at}
 use Rattle.model.specs.Lists.{oneIf, isSome, exists, countIf, atSlot, In, firstOf}
 use Rattle.model.specs.State as state
 use Rattle.model.specs.State.{State, Pool, Capa, noCapa, region, regionRevoke, management, channel, Kind, Root, Alias, Carve, permission, cleanup}
-use Rattle.model.specs.Layout.{slotOr0}
+use Rattle.model.specs.Layout.{slotOr0, atPlace}
 use Rattle.model.specs.Sound.{Sound, OnceEach, slotUses, recordUses}
 use Rattle.laws.specs.Stack.{one-at-most, once-at-most}
 use Rattle.laws.specs.Words.SameDomains.{Listed}
@@ -22,7 +22,7 @@ use Rattle.tables.specs.declared.Update.{Update}
 use Rattle.tables.specs.Tables.{Domain, noDomain, noSlot, noRegion, noRecord, noUpdate, noHash, noInterface}
 use Rattle.decoded.specs.Rows.{getD-up}
 use Rattle.decoded.specs.Tracker.Trackers.{record-unused}
-use Rattle.decoded.specs.Tables.{poolOf, slotFor, slotsFor, domainFor, regionFor, regionHashFor, slotHash, interfaceFor, slotInterface, recordIn, updateFor, placeFor, domainsFor, regionsFor, recordsFor, ringFor, hashesFor, interfacesFor, tablesOf}
+use Rattle.decoded.specs.Tables.{poolOf, slotFor, slotsFor, domainFor, regionFor, regionHashFor, slotHash, interfaceFor, slotInterface, recordIn, updateFor, placeFor, markFor, domainsFor, regionsFor, recordsFor, ringFor, hashesFor, interfacesFor, marksFor, tablesOf}
 use Rattle.decoded.specs.Decode.Read.{afterFree, taken, afterSlot}
 use Rattle.decoded.specs.Decode.Pools.{pool-stacked, steps, free-read, taken-used, taken-free}
 use Rattle.decoded.specs.Decode.Lists.{list-stacked, list-steps}
@@ -90,9 +90,9 @@ hash-well-formed (some x) = record { givenBit = omega arith; noneClear = λ e. a
 interface-well-formed : (f : state.Interface) → InterfaceWellFormed (interfaceFor f)
 interface-well-formed f = one-at-most (f .frozen)
 
-update-well-formed : (u : state.Update) → UpdateWellFormed (updateFor (some u))
-update-well-formed (permission h c) = record { kindLow = omega arith; kindHigh = omega arith; cleanupClear = λ e. absurd (omega arith) }
-update-well-formed (cleanup a b) = record { kindLow = omega arith; kindHigh = omega arith; cleanupClear = λ e. refl }
+update-well-formed : (u : state.Update) → UpdateWellFormed (updateFor (some u)) (markFor (some u))
+update-well-formed (permission h c m) = record { kindLow = omega arith; kindHigh = omega arith; cleanupClear = λ e. absurd (omega arith); cleanupMarks = λ e. absurd (omega arith) }
+update-well-formed (cleanup a b) = record { kindLow = omega arith; kindHigh = omega arith; cleanupClear = λ e. refl; cleanupMarks = λ e. refl }
 
 -- ---- the whole
 
@@ -117,6 +117,10 @@ module _ (s : State) (h : Sound s) where
   unfolding tablesOf ringFor
   place-row k b = getD-up (placeFor (s .sizes .updates) (s .queue)) (s .sizes .updates + 1) k noUpdate b
 
+  mark-row : (k : ℕ) → k < s .sizes .updates + 1 → getD (tablesOf s .marks) k 0 ≡ markFor (atPlace (s .sizes .updates) (s .queue) k)
+  unfolding tablesOf marksFor
+  mark-row k b = getD-up (λ i. markFor (atPlace (s .sizes .updates) (s .queue) i)) (s .sizes .updates + 1) k 0 b
+
   domain-well-formed : (i : ℕ) (x : state.Domain) → In (s .domains) i x → DomainWellFormed (s .sizes .slots) (domainFor (s .sizes .slots) (some x))
   domain-well-formed i x at =
       let m = s .sizes .slots in
@@ -137,11 +141,21 @@ module _ (s : State) (h : Sound s) where
   unfolding tablesOf
   behind = along-at (s .sizes .updates + 1) (s .queue .readPlace) (h .queue .readPlace) (length (s .queue .items)) (h .queue .fits)
 
-  is-queued : (k : ℕ) → k < s .sizes .updates + 1 → along (s .sizes .updates + 1) (s .queue .readPlace) k < length (s .queue .items) → UpdateWellFormed (getD (tablesOf s .ring) k noUpdate)
-  is-queued k b o = subst UpdateWellFormed (sym (place-row k b ∙ ap updateFor (elem-at (s .queue .items) (along (s .sizes .updates + 1) (s .queue .readPlace) k) (cleanup 0 0) o))) (update-well-formed (getD (s .queue .items) (along (s .sizes .updates + 1) (s .queue .readPlace) k) (cleanup 0 0)))
+  -- what a place and its mark are, by what is queued there
+  pair-row : (P : Update → ℕ → Type 0) (k : ℕ) → k < s .sizes .updates + 1 → (o : Option state.Update) → atPlace (s .sizes .updates) (s .queue) k ≡ o → P (updateFor o) (markFor o) → P (getD (tablesOf s .ring) k noUpdate) (getD (tablesOf s .marks) k 0)
+  pair-row P k b o e p =
+      subst (P (getD (tablesOf s .ring) k noUpdate)) (sym (mark-row k b ∙ ap markFor e)) (subst (λ u. P u (markFor o)) (sym (place-row k b ∙ ap updateFor e)) p)
 
-  is-unqueued : (k : ℕ) → k < s .sizes .updates + 1 → length (s .queue .items) ≤ along (s .sizes .updates + 1) (s .queue .readPlace) k → getD (tablesOf s .ring) k noUpdate ≡ noUpdate
-  is-unqueued k b o = place-row k b ∙ ap updateFor (beyond (s .queue .items) (along (s .sizes .updates + 1) (s .queue .readPlace) k) o)
+  is-queued : (k : ℕ) → k < s .sizes .updates + 1 → along (s .sizes .updates + 1) (s .queue .readPlace) k < length (s .queue .items) → UpdateWellFormed (getD (tablesOf s .ring) k noUpdate) (getD (tablesOf s .marks) k 0)
+  is-queued k b o =
+      let j = along (s .sizes .updates + 1) (s .queue .readPlace) k in
+      let u = getD (s .queue .items) j (cleanup 0 0) in
+      pair-row UpdateWellFormed k b (some u) (elem-at (s .queue .items) j (cleanup 0 0) o) (update-well-formed u)
+
+  is-unqueued : (k : ℕ) → k < s .sizes .updates + 1 → length (s .queue .items) ≤ along (s .sizes .updates + 1) (s .queue .readPlace) k → (getD (tablesOf s .ring) k noUpdate ≡ noUpdate) × (getD (tablesOf s .marks) k 0 ≡ 0)
+  is-unqueued k b o =
+      let e = beyond (s .queue .items) (along (s .sizes .updates + 1) (s .queue .readPlace) k) o in
+      (place-row k b ∙ ap updateFor e, mark-row k b ∙ ap markFor e)
 
   free-record : (i : ℕ) → i < s .sizes .records → taken (poolOf (s .sizes .records) (s .recordPool)) i ≡ false → getD (tablesOf s .records) i noRecord ≡ noRecord
   unfolding tablesOf recordsFor

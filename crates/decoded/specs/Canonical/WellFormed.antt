@@ -67,11 +67,12 @@ pub record HashWellFormed (x : RegionHash) : Type 0 where
 abbrev pub InterfaceWellFormed : Interface → Type 0
 InterfaceWellFormed f = f .frozen ≤ 1
 
--- a place of the ring where an update is queued
-pub record UpdateWellFormed (u : Update) : Type 0 where
+-- a place of the ring where an update is queued, with its mark
+pub record UpdateWellFormed (u : Update) (m : ℕ) : Type 0 where
   pub kindLow : PERMISSION ≤ u .kind
   pub kindHigh : u .kind ≤ CLEANUP
   pub cleanupClear : u .kind ≡ CLEANUP → u .c ≡ 0
+  pub cleanupMarks : u .kind ≡ CLEANUP → m ≡ 0
 
 -- ---- the whole
 
@@ -92,6 +93,9 @@ recordRow v i = getD (v .records) i noRecord
 
 abbrev pub place : Tables → ℕ → Update
 place v k = getD (v .ring) k noUpdate
+
+abbrev pub placeMark : Tables → ℕ → ℕ
+placeMark v k = getD (v .marks) k 0
 
 -- how far place k is behind the read place; for the write place that is the number of updates
 abbrev pub behind : Tables → ℕ → ℕ
@@ -118,8 +122,8 @@ pub record TrackersWellFormed (v : Tables) : Type 0 where
   pub recordsFree : (i : ℕ) → i < v .sizes .records → taken (v .recordPool) i ≡ false → recordRow v i ≡ noRecord
 
 pub record QueueWellFormed (v : Tables) : Type 0 where
-  pub queued : (k : ℕ) → k < v .sizes .updates + 1 → behind v k < behind v (v .write) → UpdateWellFormed (place v k)
-  pub unqueued : (k : ℕ) → k < v .sizes .updates + 1 → behind v (v .write) ≤ behind v k → place v k ≡ noUpdate
+  pub queued : (k : ℕ) → k < v .sizes .updates + 1 → behind v k < behind v (v .write) → UpdateWellFormed (place v k) (placeMark v k)
+  pub unqueued : (k : ℕ) → k < v .sizes .updates + 1 → behind v (v .write) ≤ behind v k → (place v k ≡ noUpdate) × (placeMark v k ≡ 0)
 
 pub record WellFormed (v : Tables) : Type 0 where
   pub outside : OutsideWellFormed v

@@ -11,8 +11,8 @@ use Rattle.model.specs.Layout.{words}
 use Rattle.model.specs.Sound.{Sound}
 use Rattle.words.specs.Runs.{length-part}
 use Rattle.words.specs.Rows.{rows, length-rows}
-use Rattle.sizes.specs.Sizes.{sizesOf, stride, regionWidth, recordWidth, updateWidth, hashWidth, interfaceWidth, domainPoolSection, regionPoolSection, recordPoolSection, domainsSection, regionsSection, recordsSection, ringSection, hashSection, interfaceSection}
-use Rattle.tables.specs.View.{regionOf, recordOf, updateOf, hashOf, interfaceOf, arenaOf, domainOf, ofParts, view, Sized}
+use Rattle.sizes.specs.Sizes.{sizesOf, stride, regionWidth, recordWidth, updateWidth, hashWidth, interfaceWidth, markWidth, domainPoolSection, regionPoolSection, recordPoolSection, domainsSection, regionsSection, recordsSection, ringSection, hashSection, interfaceSection, markSection}
+use Rattle.tables.specs.View.{regionOf, recordOf, updateOf, hashOf, interfaceOf, markOf, arenaOf, domainOf, ofParts, view, Sized}
 use Rattle.tables.specs.Sections.{section, section-length}
 use Rattle.decoded.specs.Shape.{PoolShaped, Shaped}
 use Rattle.decoded.specs.Words.{words-held, held-words}
@@ -48,6 +48,7 @@ view-shaped t s =
       ring = length-rows updateWidth (z .updates + 1) updateOf (section t ringSection);
       hashes = length-rows hashWidth (z .regions) hashOf (section t hashSection);
       interfaces = length-rows interfaceWidth (z .domains) interfaceOf (section t interfaceSection);
+      marks = length-rows markWidth (z .updates + 1) markOf (section t markSection);
     }
 
 -- ---- the words of a sound state

@@ -56,7 +56,8 @@ places-outside n w h zero p hp = refl
 places-outside n w h (suc k) p hp = rw (ne-eqb p w (λ e. omega arith)) (ap suc (places-outside n w h k ((p + 1) % n) (mod-lt (p + 1) {m = n} (omega arith))))
 
 -- the queue's updates, by number
-pub items-are : (n r w : ℕ) → r < n → w < n → (l : List Update) → map (λ k. updateFrom (getD l k noUpdate)) (placesFrom n w n r) ≡ map (λ j. updateFrom (getD l ((r + j) % n) noUpdate)) (countUp 0 (along n r w))
-items-are n r w hr hw l =
-    ap (map (λ k. updateFrom (getD l k noUpdate))) (places-are n w hw n r hr (omega (arith, mod-lt (w + n - r) {m = n} (omega arith))))
-    ∙ map-map (λ k. updateFrom (getD l k noUpdate)) (λ j. (r + j) % n) (countUp 0 (along n r w))
+pub items-are : (n r w : ℕ) → r < n → w < n → (l : List Update) (ms : List ℕ)
+    → map (λ k. updateFrom (getD l k noUpdate) (getD ms k 0)) (placesFrom n w n r) ≡ map (λ j. updateFrom (getD l ((r + j) % n) noUpdate) (getD ms ((r + j) % n) 0)) (countUp 0 (along n r w))
+items-are n r w hr hw l ms =
+    ap (map (λ k. updateFrom (getD l k noUpdate) (getD ms k 0))) (places-are n w hw n r hr (omega (arith, mod-lt (w + n - r) {m = n} (omega arith))))
+    ∙ map-map (λ k. updateFrom (getD l k noUpdate) (getD ms k 0)) (λ j. (r + j) % n) (countUp 0 (along n r w))

@@ -151,18 +151,18 @@ regionsFrom v = tableFrom (v .sizes .regions) (v .regionPool) (regionRead v)
 
 -- ---- the ring
 
--- by the kind word; only permissions and cleanups stand in a queue
-abbrev pub updateFrom : Update → state.Update
-updateFrom u = if eqb (u .kind) PERMISSION then permission (record { slot = u .a; generation = u .b }) (u .c) else cleanup (u .a) (u .b)
+-- by the kind word, with the marks beside it; only permissions and cleanups stand in a queue
+abbrev pub updateFrom : Update → ℕ → state.Update
+updateFrom u m = if eqb (u .kind) PERMISSION then permission (record { slot = u .a; generation = u .b }) (u .c) m else cleanup (u .a) (u .b)
 
 -- from place p of n up to place w, going round, at most k places
 abbrev pub placesFrom : ℕ → ℕ → ℕ → ℕ → List ℕ
 placesFrom n w zero p = []
 placesFrom n w (suc k) p = if eqb p w then [] else p ∷ placesFrom n w k ((p + 1) % n)
 
--- n places; the queue goes from place r up to place w
-unfoldable pub queueFrom : ℕ → ℕ → ℕ → List Update → Queue
-queueFrom n r w l = record { readPlace = r; items = map (λ k. updateFrom (getD l k noUpdate)) (placesFrom n w n r) }
+-- n places and their marks; the queue goes from place r up to place w
+unfoldable pub queueFrom : ℕ → ℕ → ℕ → List Update → List ℕ → Queue
+queueFrom n r w l ms = record { readPlace = r; items = map (λ k. updateFrom (getD l k noUpdate) (getD ms k 0)) (placesFrom n w n r) }
 
 -- ---- the whole
 
@@ -178,5 +178,5 @@ stateOf v =
       recordPool = poolFrom (v .sizes .records) (v .recordPool);
       domains = domainsFrom v;
       regions = regionsFrom v;
-      queue = queueFrom (v .sizes .updates + 1) (v .read) (v .write) (v .ring);
+      queue = queueFrom (v .sizes .updates + 1) (v .read) (v .write) (v .ring) (v .marks);
     }
