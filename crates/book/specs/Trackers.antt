@@ -2,8 +2,9 @@
 use mathlib.Core.Path.{_≡_, refl}
 use Prim.Native.Nat.{ℕ}
 use mathlib.Core.Bool.{true}
+use lib.Dec.{eqb}
 use Rattle.model.specs.Lists.{isSome, atSlot, exists}
-use Rattle.model.specs.State.{State, Handle, Access, Update, withRecordPool, withTracker, domainAt, putDomain}
+use Rattle.model.specs.State.{State, Handle, Access, Update, Queue, withQueue, withRecordPool, withTracker, domainAt, putDomain}
 use Rattle.model.specs.Pool.{handleOf}
 use Rattle.model.specs.Updates.{push, pushPermission, isPermissionOf}
 use Rattle.model.specs.Tracker.{Walk}
@@ -18,13 +19,16 @@ module _ (b : Book) (at : ℕ → Handle) (place : ℕ → ℕ) where
   abbrev pub MatchesAfter : State → State → Type 0
   MatchesAfter s t = MatchesAt b t at place × OnlyDomains s t
 
+  queue-match : (s₀ s : State) (q : Queue) → MatchesAfter s₀ s → MatchesAfter s₀ (withQueue q s)
+  queue-match s₀ s q c = (record { sizes = c .0 .sizes; regions = c .0 .regions; lists = c .0 .lists }, record { pool = c .1 .pool; regions = c .1 .regions; domainPool = c .1 .domainPool; opens = c .1 .opens; live = c .1 .live })
+
   push-match : (s₀ s : State) (u : Update) → MatchesAfter s₀ s → All (MatchesAfter s₀) (push u s)
   unfolding push
-  push-match s₀ s u c = and-then _ (accepted (record { sizes = c .0 .sizes; regions = c .0 .regions; lists = c .0 .lists }, record { pool = c .1 .pool; regions = c .1 .regions; domainPool = c .1 .domainPool; opens = c .1 .opens; live = c .1 .live }))
+  push-match s₀ s u c = and-then _ (accepted (queue-match s₀ s _ c))
 
-  permission-match : (s₀ s : State) (d : ℕ) → MatchesAfter s₀ s → All (MatchesAfter s₀) (pushPermission d s)
+  permission-match : (s₀ s : State) (d m : ℕ) → MatchesAfter s₀ s → All (MatchesAfter s₀) (pushPermission d m s)
   unfolding pushPermission
-  permission-match s₀ s d c = branch (exists (isPermissionOf (handleOf (s .domainPool) d)) (s .queue .items)) (accepted c) (push-match s₀ s _ c)
+  permission-match s₀ s d m c = branch (exists (isPermissionOf (handleOf (s .domainPool) d)) (s .queue .items)) (accepted (queue-match s₀ s _ c)) (push-match s₀ s _ c)
 
   walk-match : (s : State) (d : ℕ) (w : Walk) → MatchesAt b s at place → isSome (atSlot (s .domains) d) ≡ true → All (MatchesAfter s) (putWalk d w s)
   unfolding putWalk
@@ -33,7 +37,7 @@ module _ (b : Book) (at : ℕ → Handle) (place : ℕ → ℕ) where
       let n = domain-match b s at place m d x i refl in
       let k = put-only-domains b s at place m d x in
       let c : MatchesAfter s (withRecordPool (w .pool) (putDomain d x s)) = (record { sizes = n .sizes; regions = n .regions; lists = n .lists }, record { pool = k .pool; regions = k .regions; domainPool = k .domainPool; opens = k .opens; live = k .live }) in
-      branch (w .changed) (permission-match s _ d c) (accepted c)
+      branch (eqb (w .marks) 0) (accepted c) (permission-match s _ d (w .marks) c)
 
   pub activate-match : (s : State) (d : ℕ) (a : Access) → MatchesAt b s at place → isSome (atSlot (s .domains) d) ≡ true → All (MatchesAfter s) (activate d a s)
   unfolding activate

@@ -1,133 +1,164 @@
--- The last delivery's words of a state are all but the interfaces. Where every domain has the interface that it opens with, they tell this delivery's words.
-use mathlib.Core.Path.{_≡_, refl, sym, ap, _∙_}
-use Prim.Native.Nat.{ℕ, zero, suc, _+_, _-_, _*_, _≤_, _<_}
-use mathlib.Core.Bool.{Bool, true, false}
+-- The last delivery's words of a state are all but the marks. Where every queued domain has all five marks, they tell this delivery's words.
+use mathlib.Core.Path.{_≡_, refl, sym, ap, subst, _∙_}
+use Prim.Native.Nat.{ℕ, zero, suc, _+_, _*_, _%_, _≤_, _<_}
 use mathlib.Core.Option.{Option, none, some}
-use mathlib.Core.List.{List, [], _∷_, _++_, map, flatMap, append-assoc}
+use mathlib.Core.List.{List, [], _∷_, _++_, map, flatMap}
 use native.Mathlib.Omega.{arith}
 use lib.Dec.{eqb}
-use lib.ListN.{length, getD, take, drop, length-append}
+use lib.ListN.{length, getD, getElem?, take, drop, length-append, length-map, List·getD-append}
 use lib.Seq.{take-at, getD-take, getD-append-add}
-use borrow.Author.Tests.{lt-ltb, ne-eqb}
 use Rattle.base.specs.Cases.{pick}
-use Rattle.model.specs.Lists.{oneIf, isSome, countIf, atSlot, countUp, firstOf, afterIn}
-use Rattle.model.specs.State.{Domain, Interface, openInterface, State}
-use Rattle.model.specs.Layout.{headerWords, slotOr0, freeLink, interfaceWords, words}
+use Rattle.model.specs.Lists.{Each, countUp}
+use Rattle.model.specs.State.{Sizes, Update, permission, cleanup, State}
+use Rattle.model.specs.Fields.{allMarks}
+use Rattle.model.specs.Layout.{headerWords, updateWords, atPlace, placeWords, markWords, words}
 use Rattle.model.specs.Sound.{Sound}
-use Rattle.model.specs.Converting.{formerLength, formerWords, AsOpened}
-use Rattle.laws.specs.Parts.{join, inTurn, cut, same-rows, rows-length}
-use Rattle.laws.specs.Stack.{link-in, link-out}
-use Rattle.laws.specs.Tree.Slots.{in-length}
-use Rattle.laws.specs.Words.Length.{sections, words-join, words-length, interface-width}
+use Rattle.model.specs.Converting.{formerLength, formerWords, HasAllMarks, AllMarked}
+use Rattle.laws.specs.Parts.{join, inTurn, in-turn, sum, join-length, cut, rows-length}
+use Rattle.laws.specs.Words.Length.{sections, words-join, words-length, section-lengths, place-width, mark-width}
+use Rattle.laws.specs.Words.Unique.{words-unique}
+use Rattle.converted.specs.Marked.{markAll, withAllMarks, all-marked, sound-marked}
 
--- the interfaces' section
-abbrev pub interfaces : State → List ℕ
-interfaces s = flatMap (λ i. interfaceWords (atSlot (s .domains) i)) (countUp 0 (s .sizes .domains))
+-- the marks' section
+abbrev pub marks : State → List ℕ
+marks s = flatMap (λ k. markWords (atPlace (s .sizes .updates) (s .queue) k)) (countUp 0 (s .sizes .updates + 1))
 
-interfaces-length : (s : State) → length (interfaces s) ≡ s .sizes .domains * 2
-interfaces-length s = rows-length 2 _ (interface-width (s .domains)) 0 (s .sizes .domains)
+marks-length : (s : State) → length (marks s) ≡ (s .sizes .updates + 1) * 1
+marks-length s = rows-length 1 _ (mark-width (s .sizes .updates) (s .queue)) 0 (s .sizes .updates + 1)
 
--- the sections before it; `_++_` without brackets has the last one behind all others
+-- the ring, the sections before it, and all before the marks; `_++_` without brackets has the last one behind all others
+abbrev ring : State → List ℕ
+ring s = flatMap (placeWords (s .sizes .updates) (s .queue)) (countUp 0 (s .sizes .updates + 1))
+
+abbrev first : State → List ℕ
+first s = inTurn (headerWords s) (take 6 (drop 1 (sections s)))
+
 abbrev front : State → List ℕ
-front s = inTurn (headerWords s) (take 8 (drop 1 (sections s)))
+front s = inTurn (first s ++ ring s) (take 2 (drop 8 (sections s)))
 
-behind : (s : State) → words s ≡ front s ++ interfaces s
+behind : (s : State) → words s ≡ front s ++ marks s
 unfolding words
 behind s = refl
 
--- THEOREM: this delivery's words are the last one's, and behind them the interfaces
-pub words-former : (s : State) → Sound s → words s ≡ formerWords s ++ interfaces s
-words-former s h =
-    let f = front s in
+former-front : (s : State) → Sound s → formerWords s ≡ front s
+former-front s h =
     let e = behind s in
-    let long : length f ≡ formerLength (s .sizes) = omega (arith, words-length s h, ap length e, length-append f (interfaces s), interfaces-length s) in
-    let front : formerWords s ≡ f = ap (take (formerLength (s .sizes))) e ∙ take-at f (interfaces s) _ long in
-    e ∙ ap (λ l. l ++ interfaces s) (sym front)
+    let long : length (front s) ≡ formerLength (s .sizes) = omega (arith, words-length s h, ap length e, length-append (front s) (marks s), marks-length s) in
+    ap (take (formerLength (s .sizes))) e ∙ take-at (front s) (marks s) _ long
+
+-- THEOREM: this delivery's words are the last one's, and behind them the marks
+pub words-former : (s : State) → Sound s → words s ≡ formerWords s ++ marks s
+words-former s h = behind s ∙ ap (λ l. l ++ marks s) (sym (former-front s h))
 
 pub former-length : (s : State) → Sound s → length (formerWords s) ≡ formerLength (s .sizes)
-former-length s h = omega (arith, words-length s h, ap length (words-former s h), length-append (formerWords s) (interfaces s), interfaces-length s)
+former-length s h = omega (arith, words-length s h, ap length (words-former s h), length-append (formerWords s) (marks s), marks-length s)
 
 -- ---- the words that the last delivery's tell
 
--- the row of a slot by its free link, 0 where the slot is in use: open, and no interface where the slot is free
-abbrev pub openedRow : ℕ → List ℕ
-openedRow n = pick (eqb n 0) (openInterface .word ∷ 0 ∷ []) (0 ∷ 0 ∷ [])
+-- the sizes, the first five words
+abbrev pub sizesIn : List ℕ → Sizes
+sizesIn o = record { domains = getD o 0 0; slots = getD o 1 0; regions = getD o 2 0; records = getD o 3 0; updates = getD o 4 0 }
 
--- the domain pool's links stand from word 9 on, the number of domains is word 0
-abbrev pub openedRows : List ℕ → List ℕ
-openedRows o = flatMap (λ i. openedRow (getD o (9 + i) 0)) (countUp 0 (getD o 0 0))
+-- where the ring starts: behind the header, the pools, and the records of domains, regions and trackers
+abbrev pub ringAt : Sizes → ℕ
+ringAt z = 13 + 7 * z .domains + 3 * (z .domains * z .slots) + 10 * z .regions + 11 * z .records
+
+-- the marks of a place by its kind, 1 where a domain is queued: all five, and none elsewhere
+abbrev pub markedRow : ℕ → List ℕ
+markedRow n = pick (eqb n 1) (allMarks ∷ []) (0 ∷ [])
+
+-- a place has four words, its kind first
+abbrev pub markedRows : List ℕ → List ℕ
+markedRows o = flatMap (λ k. markedRow (getD o (ringAt (sizesIn o) + 4 * k) 0)) (countUp 0 (sizesIn o .updates + 1))
 
 abbrev pub rebuilt : List ℕ → List ℕ
-rebuilt o = o ++ openedRows o
+rebuilt o = o ++ markedRows o
 
 pub flat-same : (f g : ℕ → List ℕ) (k n : ℕ) → ((i : ℕ) → k ≤ i → i < k + n → f i ≡ g i) → flatMap f (countUp k n) ≡ flatMap g (countUp k n)
 unfolding flatMap
 flat-same f g k zero h = refl
 flat-same f g k (suc n) h = rw (h k (omega arith) (omega arith), flat-same f g (suc k) n (λ i a b. h i (omega arith) (omega arith)))
 
-map-at : (f : ℕ → ℕ) (k n i : ℕ) (r : List ℕ) → i < n → getD (map f (countUp k n) ++ r) i 0 ≡ f (k + i)
-map-at f k zero i r h = absurd (omega arith)
-map-at f k (suc n) zero r h = ap f (omega arith)
-map-at f k (suc n) (suc i) r h = map-at f (suc k) n i r (omega arith) ∙ ap f (omega arith)
+-- the first word of each of some rows of four words
+kind-at : (f : ℕ → List ℕ) → ((i : ℕ) → length (f i) ≡ 4) → (j n k : ℕ) → k < n → getD (flatMap f (countUp j n)) (4 * k) 0 ≡ getD (f (j + k)) 0 0
+unfolding flatMap
+kind-at f h j zero k l = absurd (omega arith)
+kind-at f h j (suc n) zero l = List·getD-append (f j) (flatMap f (countUp (suc j) n)) 0 0 (omega (arith, h j)) ∙ ap (λ i. getD (f i) 0 0) (omega arith)
+kind-at f h j (suc n) (suc k) l =
+    ap (λ i. getD (f j ++ flatMap f (countUp (suc j) n)) i 0) (omega (arith, h j)) ∙ getD-append-add (f j) (flatMap f (countUp (suc j) n)) (4 * k) 0
+    ∙ kind-at f h (suc j) n k (omega arith) ∙ ap (λ i. getD (f i) 0 0) (omega arith)
 
--- the row of a slot by what it holds
-abbrev slotRow : Option Domain → List ℕ
-slotRow none = 0 ∷ 0 ∷ []
-slotRow (some x) = openInterface .word ∷ 0 ∷ []
+-- what a place holds, if it holds something, has all marks
+abbrev HasAll : Option Update → Type 0
+HasAll none = Unit {0}
+HasAll (some u) = HasAllMarks u
 
-slot-width : (o : Option Domain) → length (slotRow o) ≡ 2
-slot-width none = refl
-slot-width (some x) = refl
+item-marked : (us : List Update) (j : ℕ) → Each HasAllMarks us → HasAll (getElem? us j)
+item-marked [] j h = tt
+item-marked (u ∷ us) zero h = h .0
+item-marked (u ∷ us) (suc j) h = item-marked us j (h .1)
 
-opened-row : (o : Option Domain) → ((x : Domain) → o ≡ some x → x .interface ≡ openInterface) → interfaceWords o ≡ slotRow o
-opened-row none h = refl
-opened-row (some x) h = ap (λ (f : Interface). f .word ∷ oneIf (f .frozen) ∷ []) (h x refl)
-
-row-opened : (f : Interface) → f .word ∷ oneIf (f .frozen) ∷ [] ≡ openInterface .word ∷ 0 ∷ [] → f ≡ openInterface
-row-opened f e = λ i. record { word = ap (λ r. getD r 0 0) e i; frozen = unset (f .frozen) (ap (λ r. getD r 1 0) e) i }
-  where
-    unset : (b : Bool) → oneIf b ≡ 0 → b ≡ false
-    unset true h = absurd (omega arith)
-    unset false h = refl
+marked-row : (o : Option Update) → HasAll o → markWords o ≡ markedRow (getD (updateWords o) 0 0)
+marked-row none h = refl
+marked-row (some (permission k cores m)) h = ap (λ n. n ∷ []) h
+marked-row (some (cleanup a b)) h = refl
 
 module _ (s : State) (h : Sound s) where
-  abbrev free : List ℕ
-  free = s .domainPool .free
+  first-length : length (first s) ≡ ringAt (s .sizes)
+  first-length = ap length (in-turn (headerWords s) (take 6 (drop 1 (sections s)))) ∙ join-length (take 7 (sections s)) ∙ ap (λ l. sum (take 7 l)) (section-lengths s h) ∙ omega arith
 
-  link-at : (i : ℕ) → i < s .sizes .domains → getD (words s) (9 + i) 0 ≡ freeLink free i
-  link-at i k =
-      let links = map (freeLink free) (countUp 0 (s .sizes .domains)) in
-      let rest = s .domainPool .gens ++ join (drop 2 (sections s)) in
-      let top = headerWords s ++ (slotOr0 (firstOf free) ∷ (s .sizes .domains - length free) ∷ []) in
-      let e : words s ≡ top ++ (links ++ rest) = words-join s ∙ ap (λ l. top ++ l) (append-assoc links (s .domainPool .gens) (join (drop 2 (sections s)))) in
-      ap (λ l. getD l (9 + i) 0) e ∙ getD-append-add top (links ++ rest) i 0 ∙ map-at (freeLink free) 0 (s .sizes .domains) i rest k ∙ ap (freeLink free) (omega arith)
+  ring-length : length (ring s) ≡ (s .sizes .updates + 1) * 4
+  ring-length = rows-length 4 _ (place-width (s .sizes .updates) (s .queue)) 0 (s .sizes .updates + 1)
 
-  link-row : (i : ℕ) → i < s .sizes .domains → openedRow (freeLink free i) ≡ slotRow (atSlot (s .domains) i)
-  link-row i k = go (atSlot (s .domains) i) (h .outside .domainPool .once i ∙ ap oneIf (lt-ltb i (s .sizes .domains) k))
-    where
-      go : (o : Option Domain) → oneIf (isSome o) + countIf (eqb i) free ≡ 1 → openedRow (freeLink free i) ≡ slotRow o
-      go none e = rw (link-in free i (omega arith), ne-eqb (suc (slotOr0 (afterIn free i))) 0 (omega arith))
-      go (some x) e = rw (link-out free i (omega arith))
+  -- the kind of place k
+  place-at : (k : ℕ) → k < s .sizes .updates + 1 → getD (words s) (ringAt (s .sizes) + 4 * k) 0 ≡ getD (placeWords (s .sizes .updates) (s .queue) k) 0 0
+  unfolding words
+  place-at k l =
+      let low : ringAt (s .sizes) + 4 * k < length (first s ++ ring s) = omega (arith, first-length, ring-length, length-append (first s) (ring s)) in
+      ap (λ t. getD t (ringAt (s .sizes) + 4 * k) 0) (in-turn (first s ++ ring s) (drop 8 (sections s))) ∙ List·getD-append (first s ++ ring s) (join (drop 8 (sections s))) 0 _ low
+      ∙ ap (λ n. getD (first s ++ ring s) (n + 4 * k) 0) (sym first-length) ∙ getD-append-add (first s) (ring s) (4 * k) 0
+      ∙ kind-at _ (place-width (s .sizes .updates) (s .queue)) 0 (s .sizes .updates + 1) k l ∙ ap (λ j. getD (placeWords (s .sizes .updates) (s .queue) j) 0 0) (omega arith)
 
-  -- the last delivery's words up to word n are the first of this delivery's
-  early : (n : ℕ) → n < 9 + s .sizes .domains → getD (formerWords s) n 0 ≡ getD (words s) n 0
+  -- the last delivery's words are the first of this delivery's
+  early : (n : ℕ) → n < ringAt (s .sizes) + 4 * (s .sizes .updates + 1) → getD (formerWords s) n 0 ≡ getD (words s) n 0
   early n k = getD-take (formerLength (s .sizes)) (words s) n 0 (omega arith)
 
-  former-rows : openedRows (formerWords s) ≡ flatMap (λ i. slotRow (atSlot (s .domains) i)) (countUp 0 (s .sizes .domains))
+  size-at : (n : ℕ) → n < 5 → getD (formerWords s) n 0 ≡ getD (headerWords s) n 0
+  size-at n k = early n (omega arith) ∙ ap (λ l. getD l n 0) (words-join s) ∙ List·getD-append (headerWords s) (join (drop 1 (sections s))) 0 n (omega arith)
+
+  former-sizes : sizesIn (formerWords s) ≡ s .sizes
+  former-sizes = λ j. record { domains = size-at 0 (omega arith) j; slots = size-at 1 (omega arith) j; regions = size-at 2 (omega arith) j; records = size-at 3 (omega arith) j; updates = size-at 4 (omega arith) j }
+
+  former-rows : markedRows (formerWords s) ≡ flatMap (λ k. markedRow (getD (placeWords (s .sizes .updates) (s .queue) k) 0 0)) (countUp 0 (s .sizes .updates + 1))
   former-rows =
-      let n : getD (formerWords s) 0 0 ≡ s .sizes .domains = early 0 (omega arith) ∙ ap (λ l. getD l 0 0) (words-join s) in
-      ap (λ m. flatMap (λ i. openedRow (getD (formerWords s) (9 + i) 0)) (countUp 0 m)) n
-      ∙ flat-same _ _ 0 (s .sizes .domains) (λ i a b. ap openedRow (early (9 + i) (omega arith) ∙ link-at i (omega arith)) ∙ link-row i (omega arith))
+      ap (λ z. flatMap (λ k. markedRow (getD (formerWords s) (ringAt z + 4 * k) 0)) (countUp 0 (z .updates + 1))) former-sizes
+      ∙ flat-same _ _ 0 (s .sizes .updates + 1) (λ k a b. ap markedRow (early _ (omega arith) ∙ place-at k (omega arith)))
 
-  -- THEOREM: where every domain is as opened, the last delivery's words tell all words
-  pub opened-rebuilt : AsOpened s → words s ≡ rebuilt (formerWords s)
-  opened-rebuilt k =
+  -- THEOREM: where every queued domain has all marks, the last delivery's words tell all words
+  pub marked-rebuilt : AllMarked s → words s ≡ rebuilt (formerWords s)
+  marked-rebuilt k =
       words-former s h
-      ∙ ap (λ l. formerWords s ++ l) (flat-same _ _ 0 (s .sizes .domains) (λ i a b. opened-row (atSlot (s .domains) i) (k i)) ∙ sym former-rows)
+      ∙ ap (λ l. formerWords s ++ l) (flat-same _ _ 0 (s .sizes .updates + 1) (λ i a b. marked-row (atPlace (s .sizes .updates) (s .queue) i) (item-marked (s .queue .items) _ k)) ∙ sym former-rows)
 
-  -- THEOREM: words so told are of a state where every domain is as opened, and are told by its last delivery's words
-  pub rebuilt-opened : (o : List ℕ) → length o ≡ formerLength (s .sizes) → words s ≡ rebuilt o → (o ≡ formerWords s) × AsOpened s
-  rebuilt-opened o k e =
-      let (f, r) = cut (formerWords s) o (interfaces s) (openedRows o) (former-length s h ∙ sym k) (sym (words-former s h) ∙ e) in
-      let rows = same-rows 2 _ _ (interface-width (s .domains)) (λ i. slot-width (atSlot (s .domains) i)) (s .sizes .domains) (r ∙ ap openedRows (sym f) ∙ former-rows) in
-      (sym f, λ d x a. row-opened (x .interface) (sym (ap interfaceWords a) ∙ rows d (omega (arith, in-length (s .domains) d x a, h .outside .domainsLength)) ∙ ap slotRow a))
+-- ---- the state with all marks has the same words but the marks
+
+mark-all-at : (us : List Update) (j : ℕ) → updateWords (getElem? (map markAll us) j) ≡ updateWords (getElem? us j)
+mark-all-at [] j = refl
+mark-all-at (permission k cores m ∷ us) zero = refl
+mark-all-at (cleanup a b ∷ us) zero = refl
+mark-all-at (u ∷ us) (suc j) = mark-all-at us j
+
+-- THEOREM: the last delivery's tables of both are the same
+pub former-same : (s : State) → Sound s → formerWords (withAllMarks s) ≡ formerWords s
+former-same s h =
+    let header : headerWords (withAllMarks s) ≡ headerWords s = ap (λ n. s .sizes .domains ∷ s .sizes .slots ∷ s .sizes .regions ∷ s .sizes .records ∷ s .sizes .updates ∷ s .queue .readPlace ∷ ((s .queue .readPlace + n) % (s .sizes .updates + 1)) ∷ []) (length-map (s .queue .items) markAll) in
+    let places : ring (withAllMarks s) ≡ ring s = flat-same _ _ 0 (s .sizes .updates + 1) (λ k a b. mark-all-at (s .queue .items) _) in
+    former-front (withAllMarks s) (sound-marked s h) ∙ (λ j. inTurn (inTurn (header j) (take 6 (drop 1 (sections s))) ++ places j) (take 2 (drop 8 (sections s)))) ∙ sym (former-front s h)
+
+-- THEOREM: words so told are of a state where every queued domain has all marks, and are told by its last delivery's words
+pub rebuilt-marked : (s : State) → Sound s → (o : List ℕ) → length o ≡ formerLength (s .sizes) → words s ≡ rebuilt o → (o ≡ formerWords s) × AllMarked s
+rebuilt-marked s h o k e =
+    let (f, r) = cut (formerWords s) o (marks s) (markedRows o) (former-length s h ∙ sym k) (sym (words-former s h) ∙ e) in
+    let t = withAllMarks s in
+    let same : words s ≡ words t = e ∙ ap rebuilt (sym f ∙ sym (former-same s h)) ∙ sym (marked-rebuilt t (sound-marked s h) (all-marked s)) in
+    (sym f, subst AllMarked (sym (words-unique s t h (sound-marked s h) same)) (all-marked s))

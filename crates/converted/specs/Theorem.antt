@@ -14,25 +14,23 @@ use Rattle.model.specs.Layout.{words, lengthFor}
 use Rattle.model.specs.Perform.{Call, Value, Answer, run}
 use Rattle.model.specs.CallWords.{CallWords}
 use Rattle.model.specs.Sound.{Sound}
-use Rattle.model.specs.Converting.{formerWords, AsOpened, Convertible, Converted, notConvertible, converted}
-use Rattle.laws.specs.Accepted.{all-ok}
+use Rattle.model.specs.Converting.{formerWords, Convertible, Converted, notConvertible, converted}
 use Rattle.book.specs.Book.{Book, blank}
 use Rattle.book.specs.Demand3.{noteAll}
 use Rattle.book.specs.Matches.{Matches}
 use Rattle.book.specs.Theorem.{matches-made, matches-run}
 use Rattle.book.specs.Lent.{Chain, ClaimsOf, BookOf, book-of-chain, book-of-claims}
-use Rattle.converted.specs.Calls.{IsFormer}
-use Rattle.converted.specs.Former.{opened-rebuilt, rebuilt}
+use Rattle.converted.specs.Marked.{withAllMarks, all-marked, sound-marked, matches-marked}
+use Rattle.converted.specs.Former.{former-same, marked-rebuilt, rebuilt}
 use Rattle.converted.specs.Unique.{convertible-words}
-use Rattle.converted.specs.Opened.{made-opened, run-opened}
 
 -- ---- what is claimed
 
--- s is made and changed by calls of the last delivery; its words become t₁ by the converter; then calls of this delivery lead from t₁ to t₂. `run-opened`
--- says why the first calls are the last delivery's: they meet neither 20 nor 21, and no domain has another interface than it opens with.
+-- s is made and changed by calls; the last delivery's tables of it are all its words but the marks, since marks are all that the last delivery lacked;
+-- these words become t₁ by the converter; then calls lead from t₁ to t₂.
 abbrev pub Demand3Converted : Type 0
 Demand3Converted = (z : Sizes) (s : State) (cs₀ cs : List Call) (ys : List Answer) (o t v w t₁ v₁ w₁ t₂ : List ℕ)
-    → makeTables z ≡ ok s → Each CallWords cs₀ → Each IsFormer cs₀ → o ≡ formerWords (run s cs₀ .1)
+    → makeTables z ≡ ok s → Each CallWords cs₀ → o ≡ formerWords (run s cs₀ .1)
     → Converted o t v w (Answer.yes Value.done) t₁ v₁ w₁ → Each CallWords cs → Chain t₁ cs ys t₂
     → ClaimsOf (noteAll (noteAll (blank z) cs₀ (run s cs₀ .0)) cs ys) t₂
 
@@ -40,7 +38,6 @@ Demand3Converted = (z : Sizes) (s : State) (cs₀ cs : List Call) (ys : List Ans
 pub record FormerBookOf (b : Book) (o : List ℕ) : Type 0 where
   pub state : State
   pub sound : Sound state
-  pub opened : AsOpened state
   pub old : o ≡ formerWords state
   pub matches : Matches b state
 
@@ -57,10 +54,10 @@ not-yes r e = subst refusal e tt
 accepted-book : (b : Book) (o t v w t₁ v₁ w₁ : List ℕ) (y : Answer) → y ≡ Answer.yes Value.done → FormerBookOf b o → Converted o t v w y t₁ v₁ w₁ → BookOf b t₁
 accepted-book b o t v w t₁ v₁ w₁ y e f (notConvertible n) = absurd (not-yes memory e)
 accepted-book b o t v w t₁ v₁ w₁ y e f (converted s c) = record {
-  state = f .state;
-  tables = convertible-words o t v w s c ∙ ap rebuilt (f .old) ∙ sym (opened-rebuilt (f .state) (f .sound) (f .opened));
-  sound = f .sound;
-  matches = f .matches;
+  state = withAllMarks (f .state);
+  tables = convertible-words o t v w s c ∙ ap rebuilt (f .old ∙ sym (former-same (f .state) (f .sound))) ∙ sym (marked-rebuilt (withAllMarks (f .state)) (sound-marked (f .state) (f .sound)) (all-marked (f .state)));
+  sound = sound-marked (f .state) (f .sound);
+  matches = matches-marked b (f .state) (f .matches);
 }
 
 -- THEOREM: an accepted converter carries the book over
@@ -69,23 +66,23 @@ book-of-converted b o t v w t₁ v₁ w₁ = accepted-book b o t v w t₁ v₁ w
 
 -- ---- before it
 
-module _ (z : Sizes) (s : State) (cs : List Call) (made : makeTables z ≡ ok s) (words : Each CallWords cs) (former : Each IsFormer cs) where
-  run-former : Matches (noteAll (blank z) cs (run s cs .0)) (run s cs .1) × Sound (run s cs .1) × AsOpened (run s cs .1)
-  run-former =
-      let (m, h) = matches-made z s made in
-      let (n, k) = matches-run (blank z) s cs words h m in
-      (n, k, run-opened s cs words former h (all-ok AsOpened (makeTables z) s (made-opened z) made) .0)
+module _ (z : Sizes) (s : State) (cs : List Call) (made : makeTables z ≡ ok s) (words : Each CallWords cs) where
+  run-former : Matches (noteAll (blank z) cs (run s cs .0)) (run s cs .1) × Sound (run s cs .1)
+  run-former = let (m, h) = matches-made z s made in matches-run (blank z) s cs words h m
 
-  -- THEOREM: the last delivery's calls lead to it
+  -- THEOREM: calls lead to it
   pub book-of-former : (o : List ℕ) → o ≡ formerWords (run s cs .1) → FormerBookOf (noteAll (blank z) cs (run s cs .0)) o
-  book-of-former o e = let (m, h, k) = run-former in record { state = run s cs .1; sound = h; opened = k; old = e; matches = m }
+  book-of-former o e = let (m, h) = run-former in record { state = run s cs .1; sound = h; old = e; matches = m }
 
   -- THEOREM: and in memory of the right lengths all such tables are converted
-  pub former-convertible : (o t v w : List ℕ) → o ≡ formerWords (run s cs .1) → length t ≡ lengthFor (run s cs .1 .sizes) → length v ≡ lengthFor (run s cs .1 .sizes) → length w ≡ lengthFor (run s cs .1 .sizes) → Convertible o t v w (run s cs .1)
-  former-convertible o t v w e a b c = let (m, h, k) = run-former in record { sound = h; opened = k; old = e; tables = a; work = b; secondWork = c }
+  pub former-convertible : (o t v w : List ℕ) → o ≡ formerWords (run s cs .1) → length t ≡ lengthFor (run s cs .1 .sizes) → length v ≡ lengthFor (run s cs .1 .sizes) → length w ≡ lengthFor (run s cs .1 .sizes) → Convertible o t v w (withAllMarks (run s cs .1))
+  former-convertible o t v w e a b c =
+      let u = run s cs .1 in
+      let (m, h) = run-former in
+      record { sound = sound-marked u h; marked = all-marked u; old = e ∙ sym (former-same u h); tables = a; work = b; secondWork = c }
 
 -- THEOREM
 pub demand3-converted : Demand3Converted
-demand3-converted z s cs₀ cs ys o t v w t₁ v₁ w₁ t₂ made w₀ f e c u r =
-    let b = book-of-converted _ o t v w t₁ v₁ w₁ (book-of-former z s cs₀ made w₀ f o e) c in
+demand3-converted z s cs₀ cs ys o t v w t₁ v₁ w₁ t₂ made w₀ e c u r =
+    let b = book-of-converted _ o t v w t₁ v₁ w₁ (book-of-former z s cs₀ made w₀ o e) c in
     book-of-claims _ t₂ (book-of-chain _ t₁ t₂ cs ys u b r)

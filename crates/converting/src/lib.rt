@@ -3,38 +3,37 @@ ghost use mathlib.Core.Path.{_≡_};
 ghost use mathlib.Core.Bool.{true};
 ghost use Rattle.tables.specs.View.{view, Sized, Left};
 ghost use Rattle.converted.specs.Former.{rebuilt};
-ghost use Rattle.converting.specs.Built.{interfaceFor, openedAll, fitsB};
+ghost use Rattle.converting.specs.Built.{marksBeside, markedAll, fitsB};
 ghost use Rattle.converting.specs.Exact.{convertsB};
 ghost use Rattle.frame.specs.Replies.{Converts};
 use frame::Reply;
 use frame::replies;
-use pools::Pool;
 use refusals::Refusal;
-use tables::Interface;
+use tables::Update;
 
-// The interface of a slot: none where it is free, else the one that a domain opens with.
-fn interface_of(free: bool) -> Interface
-    ensures { λ r. ⌜ r ≡ interfaceFor free ⌝ }
+// Reach and the four rights.
+const ALL_MARKS: u64 = 31;
+
+// The marks beside an update: all five where a domain is queued, since the last delivery kept none (document 02, request 4).
+fn marks_beside(u: Update) -> u64
+    ensures { λ r. ⌜ r ≡ marksBeside u ⌝ }
 {
-    if free {
-        return tables::no_interface();
+    if u.kind == Update::PERMISSION {
+        return ALL_MARKS;
     }
-    Interface {
-        word: Interface::OPEN,
-        frozen: 0,
-    }
+    0
 }
 
-// Gives every slot its interface.
-fn open_all(v: &mut [u64])
+// Gives every place of the ring its marks.
+fn mark_all(v: &mut [u64])
     requires { ⌜ Sized (now v) ⌝ }
-    ensures { λ _. ⌜ Left (now (v .exit)) (openedAll (view (now (v .entry)))) ⌝ }
+    ensures { λ _. ⌜ Left (now (v .exit)) (markedAll (view (now (v .entry)))) ⌝ }
 {
-    let n = words::size(v, sizes::DOMAINS);
+    let n = words::size(v, sizes::UPDATES) + 1;
     let mut i = 0;
     while i < n {
-        let free = pools::is_free_in(v, Pool::Domains, i);
-        interface_rows::store_interface(v, i, interface_of(free));
+        let u = ring_rows::load_update(v, i);
+        ring_rows::store_mark(v, i, marks_beside(u));
         i += 1;
     }
 }
@@ -49,8 +48,8 @@ fn build(old: &[u64], v: &mut [u64]) -> bool
         return false;
     }
     let z = sizes::read_sizes(v);
-    if old.len() == sizes::interfaces_at(z) {
-        open_all(v);
+    if old.len() == sizes::marks_at(z) {
+        mark_all(v);
         return true;
     }
     false

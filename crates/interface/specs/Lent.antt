@@ -16,13 +16,12 @@ use Rattle.model.specs.Lists.{Each, atSlot}
 use Rattle.model.specs.Outcome.{Outcome, ok, refuse}
 use Rattle.model.specs.State.{Word, State, Domain}
 use Rattle.model.specs.Making.{makeIn}
-use Rattle.model.specs.Converting.{formerLength}
 use Rattle.model.specs.Perform.{Call, Value, Answer, perform, after, step}
 use Rattle.model.specs.Memory.{Lent, madeAnswer, After, made, notSound, performed, held}
 use Rattle.laws.specs.Lists.{word-at}
 use Rattle.laws.specs.Words.Unique.{words-unique}
 use Rattle.interface.specs.Fewer.{FewerDomain, free, used, Fewer}
-use Rattle.interface.specs.FewerTables.{sizesIn, InUse, wordPlace, FewerTables}
+use Rattle.interface.specs.FewerTables.{sizesIn, InUse, interfacesAt, wordPlace, FewerTables}
 use Rattle.interface.specs.Bits.{fewer-bits}
 use Rattle.interface.specs.Reword.{rewordIn, reword, reword-at, reword-length}
 use Rattle.interface.specs.Reworded.{Others, lent-reword, lent-use, lent-word}
@@ -30,14 +29,14 @@ use Rattle.interface.specs.Reworded.{Others, lent-reword, lent-use, lent
 -- ---- what tables with fewer bits have in common, read from either
 
 module _ (t t′ : List ℕ) (o : Others t t′) where
-  early : (i : ℕ) → i < formerLength (sizesIn t) → getD t′ i 0 ≡ getD t i 0
+  early : (i : ℕ) → i < interfacesAt (sizesIn t) → getD t′ i 0 ≡ getD t i 0
   early i l = o i (λ d u e. omega arith)
 
   same-sizes : sizesIn t′ ≡ sizesIn t
   same-sizes = λ j. record { domains = early 0 (omega arith) j; slots = early 1 (omega arith) j; regions = early 2 (omega arith) j; records = early 3 (omega arith) j; updates = early 4 (omega arith) j }
 
   same-place : (d : ℕ) → wordPlace t′ d ≡ wordPlace t d
-  same-place d = ap (λ z. formerLength z + 2 * d) same-sizes
+  same-place d = ap (λ z. interfacesAt z + 2 * d) same-sizes
 
   use-back : (d : ℕ) → InUse t′ d → InUse t d
   use-back d (l, e) = let m : d < getD t 0 0 = omega (arith, early 0 (omega arith)) in (m, sym (early (9 + d) (omega arith)) ∙ e)

@@ -126,19 +126,19 @@ pub push-same : (u : Update) (s : State) → Both (By noBits) (push u s) (push u
 unfolding push
 push-same u s = and-same refl (accepted refl)
 
-permission-same : (d : ℕ) (s : State) → Both (By noBits) (pushPermission d s) (pushPermission d (noBits s))
+permission-same : (d m : ℕ) (s : State) → Both (By noBits) (pushPermission d m s) (pushPermission d m (noBits s))
 unfolding pushPermission
-permission-same d s =
+permission-same d m s =
     let h = handleOf (s .domainPool) d in
     branch (exists (isPermissionOf h) (s .queue .items)) (accepted refl)
-    (subst (λ (x : Domain). Both (By noBits) (push (permission h (domainAt s d .cores)) s) (push (permission h (x .cores)) (noBits s))) (sym (domain-at s d)) (push-same (permission h (domainAt s d .cores)) s))
+    (subst (λ (x : Domain). Both (By noBits) (push (permission h (domainAt s d .cores) m) s) (push (permission h (x .cores) m) (noBits s))) (sym (domain-at s d)) (push-same (permission h (domainAt s d .cores) m) s))
 
 walk-same : (d : ℕ) (w : Walk) (s : State) → Both (By noBits) (putWalk d w s) (putWalk d w (noBits s))
 unfolding putWalk
 walk-same d w s =
     let e = ap (withRecordPool (w .pool)) (put-tracker d (w .records) s) in
     let s₁ = withRecordPool (w .pool) (putDomain d (withTracker (w .records) (domainAt s d)) s) in
-    branch (w .changed) (subst (λ t. Both (By noBits) (pushPermission d s₁) (pushPermission d t)) (sym e) (permission-same d s₁)) (accepted e)
+    branch (eqb (w .marks) 0) (accepted e) (subst (λ t. Both (By noBits) (pushPermission d (w .marks) s₁) (pushPermission d (w .marks) t)) (sym e) (permission-same d (w .marks) s₁))
 
 pub activate-same : (d : ℕ) (a : Access) (s : State) → Both (By noBits) (activate d a s) (activate d a (noBits s))
 unfolding activate

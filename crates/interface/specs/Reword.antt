@@ -1,7 +1,7 @@
 -- A state whose domains have other words, slot d's the word g d: sound as the state is, if they are words, and with the same words of the tables but in the
 -- interfaces' section.
 use mathlib.Core.Path.{_≡_, refl, sym, ap, subst, _∙_}
-use Prim.Native.Nat.{ℕ, zero, suc, _+_}
+use Prim.Native.Nat.{ℕ, zero, suc, _+_, _*_}
 use mathlib.Core.Option.{Option, none, some}
 use mathlib.Core.List.{List, [], _∷_, _++_, flatMap}
 use native.Mathlib.Nat.{le-refl}
@@ -12,13 +12,13 @@ use Rattle.base.specs.Options.{none-some}
 use Rattle.model.specs.Lists.{oneIf, isSome, countIf, atSlot, In, countUp}
 use Rattle.model.specs.State.{Word, State, Handle, Record, Domain, withDomains, withInterface}
 use Rattle.model.specs.Pool.{isLive, handleOf}
-use Rattle.model.specs.Layout.{headerWords, poolWords, domainWords, regionWords, recordSlotWords, trackerWords, placeWords, hashWords, interfaceWords, words}
-use Rattle.model.specs.Converting.{formerLength}
+use Rattle.model.specs.Layout.{headerWords, poolWords, domainWords, regionWords, recordSlotWords, trackerWords, placeWords, hashWords, interfaceWords, atPlace, markWords, words}
 use Rattle.model.specs.Sound.{ListSound, TrackerSound, recordUses, names, isRegionOf, isManagementOf, Sound}
 use Rattle.laws.specs.Parts.{rows-length}
 use Rattle.laws.specs.Capas.Live.{live-onward, live-fits, fits-onward, list-onward, queue-onward}
 use Rattle.laws.specs.Capas.Domain.{SameManagers, managed-onward}
-use Rattle.laws.specs.Words.Length.{interface-width, words-length}
+use Rattle.laws.specs.Words.Length.{interface-width, mark-width, words-length}
+use Rattle.interface.specs.FewerTables.{interfacesAt}
 
 abbrev pub rewordOf : ℕ → Domain → Domain
 rewordOf word x = withInterface (record { word = word; frozen = x .interface .frozen }) x
@@ -125,6 +125,10 @@ module _ (g : ℕ → ℕ) (s : State) (k : Sound s) where
 abbrev pub interfaceRows : State → List ℕ
 interfaceRows s = flatMap (λ i. interfaceWords (atSlot (s .domains) i)) (countUp 0 (s .sizes .domains))
 
+-- the marks behind it; used only in proofs
+abbrev pub markRows : State → List ℕ
+markRows s = flatMap (λ k. markWords (atPlace (s .sizes .updates) (s .queue) k)) (countUp 0 (s .sizes .updates + 1))
+
 -- all before it, with these rows for the domains and for the records; used only in proofs
 abbrev pub front : State → (ℕ → List ℕ) → (ℕ → List ℕ) → List ℕ
 front s f g =
@@ -141,12 +145,17 @@ front s f g =
 abbrev pub frontWords : State → List ℕ
 frontWords s = front s (λ i. domainWords (s .sizes .slots) (atSlot (s .domains) i)) (recordSlotWords (s .domains))
 
-pub words-split : (s : State) → words s ≡ frontWords s ++ interfaceRows s
+pub words-split : (s : State) → words s ≡ frontWords s ++ interfaceRows s ++ markRows s
 unfolding words
 words-split s = refl
 
-pub front-length : (s : State) → Sound s → length (frontWords s) ≡ formerLength (s .sizes)
-front-length s k = omega (arith, length-append (frontWords s) (interfaceRows s), ap length (words-split s), words-length s k, rows-length 2 (λ i. interfaceWords (atSlot (s .domains) i)) (interface-width (s .domains)) 0 (s .sizes .domains))
+pub rows-long : (s : State) → length (interfaceRows s) ≡ s .sizes .domains * 2
+rows-long s = rows-length 2 (λ i. interfaceWords (atSlot (s .domains) i)) (interface-width (s .domains)) 0 (s .sizes .domains)
+
+pub front-length : (s : State) → Sound s → length (frontWords s) ≡ interfacesAt (s .sizes)
+front-length s k =
+    let m = rows-length 1 (λ i. markWords (atPlace (s .sizes .updates) (s .queue) i)) (mark-width (s .sizes .updates) (s .queue)) 0 (s .sizes .updates + 1) in
+    omega (arith, length-append (frontWords s) (interfaceRows s), length-append (frontWords s ++ interfaceRows s) (markRows s), ap length (words-split s), words-length s k, rows-long s, m)
 
 domain-row : (n word : ℕ) (o : Option Domain) → domainWords n (rewordIn word o) ≡ domainWords n o
 domain-row n word none = refl

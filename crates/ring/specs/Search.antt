@@ -7,6 +7,7 @@ use mathlib.Core.List.{List, [], _∷_}
 use native.Mathlib.Nat.{mod-lt, mod-add-mod}
 use native.Mathlib.Omega.{arith}
 use borrow.Author.Tests.{lt-ltb, eq-eqb, ne-eqb}
+use lib.Dec.{ltb, eqb}
 use lib.ListN.{length, getD, set}
 use Rattle.base.specs.Cases.{pick, test, holds, fails}
 use Rattle.base.specs.Tests.{true-false}
@@ -81,6 +82,25 @@ along-search r d g (suc n) i (e ∷ es) h hi a =
       | fails t ↦ rw t (ih ∙ sym (on (r .size) i (firstNames d g es) hi))
     ])
 
+-- where no place is found, it is the write place
+missed-from : (r : Ring) (d g n i : ℕ) → foundB r (placeFrom r d g n i) ≡ false → placeFrom r d g n i ≡ r .write
+unfolding placeFrom
+missed-from r d g zero i h = refl
+missed-from r d g (suc n) i h = elim (test (eqb i (r .write))) [
+  | holds t ↦ rw t
+  | fails t ↦ elim (test (ltb i cap)) [
+    | fails u ↦ rw (t, u)
+    | holds u ↦ elim (test (namesOf (getD (r .places) i noEntry .update) d g)) [
+      | holds v ↦ let k : foundB r i ≡ false = rw (t, u, v) at h in let z : true ≡ false = rw (t, u) at k in absurd (true-false refl z)
+      | fails v ↦ rw (t, u, v) (missed-from r d g n (afterOf i (r .size)) (rw (t, u, v) at h))
+    ]
+  ]
+]
+
+pub place-missed : (r : Ring) (d g : ℕ) → foundB r (placeOf r d g) ≡ false → placeOf r d g ≡ r .write
+unfolding placeOf
+place-missed r d g h = missed-from r d g cap (r .read) h
+
 module _ (r : Ring) (high : r .size ≤ cap) where
   stands-along : (es : List Entry) (i : ℕ) → i < r .size → length es < r .size → r .write ≡ (i + length es) % r .size
       → ((k : ℕ) → k < length es → getD (r .places) ((i + k) % r .size) noEntry ≡ getD es k noEntry) → Along r i es
@@ -118,12 +138,20 @@ module _ (r : Ring) (f : ℕ) (items : List Entry) (q : Queues r f items) where
       omega arith in
       rw (ne-eqb p (r .write) d, lt-ltb p cap (omega (arith, q .high)))
 
+  missed : foundB r ((f + length items) % r .size) ≡ false
+  missed = rw (eq-eqb ((f + length items) % r .size) (r .write) (sym (q .write)))
+
+  -- a place is found where the domain is queued
+  pub found-any : (d g : ℕ) → foundB r (placeOf r d g) ≡ anyNames d g items
+  found-any d g = elim (test (anyNames d g items)) [
+    | holds t ↦ rw (place-first d g, found (firstNames d g items) (first-some d g items t)) (sym t)
+    | fails t ↦ rw (place-first d g, first-none d g items t, missed) (sym t)
+  ]
+
   -- a domain that is not queued joins the end
   pub queue-new : (d g c m : ℕ) → anyNames d g items ≡ false → queueOf r d g c m ≡ pushOf r (permissionOf d g c m)
   unfolding queueOf
-  queue-new d g c m h =
-      let e : placeOf r d g ≡ r .write = place-first d g ∙ ap (λ (x : ℕ). (f + x) % r .size) (first-none d g items h) ∙ sym (q .write) in
-      rw (eq-eqb (placeOf r d g) (r .write) e)
+  queue-new d g c m h = rw (found-any d g ∙ h)
 
   -- one that is queued already keeps its place, and its marks are gathered
   pub queue-gathers : (d g c m : ℕ) → anyNames d g items ≡ true

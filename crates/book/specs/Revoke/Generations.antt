@@ -7,6 +7,7 @@ use mathlib.Core.Option.{none, some}
 use mathlib.Core.List.{List, []}
 use native.Mathlib.Omega.{arith}
 use native.Mathlib.Decide.{ℕ-discrete}
+use lib.Dec.{eqb}
 use lib.ListN.{length, getD, set, length-set}
 use lib.Seq.{getD-set-same, getD-set-other}
 use Rattle.base.specs.Tests.{true-false}
@@ -36,13 +37,13 @@ push-pool : (u : Update) (s : State) → All (SamePool s) (push u s)
 unfolding push
 push-pool u s = and-then _ (accepted refl)
 
-permission-pool : (d : ℕ) (s : State) → All (SamePool s) (pushPermission d s)
+permission-pool : (d m : ℕ) (s : State) → All (SamePool s) (pushPermission d m s)
 unfolding pushPermission
-permission-pool d s = branch (exists (isPermissionOf (handleOf (s .domainPool) d)) (s .queue .items)) (accepted refl) (push-pool _ s)
+permission-pool d m s = branch (exists (isPermissionOf (handleOf (s .domainPool) d)) (s .queue .items)) (accepted refl) (push-pool _ s)
 
 walk-pool : (d : ℕ) (w : Walk) (s : State) → All (SamePool s) (putWalk d w s)
 unfolding putWalk
-walk-pool d w s = branch (w .changed) (permission-pool d (withRecordPool (w .pool) (putDomain d (withTracker (w .records) (domainAt s d)) s))) (accepted refl)
+walk-pool d w s = branch (eqb (w .marks) 0) (accepted refl) (permission-pool d (w .marks) (withRecordPool (w .pool) (putDomain d (withTracker (w .records) (domainAt s d)) s)))
 
 activate-pool : (d : ℕ) (a : Access) (s : State) → All (SamePool s) (activate d a s)
 unfolding activate
