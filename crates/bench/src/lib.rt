@@ -97,7 +97,13 @@ pub extern "C" fn bench_remove(t: &mut [u64], d: usize, i: usize) -> u64
 // ---- The ring
 
 #[no_mangle]
-pub extern "C" fn bench_queue(t: &mut [u64], slot: u64, generation: u64, cores: u64, marks: u64) -> u64
+pub extern "C" fn bench_queue(
+    t: &mut [u64],
+    slot: u64,
+    generation: u64,
+    cores: u64,
+    marks: u64,
+) -> u64
     ensures { λ r. ⌜ (r ≡ reply (now (t .entry)) (flagOf (queueOf (ringOf (view (now (t .entry)))) slot generation cores marks .ok)))
         × (now (t .exit) ≡ left (now (t .entry)) (withRingOf (view (now (t .entry))) (queueOf (ringOf (view (now (t .entry)))) slot generation cores marks .ring))) ⌝ }
 {

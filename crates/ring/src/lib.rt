@@ -178,8 +178,9 @@ pub fn queued(ring: Ring, slot: u64, generation: u64, cores: u64, marks: u64) ->
     if words::both(at != ring.write, at < PLACES) {
         let mut r = ring;
         let e = r.places[at];
+        let update = e.update;
         r.places[at] = Entry {
-            update: e.update,
+            update,
             marks: e.marks | marks,
         };
         return PushOut { ok: true, ring: r };

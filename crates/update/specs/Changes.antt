@@ -7,27 +7,28 @@ use native.Mathlib.Omega.{arith}
 use borrow.Author.Tests.{lt-ltb}
 use lib.ListN.{length, getD, set}
 use lib.Seq.{set-out, set-getD, set-set}
-use Rattle.base.specs.Cases.{pick, cmp, lt, ge}
-use Rattle.base.specs.Tests.{both-true}
+use Rattle.base.specs.Cases.{pick, cmp, lt, ge, test, holds, fails}
 use Rattle.tables.specs.declared.Update.{Update}
-use Rattle.tables.specs.Tables.{noUpdate, withRing, withPlaces, withUpdate}
+use Rattle.tables.specs.Tables.{withRing, withMarks, withPlaces, withUpdate, withMark}
 use Rattle.tables.specs.View.{view, Sized, Left}
+use Rattle.ring.specs.declared.Entry.{Entry}
 use Rattle.ring.specs.declared.Ring.{Ring}
 use Rattle.ring.specs.declared.PushOut.{PushOut}
 use Rattle.ring.specs.declared.PopOut.{PopOut}
-use Rattle.ring.specs.Ring.{cap, roomB, putIn, pushOf, permissionOf, queuedOf, markOf, someB, takeOut, popOf}
-use Rattle.update.specs.Fitted.{fitted, fitted-set}
-use Rattle.update.specs.Stored.{ringOf, withRingOf, placeIn, ring-few}
+use Rattle.ring.specs.Ring.{cap, noEntry, roomB, putIn, pushOf, permissionOf, placeOf, gathered, foundB, queueOf, someB, takeOut, popOf}
+use Rattle.ring.specs.Search.{place-missed}
+use Rattle.update.specs.Fitted.{fitted, length-fitted}
+use Rattle.update.specs.Stored.{entries, updatesOf, marksOf, ringOf, withRingOf, placeIn, updates-set, marks-set, ring-few, marks-many}
 
 -- q has the places of r but for place i
 abbrev pub ButAt : ℕ → Ring → Ring → Type 0
-ButAt i r q = q .places ≡ set (r .places) i (getD (q .places) i noUpdate)
+ButAt i r q = q .places ≡ set (r .places) i (getD (q .places) i noEntry)
 
 -- ---- each step
 
 -- a place is set to what it then is; past the places nothing is set
-set-got : (ps : List Update) (i : ℕ) (u : Update) → set ps i u ≡ set ps i (getD (set ps i u) i noUpdate)
-set-got ps i u = sym (set-getD (set ps i u) i noUpdate) ∙ set-set ps i u (getD (set ps i u) i noUpdate)
+set-got : (ps : List Entry) (i : ℕ) (u : Entry) → set ps i u ≡ set ps i (getD (set ps i u) i noEntry)
+set-got ps i u = sym (set-getD (set ps i u) i noEntry) ∙ set-set ps i u (getD (set ps i u) i noEntry)
 
 either : {A : Type 0} (ring : A → Ring) (b : Bool) (x y : A) (i : ℕ) (r : Ring) → ButAt i r (ring x) → ButAt i r (ring y) → ButAt i r (ring (pick b x y))
 either ring true x y i r h k = h
@@ -37,37 +38,47 @@ abbrev left : PushOut → Ring
 left o = o .ring
 
 module _ (r : Ring) where
-  pub push-at : (u : Update) → ButAt (r .write) r (pushOf r u .ring)
+  pub push-at : (u : Entry) → ButAt (r .write) r (pushOf r u .ring)
   unfolding pushOf
-  push-at u = either left (roomB r) (record { ok = true; ring = putIn r u }) (record { ok = false; ring = r }) (r .write) r (set-got (r .places) (r .write) u) (sym (set-getD (r .places) (r .write) noUpdate))
+  push-at u = either left (roomB r) (record { ok = true; ring = putIn r u }) (record { ok = false; ring = r }) (r .write) r (set-got (r .places) (r .write) u) (sym (set-getD (r .places) (r .write) noEntry))
 
-  pub mark-at : (d g m : ℕ) → ButAt (r .write) r (markOf r d g m .ring)
-  unfolding markOf
-  mark-at d g m = either left (queuedOf r d g) (record { ok = true; ring = r }) (pushOf r (permissionOf d g m)) (r .write) r (sym (set-getD (r .places) (r .write) noUpdate)) (push-at (permissionOf d g m))
+  -- where the domain is not found, the place is the write place
+  pub queue-at : (d g c m : ℕ) → ButAt (placeOf r d g) r (queueOf r d g c m .ring)
+  unfolding queueOf
+  queue-at d g c m =
+      let i = placeOf r d g in
+      elim (test (foundB r i)) [
+        | holds t ↦ rw t (set-got (r .places) i (gathered (getD (r .places) i noEntry) m))
+        | fails t ↦ rw t (rw (place-missed r d g t) (push-at (permissionOf d g c m)))
+      ]
 
   pub pop-at : ButAt (r .read) r (popOf r .ring)
   unfolding popOf
   pop-at =
-      either (λ (o : PopOut). o .ring) (someB r) (record { item = record { got = true; update = getD (r .places) (r .read) noUpdate }; ring = takeOut r })
-      (record { item = record { got = false; update = noUpdate }; ring = r }) (r .read) r (set-got (r .places) (r .read) noUpdate) (sym (set-getD (r .places) (r .read) noUpdate))
+      either (λ (o : PopOut). o .ring) (someB r) (record { item = record { got = true; entry = getD (r .places) (r .read) noEntry }; ring = takeOut r })
+      (record { item = record { got = false; entry = noEntry }; ring = r }) (r .read) r (set-got (r .places) (r .read) noEntry) (sym (set-getD (r .places) (r .read) noEntry))
 
 -- ---- in the tables
 
 -- past the largest ring nothing is set
-set-place : (q : Ring) (ps : List Update) (i : ℕ) → length ps ≤ cap → set ps i (placeIn q i) ≡ set ps i (getD (q .places) i noUpdate)
+set-place : (q : Ring) (ps : List Entry) (i : ℕ) → length ps ≤ cap → set ps i (placeIn q i) ≡ set ps i (getD (q .places) i noEntry)
 set-place q ps i h =
     elim (cmp i cap) [
       | lt a ↦ rw (lt-ltb i cap a)
-      | ge a ↦ set-out ps i (placeIn q i) (omega arith) ∙ sym (set-out ps i (getD (q .places) i noUpdate) (omega arith))
+      | ge a ↦ set-out ps i (placeIn q i) (omega arith) ∙ sym (set-out ps i (getD (q .places) i noEntry) (omega arith))
     ]
 
 -- q is stored whole where it has the places of the tables' ring but for the one stored
 pub ring-stored : (t v : List ℕ) (r q : Ring) (i : ℕ) → Sized t → r ≡ ringOf (view t) → ButAt i r q
-    → Left v (withPlaces (withUpdate (view t) i (placeIn q i)) (q .read) (q .write)) → Left v (withRingOf (view t) q)
-unfolding withRingOf ringOf withPlaces withUpdate withRing
+    → Left v (withPlaces (withMark (withUpdate (view t) i (placeIn q i .update)) i (placeIn q i .marks)) (q .read) (q .write)) → Left v (withRingOf (view t) q)
+unfolding withRingOf ringOf withPlaces withMark withMarks withUpdate withRing
 ring-stored t v r q i s er h l =
-    let ps = view t .ring in
-    let u = getD (q .places) i noUpdate in
-    let f : fitted (length ps) (q .places) ≡ set ps i (placeIn q i) =
-    ap (fitted (length ps)) (h ∙ ap (λ (x : Ring). set (x .places) i u) er) ∙ fitted-set (length ps) cap ps i u refl (ring-few t s) ∙ sym (set-place q ps i (ring-few t s)) in
-    record { seen = l .seen ∙ ap (λ (x : List Update). withPlaces (withRing (view t) x) (q .read) (q .write)) (sym f); sized = l .sized }
+    let us = view t .ring in
+    let ms = view t .marks in
+    let few = ring-few t s in
+    let e = placeIn q i in
+    let ps = fitted cap (entries us ms) in
+    let same : q .places ≡ set ps i e = h ∙ ap (λ (x : Ring). set (x .places) i (getD (q .places) i noEntry)) er ∙ sym (set-place q ps i (omega (arith, length-fitted cap (entries us ms)))) in
+    let f : updatesOf (fitted (length us) (q .places)) ≡ set us i (e .update) = ap (λ (x : List Entry). updatesOf (fitted (length us) x)) same ∙ updates-set us ms i e few in
+    let g : marksOf (fitted (length us) (q .places)) ≡ set ms i (e .marks) = ap (λ (x : List Entry). marksOf (fitted (length us) x)) same ∙ marks-set us ms i e few (marks-many t) in
+    record { seen = l .seen ∙ (λ k. withPlaces (withMarks (withRing (view t) (sym f k)) (sym g k)) (q .read) (q .write)); sized = l .sized }

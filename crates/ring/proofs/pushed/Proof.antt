@@ -11,11 +11,11 @@ after-requires c κs = search needs
 both-requires : tie.Need-both-requires
 both-requires c κs = search needs
 
-mul-u : tie.Need-mul-u
-mul-u c = let h = inside (c .before .before .before .after .result) (c .before .before .before .before .args .ring .read) (c .before .before .before .before .args .ring .write) _ (c .before .both .ensures) (c .if1 .taken) in search needs
+mul-e : tie.Need-mul-e
+mul-e c = let h = inside (c .before .before .before .after .result) (c .before .before .before .before .args .ring .read) (c .before .before .before .before .args .ring .write) _ (c .before .both .ensures) (c .if1 .taken) in search needs
 
-element-set-from-u : tie.Need-element-set-from-u
-element-set-from-u c = inside (c .before .before .before .after .result) (c .before .before .before .before .args .ring .read) (c .before .before .before .before .args .ring .write) _ (c .before .both .ensures) (c .if1 .taken)
+element-set-from-e : tie.Need-element-set-from-e
+element-set-from-e c = inside (c .before .before .before .after .result) (c .before .before .before .before .args .ring .read) (c .before .before .before .before .args .ring .write) _ (c .before .both .ensures) (c .if1 .taken)
 
 returns : tie.Need-returns
 unfolding pushOf
@@ -27,4 +27,4 @@ returns-2 c = simp (← (c .before .before .before .after .ensures), sym (c .bef
 
 pub pushed-spec : {M : Type 1} → statement M
 pushed-spec =
-    tie.close (tie.spec after-requires both-requires mul-u element-set-from-u returns returns-2)
+    tie.close (tie.spec after-requires both-requires mul-e element-set-from-e returns returns-2)

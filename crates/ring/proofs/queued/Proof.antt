@@ -1,79 +1,53 @@
--- The search from i on, with as many rounds as are left, is the search from the read place.
-use Prim.Native.Nat.{_-_}
-use mathlib.Core.Path.{_≡_, refl, sym, _∙_}
-use native.Mathlib.Omega.{arith}
+-- The search first. Where a place other than the write place is found it lies in the array, and marks are gathered there; else the domain is pushed.
+use mathlib.Core.Path.{sym, _∙_}
+use Rattle.ring.specs.Ring.{inside, queueOf}
 use borrow.Author.Needs.{needs}
-use borrow.Author.Tests.{eq-eqb, ne-eqb, lt-ltb, le-ltb}
-use Rattle.ring.specs.Ring.{cap, queuedOf, queuedFrom, queued-step, queued-none}
 use Rattle.ring.proofs.queued.Statement.{statement}
 use Rattle.ring.proofs.queued.Tie as tie
 
-abbrev Inv-loop : tie.InvT-loop
-Inv-loop slot generation ring write size i₀ n₀ i n =
-    (write ≡ ring .write) × (size ≡ ring .size) × (queuedOf ring slot generation ≡ queuedFrom ring slot generation (cap - n) i)
+place-of-requires : tie.Need-place-of-requires
+place-of-requires c κs = search needs
 
-abbrev μ-loop : tie.MeasureT-loop
-μ-loop slot generation ring write size i₀ n₀ i n = cap - n
+both-requires : tie.Need-both-requires
+both-requires c κs = search needs
 
-loop-holds : tie.Need-loop-holds Inv-loop μ-loop
-unfolding queuedOf
-loop-holds c = search needs
+mul-e : tie.Need-mul-e
+mul-e c = let h = inside (c .before .before .before .place-of .result) (c .before .before .before .before .args .ring .write) (c .before .before .before .place-of .result) _ (c .before .both .ensures) (c .if1 .taken) in search needs
 
-returns : tie.Need-returns Inv-loop μ-loop
-returns c = sym (c .before .before .loop .inv .2 ∙ queued-step _ _ _ _ _ (c .before .loop-test .taken) ∙ simp (eq-eqb _ _ (c .if1 .taken)))
+element-copy-out-e : tie.Need-element-copy-out-e
+element-copy-out-e c = inside (c .before .before .before .place-of .result) (c .before .before .before .before .args .ring .write) (c .before .before .before .place-of .result) _ (c .before .both .ensures) (c .if1 .taken)
 
-returns-2 : tie.Need-returns-2 Inv-loop μ-loop
-returns-2 c = sym (c .before .before .before .loop .inv .2 ∙ queued-step _ _ _ _ _ (c .before .before .loop-test .taken) ∙ simp (ne-eqb _ _ (c .before .if1 .left), le-ltb _ _ (c .if2 .taken)))
+mul-t13 : tie.Need-mul-t13
+mul-t13 c = let h = inside (c .before .before .before .before .before .before .place-of .result) (c .before .before .before .before .before .before .before .args .ring .write) (c .before .before .before .before .before .before .place-of .result) _ (c .before .before .before .before .both .ensures) (c .before .before .before .if1 .taken) in search needs
 
-mul-u : tie.Need-mul-u Inv-loop μ-loop
-mul-u c = search needs
+element-set-from-r : tie.Need-element-set-from-r
+element-set-from-r c = inside (c .before .before .before .before .before .before .place-of .result) (c .before .before .before .before .before .before .before .args .ring .write) (c .before .before .before .before .before .before .place-of .result) _ (c .before .before .before .before .both .ensures) (c .before .before .before .if1 .taken)
 
-element-copy-out-u : tie.Need-element-copy-out-u Inv-loop μ-loop
-element-copy-out-u c = omega arith
+returns : tie.Need-returns
+unfolding queueOf
+returns c = simp (← (c .before .before .before .before .before .before .place-of .ensures), sym (c .before .before .before .before .both .ensures) ∙ (c .before .before .before .if1 .taken))
 
-names-requires : tie.Need-names-requires Inv-loop μ-loop
-names-requires c κs = search needs
+permission-requires : tie.Need-permission-requires
+permission-requires c κs = search needs
 
-returns-3 : tie.Need-returns-3 Inv-loop μ-loop
-returns-3 c =
-    sym (c .before .before .before .before .before .before .loop .inv .2 ∙ queued-step _ _ _ _ _ (c .before .before .before .before .before .loop-test .taken)
-    ∙ simp (ne-eqb _ _ (c .before .before .before .before .if1 .left), lt-ltb _ _ (c .before .before .before .if2 .left), sym (c .before .names .ensures) ∙ (c .if3 .taken)))
+pushed-requires : tie.Need-pushed-requires
+pushed-requires c κs = search needs
 
-after-requires : tie.Need-after-requires Inv-loop μ-loop
-after-requires c κs = search needs
-
-add-n : tie.Need-add-n Inv-loop μ-loop
-add-n c = omega arith
-
-loop-less : tie.Need-loop-less Inv-loop μ-loop
-loop-less c = omega arith
-
-loop-again : tie.Need-loop-again Inv-loop μ-loop
-loop-again c = (
-  refl,
-  refl,
-  (c .before .before .before .before .before .before .before .loop .inv) .2 ∙ queued-step _ _ _ _ _ (c .before .before .before .before .before .before .loop-test .taken)
-      ∙ simp (ne-eqb _ _ (c .before .before .before .before .before .if1 .left), lt-ltb _ _ (c .before .before .before .before .if2 .left), sym (c .before .before .names .ensures) ∙ (c .before .if3 .left), c .after .ensures),
-)
-
-returns-4 : tie.Need-returns-4 Inv-loop μ-loop
-returns-4 c = sym (c .before .loop .inv .2 ∙ queued-none _ _ _ _ _ (c .loop-test .left))
+returns-2 : tie.Need-returns-2
+unfolding queueOf
+returns-2 c = simp (← (c .before .before .before .before .before .place-of .ensures), sym (c .before .before .before .both .ensures) ∙ (c .before .before .if1 .left), ← (c .before .permission .ensures), (c .pushed .ensures))
 
 pub queued-spec : {M : Type 1} → statement M
 queued-spec =
     tie.close
     (tie.spec
-    Inv-loop
-    μ-loop
-    loop-holds
+    place-of-requires
+    both-requires
+    mul-e
+    element-copy-out-e
+    mul-t13
+    element-set-from-r
     returns
-    returns-2
-    mul-u
-    element-copy-out-u
-    names-requires
-    returns-3
-    after-requires
-    add-n
-    loop-less
-    loop-again
-    returns-4)
+    permission-requires
+    pushed-requires
+    returns-2)

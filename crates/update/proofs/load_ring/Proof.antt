@@ -1,4 +1,4 @@
--- What is lent is the ring.
+-- What is lent is the ring, and its marks.
 use mathlib.Core.Path.{_∙_}
 use Rattle.update.specs.Stored.{ring-read}
 use borrow.Author.Needs.{needs}
@@ -26,11 +26,23 @@ part-ring-in-start c = search needs
 part-ring-in-end : tie.Need-part-ring-in-end
 part-ring-in-end c = search needs
 
+mul-ring-in-2 : tie.Need-mul-ring-in-2
+mul-ring-in-2 c = search needs
+
+sub-ring-in-2 : tie.Need-sub-ring-in-2
+sub-ring-in-2 c = search needs
+
+part-ring-in-start-2 : tie.Need-part-ring-in-start-2
+part-ring-in-start-2 c = search needs
+
+part-ring-in-end-2 : tie.Need-part-ring-in-end-2
+part-ring-in-end-2 c = search needs
+
 ring-in-requires : tie.Need-ring-in-requires
 ring-in-requires c κs = search needs
 
 returns : tie.Need-returns
-returns c = (c .ring-in .ensures) ∙ rw ((c .before .before .before .read-place .ensures), (c .before .before .write-place .ensures)) (ring-read _ _ (c .before .before .before .before .before .before .pre) (c .before .before .before .before .span-of .ensures))
+returns c = (c .ring-in .ensures) ∙ rw ((c .before .before .before .before .read-place .ensures), (c .before .before .before .write-place .ensures)) (ring-read _ _ (c .before .before .before .before .before .before .before .pre) (c .before .before .before .before .before .span-of .ensures))
 
 pub load-ring-spec : {M : Type 1} → statement M
 load-ring-spec =
@@ -43,5 +55,9 @@ load-ring-spec =
     sub-ring-in
     part-ring-in-start
     part-ring-in-end
+    mul-ring-in-2
+    sub-ring-in-2
+    part-ring-in-start-2
+    part-ring-in-end-2
     ring-in-requires
     returns)

@@ -10,15 +10,15 @@ mul-result c = search needs
 element-copy-out-result : tie.Need-element-copy-out-result
 element-copy-out-result c = search needs
 
-no-update-requires : tie.Need-no-update-requires
-no-update-requires c κs = search needs
+no-entry-requires : tie.Need-no-entry-requires
+no-entry-requires c κs = search needs
 
 returns : tie.Need-returns
 returns c = rw (lt-ltb _ _ (c .before .if1 .taken))
 
 returns-2 : tie.Need-returns-2
-returns-2 c = rw (le-ltb _ _ (c .before .if1 .left)) (c .no-update .ensures)
+returns-2 c = rw (le-ltb _ _ (c .before .if1 .left)) (c .no-entry .ensures)
 
 pub place-in-spec : {M : Type 1} → statement M
 place-in-spec =
-    tie.close (tie.spec mul-result element-copy-out-result no-update-requires returns returns-2)
+    tie.close (tie.spec mul-result element-copy-out-result no-entry-requires returns returns-2)

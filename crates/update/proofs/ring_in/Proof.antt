@@ -1,4 +1,4 @@
--- The first i places are read.
+-- The first i places are read, each with its marks.
 use Prim.Native.Nat.{_-_, _≤_}
 use lib.ListN.{replicate}
 use mathlib.Core.Path.{_≡_, sym, ap, _∙_}
@@ -10,22 +10,31 @@ use Rattle.update.proofs.ring_in.Statement.{statement}
 use Rattle.update.proofs.ring_in.Tie as tie
 
 abbrev Inv-loop : tie.InvT-loop
-Inv-loop p n read write places₀ i₀ places i = (i ≤ n) × (places ≡ readTo p i)
+Inv-loop p m n read write places₀ i₀ places i = (i ≤ n) × (places ≡ readTo p m i)
 
 abbrev μ-loop : tie.MeasureT-loop
-μ-loop p n read write places₀ i₀ places i = n - i
+μ-loop p m n read write places₀ i₀ places i = n - i
 
-no-update-requires : tie.Need-no-update-requires Inv-loop μ-loop
-no-update-requires c κs = search needs
+no-entry-requires : tie.Need-no-entry-requires Inv-loop μ-loop
+no-entry-requires c κs = search needs
 
 loop-holds : tie.Need-loop-holds Inv-loop μ-loop
-loop-holds c = (omega arith, ap (replicate cap) (c .no-update .ensures) ∙ sym (read-none (c .before .before .args .p .now)))
+loop-holds c = (omega arith, ap (replicate cap) (c .no-entry .ensures) ∙ sym (read-none (c .before .before .before .args .p .now) (c .before .before .before .args .m .now)))
 
 mul-read-update : tie.Need-mul-read-update Inv-loop μ-loop
 mul-read-update c = omega arith
 
 read-update-requires : tie.Need-read-update-requires Inv-loop μ-loop
 read-update-requires c κs = omega arith
+
+mul-t12 : tie.Need-mul-t12 Inv-loop μ-loop
+mul-t12 c = omega arith
+
+mul-t13 : tie.Need-mul-t13 Inv-loop μ-loop
+mul-t13 c = omega arith
+
+shared-slice-read-t15 : tie.Need-shared-slice-read-t15 Inv-loop μ-loop
+shared-slice-read-t15 c = omega arith
 
 mul-places : tie.Need-mul-places Inv-loop μ-loop
 mul-places c = omega arith
@@ -40,10 +49,10 @@ loop-less : tie.Need-loop-less Inv-loop μ-loop
 loop-less c = omega arith
 
 loop-again : tie.Need-loop-again Inv-loop μ-loop
-loop-again c = (omega arith, rw ((c .before .before .loop .inv) .1, (c .read-update .ensures)) (read-more (c .before .before .before .before .before .args .p .now) (c .before .before .loop .i) (omega arith)))
+loop-again c = (omega arith, rw ((c .before .before .before .loop .inv) .1, (c .before .read-update .ensures)) (read-more (c .before .before .before .before .before .before .before .args .p .now) (c .before .before .before .before .before .before .before .args .m .now) (c .before .before .before .loop .i) (omega arith)))
 
 returns : tie.Need-returns Inv-loop μ-loop
-returns c = let e : (c .before .loop .i) ≡ (c .before .before .before .before .args .n) = omega arith in rw ((c .before .loop .inv) .1, e)
+returns c = let e : (c .before .loop .i) ≡ (c .before .before .before .before .before .args .n) = omega arith in rw ((c .before .loop .inv) .1, e)
 
 pub ring-in-spec : {M : Type 1} → statement M
 ring-in-spec =
@@ -51,10 +60,13 @@ ring-in-spec =
     (tie.spec
     Inv-loop
     μ-loop
-    no-update-requires
+    no-entry-requires
     loop-holds
     mul-read-update
     read-update-requires
+    mul-t12
+    mul-t13
+    shared-slice-read-t15
     mul-places
     array-set-from-places
     add-i

@@ -1,4 +1,4 @@
--- The place first, then the two of the header.
+-- The place first, then its marks, then the two of the header.
 use borrow.Author.Needs.{needs}
 use Rattle.update.proofs.store_place.Statement.{statement}
 use Rattle.update.proofs.store_place.Tie as tie
@@ -9,6 +9,9 @@ place-in-requires c κs = search needs
 store-update-requires : tie.Need-store-update-requires
 store-update-requires c κs = search needs
 
+store-mark-requires : tie.Need-store-mark-requires
+store-mark-requires c κs = search needs
+
 set-places-requires : tie.Need-set-places-requires
 set-places-requires c κs = search needs
 
@@ -16,8 +19,8 @@ same-length : tie.Need-same-length
 same-length c = search needs
 
 returns : tie.Need-returns
-returns c = rw ((c .before .before .before .before .before .before .store-update .ensures) .seen, (c .before .before .before .before .before .before .before .place-in .ensures)) at (c .before .before .set-places .ensures)
+returns c = rw ((c .before .before .before .before .before .before .store-mark .ensures) .seen, (c .before .before .before .before .before .before .before .before .before .before .store-update .ensures) .seen, (c .before .before .before .before .before .before .before .before .before .before .before .before .place-in .ensures)) at (c .before .before .set-places .ensures)
 
 pub store-place-spec : {M : Type 1} → statement M
 store-place-spec =
-    tie.close (tie.spec place-in-requires store-update-requires set-places-requires same-length returns)
+    tie.close (tie.spec place-in-requires store-update-requires store-mark-requires set-places-requires same-length returns)

@@ -42,14 +42,14 @@ use denote.Exit.{yes}
 use Rattle.ring.specs.declared.Ring.{Ring}
 use Rattle.ring.proofs.Held.{vals, mach}
 use Rattle.ring.specs.declared.PushOut.{PushOut}
-use Rattle.tables.specs.declared.Update.{Update}
+use Rattle.ring.specs.declared.Entry.{Entry}
 use Rattle.ring.specs.Ring.{pushOf}
 use Rattle.ring.proofs.Ring as Ring-T
 use Rattle.ring.proofs.Ring.Laws as Ring-L
 use Rattle.ring.proofs.PushOut as PushOut-T
 use Rattle.ring.proofs.PushOut.Laws as PushOut-L
-use Rattle.tables.proofs.Update as Update-T
-use Rattle.tables.proofs.Update.Laws as Update-L
+use Rattle.ring.proofs.Entry as Entry-T
+use Rattle.ring.proofs.Entry.Laws as Entry-L
 use Rattle.ring.proofs.pushed as callee
 use Rattle.ring.proofs.pushed.Symbol as callee-def
 use Rattle.ring.proofs.pushed.Symbol.{name as #callee}
@@ -60,7 +60,7 @@ use Rattle.ring.proofs.lent.push.Statement as stated
 use Rattle.ring.proofs.lent.push.Code as code
 
 abbrev stayed : Stays (own.ended .signature .params) (own.ended .kept)
-stayed = (stay-ref (0 ∷ []) tt (plain (λ _. Ring-T.the-row)), (stay-none (λ _. Update-T.the-row) yes, tt))
+stayed = (stay-ref (0 ∷ []) tt (plain (λ _. Ring-T.the-row)), (stay-none (λ _. Entry-T.the-row) yes, tt))
 
 -- of what `pushed` returns, the state is one, and the result
 state-is : (r : PushOut) (vs : List Val) → Is PushOut-T.the-row r vs → Is Ring-T.the-row (r .ring) (vals (r .ring))
@@ -74,18 +74,18 @@ module _ {M : Type 1} (𝓤 : URA M) (H : Heap 𝓤) (A : Atoms 𝓤) (at-mem : 
   abbrev Core : Contract 𝓤
   Core = tripleOf 𝓤 H A callee.signature (callee.spec 𝓤 H A at-mem run)
 
-  core-of : (h : Ring) (u : Update) (r : PushOut) → ent 𝓤 (ensured 𝓤 H A callee.ended (callee.clauses 𝓤 H A at-mem run) tt (h, (u, tt)) tt r) (fact 𝓤 (r ≡ pushOf h u))
+  core-of : (h : Ring) (u : Entry) (r : PushOut) → ent 𝓤 (ensured 𝓤 H A callee.ended (callee.clauses 𝓤 H A at-mem run) tt (h, (u, tt)) tt r) (fact 𝓤 (r ≡ pushOf h u))
   core-of h u r = exE 𝓤 _ (λ ws. snd∗ 𝓤 (sem 𝓤 H A (lasts callee.ended tt (h, (u, tt)) ws)) (fact 𝓤 (r ≡ pushOf h u)))
 
-module _ {M : Type 1} (𝓤 : URA M) (H : Heap 𝓤) (A : Atoms 𝓤) (W : Given 𝓤 H A) (at-mem : Memory → SProp 𝓤) (run : Routine → Fun 𝓤) (κ : Lft) (q : Share) (b o : ℕ) (γ : GName) (h : Ring) (u : Update) (u-is : Is Update-T.the-row u (LL.val Update-T.the-type Update-L.the-laws u ∷ [])) where
+module _ {M : Type 1} (𝓤 : URA M) (H : Heap 𝓤) (A : Atoms 𝓤) (W : Given 𝓤 H A) (at-mem : Memory → SProp 𝓤) (run : Routine → Fun 𝓤) (κ : Lft) (q : Share) (b o : ℕ) (γ : GName) (h : Ring) (u : Entry) (u-is : Is Entry-T.the-row u (LL.val Entry-T.the-type Entry-L.the-laws u ∷ [])) where
   abbrev Arg : Type 0
-  Arg = RefT Ring × (Update × Unit {0})
+  Arg = RefT Ring × (Entry × Unit {0})
 
   abbrev x : Arg
   x = (record { ptr = (b, o); name = γ; now = h }, (u, tt))
 
   abbrev at : List Val × (List Val × Unit {0})
-  at = (vptr b o ∷ [], (LL.val Update-T.the-type Update-L.the-laws u ∷ [], tt))
+  at = (vptr b o ∷ [], (LL.val Entry-T.the-type Entry-L.the-laws u ∷ [], tt))
 
   abbrev Post : Val → SProp 𝓤
   Post = walkOf 𝓤 H A own.ended stayed (own.clauses 𝓤 H A at-mem run) .post (((κ, tt), (q, tt), tt, x, at), tt)
@@ -95,26 +95,26 @@ module _ {M : Type 1} (𝓤 : URA M) (H : Heap 𝓤) (A : Atoms 𝓤) (W : Given
       qed W (‵ (fobs γ (Ring-T.the-row .coded .code (r .ring))) ∷ ‵ (fbor κ (Body (mem Ring-T.the-row) b o γ)) ∷ ‵ (flft κ q) ∷ []) ∵
       suffices ! _ (ends-at 𝓤 H A own.ended stayed (own.clauses 𝓤 H A at-mem run) W (((κ, tt), (q, tt), tt, x, at), tt) (vbool (r .ok)) (r .ok) (r .ring, (tt, tt)) (tt, (tt, tt))) $
       says ! (ap (λ (p : PushOut). p .ok) e, ap (λ (p : PushOut). p .ring) e) $ nothing ! $ move ! (3 ∷ 0 ∷ []) $ join ! $
-      frame ! $ feqI ! (List Val) (vptr b o ∷ []) (vptr b o ∷ []) refl $ fjoin3 ! $ nothing ! $ owned ! Update-T.the-row (Is Update-T.the-row) (LL.makes Update-T.the-type Update-L.the-plain 𝓤 H A) u _ u-is $ fjoin ! $ move ! (1 ∷ 0 ∷ []) $ fjoin ! $
+      frame ! $ feqI ! (List Val) (vptr b o ∷ []) (vptr b o ∷ []) refl $ fjoin3 ! $ nothing ! $ owned ! Entry-T.the-row (Is Entry-T.the-row) (LL.makes Entry-T.the-type Entry-L.the-plain 𝓤 H A) u _ u-is $ fjoin ! $ move ! (1 ∷ 0 ∷ []) $ fjoin ! $
       owned ! bool (Is bool) (bool-makes 𝓤 H A W) (r .ok) _ (result-is r _ is) $ move ! (1 ∷ 0 ∷ []) $ done !
 
   -- what `pushed`'s triple binds outside, and what it asks, which is had for nothing
   abbrev to-core : Core 𝓤 H A at-mem run .Ghost
-  to-core = ((tt, tt, tt, (h, (u, tt)), (vals h, (LL.val Update-T.the-type Update-L.the-laws u ∷ [], tt))), tt)
+  to-core = ((tt, tt, tt, (h, (u, tt)), (vals h, (LL.val Entry-T.the-type Entry-L.the-laws u ∷ [], tt))), tt)
 
   goes-core : Is Ring-T.the-row h (vals h) → ent 𝓤 (emp 𝓤) (Core 𝓤 H A at-mem run .pre to-core)
   goes-core h-is =
-      qed W [] ∵ nothing ! $ owned ! Update-T.the-row (Is Update-T.the-row) (LL.makes Update-T.the-type Update-L.the-plain 𝓤 H A) u _ u-is $ fjoin ! $ owned ! Ring-T.the-row (Is Ring-T.the-row) (LL.makes Ring-T.the-type Ring-L.the-plain 𝓤 H A) h _ h-is $ fjoin ! $
+      qed W [] ∵ nothing ! $ owned ! Entry-T.the-row (Is Entry-T.the-row) (LL.makes Entry-T.the-type Entry-L.the-plain 𝓤 H A) u _ u-is $ fjoin ! $ owned ! Ring-T.the-row (Is Ring-T.the-row) (LL.makes Ring-T.the-type Ring-L.the-plain 𝓤 H A) h _ h-is $ fjoin ! $
       nothing ! $ join ! $ frame ! $ done !
 
   state-typed : (k : Ring) → Is Ring-T.the-row k (vals k) → Holds (hasTy Ring-L.mir (mach k)) × WT (mach k)
   state-typed k k-is = LL.lawful Ring-T.the-type Ring-L.the-laws 𝓤 H A W .typed k _ k-is .0
 
   module _ (C : Calls 𝓤 H) (Λ : Loops 𝓤 H) (fm : FmC 𝓤 H (W .laws) C) (known : Triple 𝓤 (C #callee) (Core 𝓤 H A at-mem run)) where
-    walk : ent 𝓤 (onEntry 𝓤 H A own.signature (κ, tt) (q, tt) x at) (WpFn 𝓤 H C Λ code.function (vptr b o ∷ LL.val Update-T.the-type Update-L.the-laws u ∷ []) Post)
+    walk : ent 𝓤 (onEntry 𝓤 H A own.signature (κ, tt) (q, tt) x at) (WpFn 𝓤 H C Λ code.function (vptr b o ∷ LL.val Entry-T.the-type Entry-L.the-laws u ∷ []) Post)
     walk =
-        qed W ((‵ (flft κ q) ⊛ ‵ ftrue) ∷ ‵ (owns (MutRef (named 0) κ Ring-T.the-row ∷ Update-T.the-row ∷ []) x at) ∷ []) ∵ enter ! C Λ code.function (vptr b o ∷ LL.val Update-T.the-type Update-L.the-laws u ∷ []) _ $
-        alloc1 ! (λ l0. alloc1 ! (λ l1. alloc1 ! (λ l2. alloc1 ! (λ l3. alloc1 ! (λ l4. alloc0 ! $ params1 ! $ pass1 ! (init ! 6 refl (tt, tt)) $ pass1 ! (init ! 4 refl (LL.lawful Update-T.the-type Update-L.the-laws 𝓤 H A W .typed u _ u-is .0)) $ pass0 ! $
+        qed W ((‵ (flft κ q) ⊛ ‵ ftrue) ∷ ‵ (owns (MutRef (named 0) κ Ring-T.the-row ∷ Entry-T.the-row ∷ []) x at) ∷ []) ∵ enter ! C Λ code.function (vptr b o ∷ LL.val Entry-T.the-type Entry-L.the-laws u ∷ []) _ $
+        alloc1 ! (λ l0. alloc1 ! (λ l1. alloc1 ! (λ l2. alloc1 ! (λ l3. alloc1 ! (λ l4. alloc0 ! $ params1 ! $ pass1 ! (init ! 6 refl (tt, tt)) $ pass1 ! (init ! 4 refl (LL.lawful Entry-T.the-type Entry-L.the-laws 𝓤 H A W .typed u _ u-is .0)) $ pass0 ! $
         -- the borrow is opened
         move ! (11 ∷ []) $ fsplit ! $ fsplit3 ! $ drop ! $ move ! (13 ∷ []) $ split ! $ move ! (2 ∷ 3 ∷ 0 ∷ []) $
         opens ! tt Ring-T.the-row {h = h} b o (λ vs. spelt ! Ring-T.the-row (Is Ring-T.the-row) (shows 𝓤 H A Ring-T.the-row) vals (LL.tells Ring-T.the-type Ring-L.the-laws) fullShare h vs b o $
@@ -141,11 +141,11 @@ module _ {M : Type 1} (𝓤 : URA M) (H : Heap 𝓤) (A : Atoms 𝓤) (W : Given
 module _ {M : Type 1} (𝓤 : URA M) (H : Heap 𝓤) (A : Atoms 𝓤) (W : Given 𝓤 H A) (at-mem : Memory → SProp 𝓤) (run : Routine → Fun 𝓤) where
   walks : (C : Calls 𝓤 H) (Λ : Loops 𝓤 H) → FmC 𝓤 H (W .laws) C → Triple 𝓤 (C #callee) (Core 𝓤 H A at-mem run) → Walks 𝓤 H A own.ended stayed (WpFn 𝓤 H C Λ code.function) (own.clauses 𝓤 H A at-mem run)
   walks C Λ fm known = walked 𝓤 H A own.ended stayed (own.clauses 𝓤 H A at-mem run) (WpFn 𝓤 H C Λ code.function)
-      (λ κs. (ptr-vals, (LL.vals Update-T.the-type Update-L.the-laws, tt))) (λ κs. (mut-tells (named 0) (κs .0) Ring-T.the-row, (LL.tells Update-T.the-type Update-L.the-laws, tt)))
+      (λ κs. (ptr-vals, (LL.vals Entry-T.the-type Entry-L.the-laws, tt))) (λ κs. (mut-tells (named 0) (κs .0) Ring-T.the-row, (LL.tells Entry-T.the-type Entry-L.the-laws, tt)))
       (λ κs qs bounds a _ are. via 𝓤 _ (fst∗ 𝓤 _ (emp 𝓤)) (walk 𝓤 H A W at-mem run (κs .0) (qs .0) (a .0 .ptr .0) (a .0 .ptr .1) (a .0 .name) (a .0 .now) (a .1 .0) (are .1 .0) C Λ fm known))
 
   goes : AllGo 𝓤 H A W 1 (own.signature .params) (own.ended .kept) stayed
-  goes = (goes-ref 𝓤 H A W 1 0 tt (plain (λ _. Ring-T.the-row)), (goes-none 𝓤 H A W 1 (λ _. Update-T.the-row) yes (λ κs x f. refl), tt))
+  goes = (goes-ref 𝓤 H A W 1 0 tt (plain (λ _. Ring-T.the-row)), (goes-none 𝓤 H A W 1 (λ _. Entry-T.the-row) yes (λ κs x f. refl), tt))
 
 meets : {M : Type 1} (𝓤 : URA M) (H : Heap 𝓤) (A : Atoms 𝓤) → Given 𝓤 H A → (at-mem : Memory → SProp 𝓤) (run : Routine → Fun 𝓤) (𝓣 : Tables 𝓤 H) → Triple 𝓤 (𝓣 .C #callee) (Core 𝓤 H A at-mem run)
     → Meets 𝓤 H A own.signature (WpFn 𝓤 H (𝓣 .C) (𝓣 .Λ) code.function) (own.spec 𝓤 H A at-mem run)

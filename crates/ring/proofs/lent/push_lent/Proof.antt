@@ -42,14 +42,14 @@ use denote.Exit.{yes}
 use Rattle.ring.specs.declared.Ring.{Ring}
 use Rattle.ring.proofs.Held.{vals, mach, state-typed, lays, lifts}
 use Rattle.ring.specs.declared.PushOut.{PushOut}
-use Rattle.tables.specs.declared.Update.{Update}
+use Rattle.ring.specs.declared.Entry.{Entry}
 use Rattle.ring.specs.Ring.{pushOf}
 use Rattle.ring.proofs.Ring as Ring-T
 use Rattle.ring.proofs.Ring.Laws as Ring-L
 use Rattle.ring.proofs.PushOut as PushOut-T
 use Rattle.ring.proofs.PushOut.Laws as PushOut-L
-use Rattle.tables.proofs.Update as Update-T
-use Rattle.tables.proofs.Update.Laws as Update-L
+use Rattle.ring.proofs.Entry as Entry-T
+use Rattle.ring.proofs.Entry.Laws as Entry-L
 use Rattle.ring.proofs.lent.push as callee
 use Rattle.ring.proofs.lent.push.Symbol as callee-def
 use Rattle.ring.proofs.lent.push.Symbol.{name as #callee}
@@ -60,19 +60,19 @@ use Rattle.ring.proofs.lent.push_lent.Statement as stated
 use Rattle.ring.proofs.lent.push_lent.Code as code
 
 abbrev stayed : Stays (own.ended .signature .params) (own.ended .kept)
-stayed = (stay-none (λ _. Ring-T.the-row) yes, (stay-none (λ _. Update-T.the-row) yes, tt))
+stayed = (stay-none (λ _. Ring-T.the-row) yes, (stay-none (λ _. Entry-T.the-row) yes, tt))
 
 module _ {M : Type 1} (𝓤 : URA M) (H : Heap 𝓤) (A : Atoms 𝓤) (at-mem : Memory → SProp 𝓤) (run : Routine → Fun 𝓤) where
   -- the contract that the proof cites
   abbrev Thin : Contract 𝓤
   Thin = tripleOf 𝓤 H A callee.signature (callee.spec 𝓤 H A at-mem run)
 
-module _ {M : Type 1} (𝓤 : URA M) (H : Heap 𝓤) (A : Atoms 𝓤) (W : Given 𝓤 H A) (at-mem : Memory → SProp 𝓤) (run : Routine → Fun 𝓤) (h : Ring) (u : Update) (h-is : Is Ring-T.the-row h (vals h)) (u-is : Is Update-T.the-row u (LL.val Update-T.the-type Update-L.the-laws u ∷ [])) where
-  abbrev a : Ring × (Update × Unit {0})
+module _ {M : Type 1} (𝓤 : URA M) (H : Heap 𝓤) (A : Atoms 𝓤) (W : Given 𝓤 H A) (at-mem : Memory → SProp 𝓤) (run : Routine → Fun 𝓤) (h : Ring) (u : Entry) (h-is : Is Ring-T.the-row h (vals h)) (u-is : Is Entry-T.the-row u (LL.val Entry-T.the-type Entry-L.the-laws u ∷ [])) where
+  abbrev a : Ring × (Entry × Unit {0})
   a = (h, (u, tt))
 
   abbrev at : List Val × (List Val × Unit {0})
-  at = (vals h, (LL.val Update-T.the-type Update-L.the-laws u ∷ [], tt))
+  at = (vals h, (LL.val Entry-T.the-type Entry-L.the-laws u ∷ [], tt))
 
   abbrev Post : Val → SProp 𝓤
   Post = walkOf 𝓤 H A own.ended stayed (own.clauses 𝓤 H A at-mem run) .post ((tt, tt, tt, a, at), tt)
@@ -87,25 +87,25 @@ module _ {M : Type 1} (𝓤 : URA M) (H : Heap 𝓤) (A : Atoms 𝓤) (W : Given
   exits y z is e =
       qed W [] ∵ suffices ! _ (ends-at 𝓤 H A own.ended stayed (own.clauses 𝓤 H A at-mem run) W ((tt, tt, tt, a, at), tt) (LL.val PushOut-T.the-type PushOut-L.the-laws (made y z)) (made y z) (tt, (tt, tt)) (tt, (tt, tt))) $
       says ! (λ i. made (e .0 i) (e .1 i)) $ owned ! PushOut-T.the-row (Is PushOut-T.the-row) (LL.makes PushOut-T.the-type PushOut-L.the-plain 𝓤 H A) (made y z) _ is $ nothing ! $
-      owned ! Update-T.the-row (Is Update-T.the-row) (LL.makes Update-T.the-type Update-L.the-plain 𝓤 H A) u _ u-is $ fjoin ! $ owned ! Ring-T.the-row (Is Ring-T.the-row) (LL.makes Ring-T.the-type Ring-L.the-plain 𝓤 H A) h _ h-is $ fjoin ! $ nothing ! $ done !
+      owned ! Entry-T.the-row (Is Entry-T.the-row) (LL.makes Entry-T.the-type Entry-L.the-plain 𝓤 H A) u _ u-is $ fjoin ! $ owned ! Ring-T.the-row (Is Ring-T.the-row) (LL.makes Ring-T.the-type Ring-L.the-plain 𝓤 H A) h _ h-is $ fjoin ! $ nothing ! $ done !
 
   -- what `push`'s triple binds outside: the local l lent for the lifetime ν, under the name δ
   abbrev ref : ℕ → GName → RefT Ring
   ref l δ = record { ptr = (l, 0); name = δ; now = h }
 
   abbrev to-thin : ℕ → ℕ → GName → Thin 𝓤 H A at-mem run .Ghost
-  to-thin l ν δ = (((ν ∷ [], tt), (fullShare, tt), tt, (ref l δ, (u, tt)), (vptr l 0 ∷ [], (LL.val Update-T.the-type Update-L.the-laws u ∷ [], tt))), tt)
+  to-thin l ν δ = (((ν ∷ [], tt), (fullShare, tt), tt, (ref l δ, (u, tt)), (vptr l 0 ∷ [], (LL.val Entry-T.the-type Entry-L.the-laws u ∷ [], tt))), tt)
 
   goes-thin : (l ν : ℕ) (δ : GName) → ent 𝓤 (sep 𝓤 (A .lft (ν ∷ []) fullShare) (sem 𝓤 H A (MutRef (named 0) (ν ∷ []) Ring-T.the-row .own (ref l δ) (vptr l 0 ∷ [])))) (Thin 𝓤 H A at-mem run .pre (to-thin l ν δ))
   goes-thin l ν δ =
       qed W (‵ (flft (ν ∷ []) fullShare) ∷ ‵ (MutRef (named 0) (ν ∷ []) Ring-T.the-row .own (ref l δ) (vptr l 0 ∷ [])) ∷ []) ∵ nothing ! $ move ! (1 ∷ 0 ∷ []) $ join ! $ move ! (1 ∷ []) $ nothing ! $
-      owned ! Update-T.the-row (Is Update-T.the-row) (LL.makes Update-T.the-type Update-L.the-plain 𝓤 H A) u _ u-is $ fjoin ! $ move ! (1 ∷ 0 ∷ []) $ fjoin ! $ move ! (1 ∷ 0 ∷ []) $ join ! $ frame ! $ done !
+      owned ! Entry-T.the-row (Is Entry-T.the-row) (LL.makes Entry-T.the-type Entry-L.the-plain 𝓤 H A) u _ u-is $ fjoin ! $ move ! (1 ∷ 0 ∷ []) $ fjoin ! $ move ! (1 ∷ 0 ∷ []) $ join ! $ frame ! $ done !
 
   module _ (C : Calls 𝓤 H) (Λ : Loops 𝓤 H) (fm : FmC 𝓤 H (W .laws) C) (known : Triple 𝓤 (C #callee) (Thin 𝓤 H A at-mem run)) where
-    walk : ent 𝓤 (onEntry 𝓤 H A own.signature tt tt a at) (WpFn 𝓤 H C Λ code.function (mach h ∷ LL.val Update-T.the-type Update-L.the-laws u ∷ []) Post)
+    walk : ent 𝓤 (onEntry 𝓤 H A own.signature tt tt a at) (WpFn 𝓤 H C Λ code.function (mach h ∷ LL.val Entry-T.the-type Entry-L.the-laws u ∷ []) Post)
     walk =
-        qed W (‵ ftrue ∷ ‵ (owns (Ring-T.the-row ∷ Update-T.the-row ∷ []) a at) ∷ []) ∵ enter ! C Λ code.function (mach h ∷ LL.val Update-T.the-type Update-L.the-laws u ∷ []) _ $
-        alloc1 ! (λ l0. alloc1 ! (λ l1. alloc1 ! (λ l2. alloc1 ! (λ l3. alloc1 ! (λ l4. alloc1 ! (λ l5. alloc1 ! (λ l6. alloc0 ! $ params1 ! $ pass1 ! (init ! 10 refl (state-typed 𝓤 H A W h h-is)) $ pass1 ! (init ! 8 refl (LL.lawful Update-T.the-type Update-L.the-laws 𝓤 H A W .typed u _ u-is .0)) $ pass0 ! $
+        qed W (‵ ftrue ∷ ‵ (owns (Ring-T.the-row ∷ Entry-T.the-row ∷ []) a at) ∷ []) ∵ enter ! C Λ code.function (mach h ∷ LL.val Entry-T.the-type Entry-L.the-laws u ∷ []) _ $
+        alloc1 ! (λ l0. alloc1 ! (λ l1. alloc1 ! (λ l2. alloc1 ! (λ l3. alloc1 ! (λ l4. alloc1 ! (λ l5. alloc1 ! (λ l6. alloc0 ! $ params1 ! $ pass1 ! (init ! 10 refl (state-typed 𝓤 H A W h h-is)) $ pass1 ! (init ! 8 refl (LL.lawful Entry-T.the-type Entry-L.the-laws 𝓤 H A W .typed u _ u-is .0)) $ pass0 ! $
         assigns ! (of-opd ! (load ! (from ! (stop !)) (look ! 10 refl))) (from ! (stop !)) (init ! 6 refl (state-typed 𝓤 H A W h h-is)) $
         assigns ! (addr ! (from ! (stop !))) (from ! (stop !)) (init ! 2 refl (tt, tt)) $
         -- the local is lent for a lifetime ν of the call
@@ -132,11 +132,11 @@ module _ {M : Type 1} (𝓤 : URA M) (H : Heap 𝓤) (A : Atoms 𝓤) (W : Given
 module _ {M : Type 1} (𝓤 : URA M) (H : Heap 𝓤) (A : Atoms 𝓤) (W : Given 𝓤 H A) (at-mem : Memory → SProp 𝓤) (run : Routine → Fun 𝓤) where
   walks : (C : Calls 𝓤 H) (Λ : Loops 𝓤 H) → FmC 𝓤 H (W .laws) C → Triple 𝓤 (C #callee) (Thin 𝓤 H A at-mem run) → Walks 𝓤 H A own.ended stayed (WpFn 𝓤 H C Λ code.function) (own.clauses 𝓤 H A at-mem run)
   walks C Λ fm known = walked 𝓤 H A own.ended stayed (own.clauses 𝓤 H A at-mem run) (WpFn 𝓤 H C Λ code.function)
-      (λ κs. (LL.vals Ring-T.the-type Ring-L.the-laws, (LL.vals Update-T.the-type Update-L.the-laws, tt))) (λ κs. (LL.tells Ring-T.the-type Ring-L.the-laws, (LL.tells Update-T.the-type Update-L.the-laws, tt)))
+      (λ κs. (LL.vals Ring-T.the-type Ring-L.the-laws, (LL.vals Entry-T.the-type Entry-L.the-laws, tt))) (λ κs. (LL.tells Ring-T.the-type Ring-L.the-laws, (LL.tells Entry-T.the-type Entry-L.the-laws, tt)))
       (λ κs qs bounds a _ are. via 𝓤 _ (fst∗ 𝓤 _ (emp 𝓤)) (walk 𝓤 H A W at-mem run (a .0) (a .1 .0) (are .0) (are .1 .0) C Λ fm known))
 
   goes : AllGo 𝓤 H A W 0 (own.signature .params) (own.ended .kept) stayed
-  goes = (goes-none 𝓤 H A W 0 (λ _. Ring-T.the-row) yes (λ κs x f. refl), (goes-none 𝓤 H A W 0 (λ _. Update-T.the-row) yes (λ κs x f. refl), tt))
+  goes = (goes-none 𝓤 H A W 0 (λ _. Ring-T.the-row) yes (λ κs x f. refl), (goes-none 𝓤 H A W 0 (λ _. Entry-T.the-row) yes (λ κs x f. refl), tt))
 
 meets : {M : Type 1} (𝓤 : URA M) (H : Heap 𝓤) (A : Atoms 𝓤) → Given 𝓤 H A → (at-mem : Memory → SProp 𝓤) (run : Routine → Fun 𝓤) (𝓣 : Tables 𝓤 H) → Triple 𝓤 (𝓣 .C #callee) (Thin 𝓤 H A at-mem run)
     → Meets 𝓤 H A own.signature (WpFn 𝓤 H (𝓣 .C) (𝓣 .Λ) code.function) (own.spec 𝓤 H A at-mem run)
