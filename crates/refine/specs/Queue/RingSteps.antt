@@ -144,18 +144,20 @@ module _ (s : State) (high : s .sizes .updates ≤ mostUpdates) where
     -- ---- an update joins
 
     pub push-refines : (u : state.Update) → Agrees (pushed (tablesOf s) (pushOf (ringOf (tablesOf s)) (queuedFor u))) (push u s >>= λ t. ok (0, t))
-    unfolding _>>=_
+    unfolding _>>=_ tablesOf
     push-refines u =
         let n = s .sizes .updates in
         let l = s .queue .items in
         let m = length-map l queuedFor in
         elim (cmp (length l) n) [
           | lt h ↦
-              let (yes, laid) = push-laid (tablesOf s) (s .queue .readPlace) (map queuedFor l) ring-laid (queuedFor u) (rw m h) in
-              rw (yes, push-is s hf fits u h) (refl, laid-tables (record { readPlace = s .queue .readPlace; items = l ++ (u ∷ []) }) _ (subst (λ x. Laid _ (s .queue .readPlace) x) (sym (map-end l u)) laid))
+              let (joins, laid) = push-laid (tablesOf s) (s .queue .readPlace) (map queuedFor l) ring-laid (queuedFor u) (rw m h) in
+              let r = pushOf (ringOf (tablesOf s)) (queuedFor u) .ring in
+              let after = laid-tables (record { readPlace = s .queue .readPlace; items = l ++ (u ∷ []) }) r (subst (Laid (withRingOf (tablesOf s) r) (s .queue .readPlace)) (sym (map-end l u)) laid) in
+              rw (joins, push-is s hf fits u h) (refl, after)
           | ge h ↦
-              let (no, same) = full-laid (tablesOf s) (s .queue .readPlace) (map queuedFor l) ring-laid (queuedFor u) (omega arith) in
-              rw (no, push-refused s hf fits u h) refl
+              let (full, same) = full-laid (tablesOf s) (s .queue .readPlace) (map queuedFor l) ring-laid (queuedFor u) (omega arith) in
+              rw (full, push-refused s hf fits u h) refl
         ]
 
     pub cleanup-refines : (a b : ℕ) → Agrees (cleanup a b (tablesOf s)) (push (state.cleanup a b) s >>= λ t. ok (0, t))
@@ -172,8 +174,10 @@ module _ (s : State) (high : s .sizes .updates ≤ mostUpdates) where
         let l = s .queue .items in
         elim (test (exists (isPermissionOf h) l)) [
           | holds t ↦
-              let (yes, laid) = queue-laid (tablesOf s) (s .queue .readPlace) (map queuedFor l) ring-laid (h .slot) (h .generation) c m (any-is h l ∙ t) in
-              rw (yes, t) (refl, laid-tables (record { readPlace = s .queue .readPlace; items = map (gather h m) l }) _ (subst (λ x. Laid _ (s .queue .readPlace) x) (gather-first h m l singly) laid))
+              let (joins, laid) = queue-laid (tablesOf s) (s .queue .readPlace) (map queuedFor l) ring-laid (h .slot) (h .generation) c m (any-is h l ∙ t) in
+              let r = queueOf (ringOf (tablesOf s)) (h .slot) (h .generation) c m .ring in
+              let after = laid-tables (record { readPlace = s .queue .readPlace; items = map (gather h m) l }) r (subst (Laid (withRingOf (tablesOf s) r) (s .queue .readPlace)) (gather-first h m l singly) laid) in
+              rw (joins, t) (refl, after)
           | fails t ↦ rw (new-laid (tablesOf s) (s .queue .readPlace) (map queuedFor l) ring-laid (h .slot) (h .generation) c m (any-is h l ∙ t), t) (push-refines (permission h c m))
         ]
 
@@ -187,10 +191,11 @@ module _ (s : State) (high : s .sizes .updates ≤ mostUpdates) where
     Pops y = (popOf (ringOf (tablesOf s)) .item ≡ itemFor (y .0)) × (withRingOf (tablesOf s) (popOf (ringOf (tablesOf s)) .ring) ≡ tablesOf (y .1))
 
     pop-of : (l : List state.Update) → s .queue .items ≡ l → Pops (pop s)
+    unfolding tablesOf
     pop-of [] e = subst Pops (sym (pop-none s hf fits e)) (empty-laid (tablesOf s) (s .queue .readPlace) (subst (λ x. Laid (tablesOf s) (s .queue .readPlace) (map queuedFor x)) e ring-laid))
     pop-of (u ∷ us) e =
         let (item, laid) = pop-laid (tablesOf s) (s .queue .readPlace) (queuedFor u) (map queuedFor us) (subst (λ x. Laid (tablesOf s) (s .queue .readPlace) (map queuedFor x)) e ring-laid) in
-        subst Pops (sym (pop-is s hf fits u us e)) (item, laid-tables (record { readPlace = (s .queue .readPlace + 1) % (s .sizes .updates + 1); items = us }) _ laid)
+        subst Pops (sym (pop-is s hf fits u us e)) (item, laid-tables (record { readPlace = (s .queue .readPlace + 1) % (s .sizes .updates + 1); items = us }) (popOf (ringOf (tablesOf s)) .ring) laid)
 
     pub pop-ring-refines : (popOf (ringOf (tablesOf s)) .item ≡ itemFor (pop s .0)) × (withRingOf (tablesOf s) (popOf (ringOf (tablesOf s)) .ring) ≡ tablesOf (pop s .1))
     pop-ring-refines = pop-of (s .queue .items) refl
