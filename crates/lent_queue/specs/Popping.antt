@@ -5,12 +5,9 @@ use mathlib.Core.Bool.{Bool, true}
 use mathlib.Core.Option.{Option, none, some}
 use mathlib.Core.List.{List}
 use Rattle.model.specs.Lists.{Each}
-use Rattle.model.specs.Outcome as outcome
 use Rattle.model.specs.Outcome.{_>>=_}
 use Rattle.model.specs.State.{State, Update, Word}
-use Rattle.model.specs.State as state
 use Rattle.model.specs.Updates.{pop}
-use Rattle.model.specs.Calls as model
 use Rattle.model.specs.Perform.{Call, Value, Answer, perform, step}
 use Rattle.model.specs.Layout.{words}
 use Rattle.model.specs.Memory.{zeroed}
