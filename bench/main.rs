@@ -135,8 +135,8 @@ fn main() {
     let d = domain(0);
     let (mut g, mut h) = (0, 0);
     row("insert and remove a capability", half_list, |t| { let i = ours::insert(t, 0); ours::remove(t, 0, i) }, |e| { let i = steps::insert(e, d); steps::remove(e, d, i) });
-    row("mark a domain that is queued", half_ring, |t| ours::mark(t, 0, 0, 3), |e| steps::mark(e, d, 3));
-    row("mark a domain that is not, and pop", half_ring, |t| { ours::mark(t, 1, next(&mut g), 3); ours::pop(t); }, |e| { steps::mark(e, domain_of(1, next(&mut h)), 3); steps::pop(e); });
+    row("queue a domain that is queued", half_ring, |t| ours::queue(t, 0, 0, 3), |e| steps::mark(e, d, 3));
+    row("queue a domain that is not, and pop", half_ring, |t| { ours::queue(t, 1, next(&mut g), 3); ours::pop(t); }, |e| { steps::mark(e, domain_of(1, next(&mut h)), 3); steps::pop(e); });
     row("push and pop", half_ring, |t| { ours::push(t, 0, 1); ours::pop(t); }, |e| { steps::push(e, 0, 1); steps::pop(e); });
     row("allocate and free a region", half_regions, |t| { let i = ours::allocate(t); ours::free(t, i) }, |e| { let r = steps::allocate(e, d); steps::free(e, r) });
     tracker_rows(1, "1 record");

@@ -4,7 +4,7 @@ mod exported {
     extern "C" {
         pub fn bench_insert(t: *mut u64, n: usize, d: usize, kind: u64, slot: u64, generation: u64) -> u64;
         pub fn bench_remove(t: *mut u64, n: usize, d: usize, i: usize) -> u64;
-        pub fn bench_mark(t: *mut u64, n: usize, slot: u64, generation: u64, cores: u64) -> u64;
+        pub fn bench_queue(t: *mut u64, n: usize, slot: u64, generation: u64, cores: u64, marks: u64) -> u64;
         pub fn bench_push(t: *mut u64, n: usize, start: u64, end: u64) -> u64;
         pub fn bench_pop(t: *mut u64, n: usize) -> u64;
         pub fn bench_allocate(t: *mut u64, n: usize) -> u64;
@@ -40,8 +40,9 @@ pub fn remove(t: &mut [u64], d: usize, i: usize) {
     call!(bench_remove, t, d, i);
 }
 
-pub fn mark(t: &mut [u64], d: u64, generation: u64, cores: u64) {
-    assert!(call!(bench_mark, t, d, generation, cores) == 1);
+/// With no marks: the Rust has none, and the words are compared.
+pub fn queue(t: &mut [u64], d: u64, generation: u64, cores: u64) {
+    assert!(call!(bench_queue, t, d, generation, cores, 0) == 1);
 }
 
 pub fn push(t: &mut [u64], start: u64, end: u64) {

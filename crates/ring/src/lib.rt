@@ -179,10 +179,12 @@ pub fn queued(ring: Ring, slot: u64, generation: u64, cores: u64, marks: u64) ->
         let mut r = ring;
         let e = r.places[at];
         let update = e.update;
-        r.places[at] = Entry {
+        let had = e.marks;
+        let joined = Entry {
             update,
-            marks: e.marks | marks,
+            marks: had | marks,
         };
+        r.places[at] = joined;
         return PushOut { ok: true, ring: r };
     }
     pushed(ring, permission(slot, generation, cores, marks))

@@ -1,6 +1,6 @@
 -- What a step can change of the ring: one place, and the read or the write place. Only that is stored.
 use Prim.Native.Nat.{ℕ, _≤_}
-use mathlib.Core.Path.{_≡_, refl, sym, ap, _∙_}
+use mathlib.Core.Path.{_≡_, sym, ap, _∙_}
 use mathlib.Core.Bool.{Bool, true, false}
 use mathlib.Core.List.{List}
 use native.Mathlib.Omega.{arith}
@@ -8,7 +8,6 @@ use borrow.Author.Tests.{lt-ltb}
 use lib.ListN.{length, getD, set}
 use lib.Seq.{set-out, set-getD, set-set}
 use Rattle.base.specs.Cases.{pick, cmp, lt, ge, test, holds, fails}
-use Rattle.tables.specs.declared.Update.{Update}
 use Rattle.tables.specs.Tables.{withRing, withMarks, withPlaces, withUpdate, withMark}
 use Rattle.tables.specs.View.{view, Sized, Left}
 use Rattle.ring.specs.declared.Entry.{Entry}

@@ -17,7 +17,7 @@ same-length : tie.Need-same-length
 same-length c = search needs
 
 returns : tie.Need-returns
-returns c = taken _ _ (c .before .before .before .before .before .is-sized .ensures) (c .before .before .before .before .if1 .taken) _ _ (ap (λ (i : Item). i .update .kind) ((c .before .before .pop-update .ensures) .0)) _ _ ((c .before .before .pop-update .ensures) .1)
+returns c = taken _ _ (c .before .before .before .before .before .is-sized .ensures) (c .before .before .before .before .if1 .taken) _ _ (ap (λ (i : Item). i .entry .update .kind) ((c .before .before .pop-update .ensures) .0)) _ _ ((c .before .before .pop-update .ensures) .1)
 
 same-length-2 : tie.Need-same-length-2
 same-length-2 c = search needs

@@ -17,15 +17,15 @@ mul-e c = let h = inside (c .before .before .before .place-of .result) (c .befor
 element-copy-out-e : tie.Need-element-copy-out-e
 element-copy-out-e c = inside (c .before .before .before .place-of .result) (c .before .before .before .before .args .ring .write) (c .before .before .before .place-of .result) _ (c .before .both .ensures) (c .if1 .taken)
 
-mul-t13 : tie.Need-mul-t13
-mul-t13 c = let h = inside (c .before .before .before .before .before .before .place-of .result) (c .before .before .before .before .before .before .before .args .ring .write) (c .before .before .before .before .before .before .place-of .result) _ (c .before .before .before .before .both .ensures) (c .before .before .before .if1 .taken) in search needs
+mul-joined : tie.Need-mul-joined
+mul-joined c = let h = inside (c .before .before .before .before .before .place-of .result) (c .before .before .before .before .before .before .args .ring .write) (c .before .before .before .before .before .place-of .result) _ (c .before .before .before .both .ensures) (c .before .before .if1 .taken) in search needs
 
-element-set-from-r : tie.Need-element-set-from-r
-element-set-from-r c = inside (c .before .before .before .before .before .before .place-of .result) (c .before .before .before .before .before .before .before .args .ring .write) (c .before .before .before .before .before .before .place-of .result) _ (c .before .before .before .before .both .ensures) (c .before .before .before .if1 .taken)
+element-set-from-joined : tie.Need-element-set-from-joined
+element-set-from-joined c = inside (c .before .before .before .before .before .place-of .result) (c .before .before .before .before .before .before .args .ring .write) (c .before .before .before .before .before .place-of .result) _ (c .before .before .before .both .ensures) (c .before .before .if1 .taken)
 
 returns : tie.Need-returns
 unfolding queueOf
-returns c = simp (← (c .before .before .before .before .before .before .place-of .ensures), sym (c .before .before .before .before .both .ensures) ∙ (c .before .before .before .if1 .taken))
+returns c = simp (← (c .before .before .before .before .before .place-of .ensures), sym (c .before .before .before .both .ensures) ∙ (c .before .before .if1 .taken))
 
 permission-requires : tie.Need-permission-requires
 permission-requires c κs = search needs
@@ -45,8 +45,8 @@ queued-spec =
     both-requires
     mul-e
     element-copy-out-e
-    mul-t13
-    element-set-from-r
+    mul-joined
+    element-set-from-joined
     returns
     permission-requires
     pushed-requires

@@ -5,7 +5,7 @@ use mathlib.Core.Path.{_≡_, sym, ap, _∙_}
 use native.Mathlib.Omega.{arith}
 use borrow.Author.Needs.{needs}
 use Rattle.ring.specs.Ring.{cap}
-use Rattle.update.specs.Stored.{ringIn, readTo, read-none, read-more}
+use Rattle.update.specs.Stored.{readTo, read-none, read-more}
 use Rattle.update.proofs.ring_in.Statement.{statement}
 use Rattle.update.proofs.ring_in.Tie as tie
 

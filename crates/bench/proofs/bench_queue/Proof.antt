@@ -3,14 +3,14 @@ use mathlib.Core.Path.{sym, ap, _∙_}
 use Rattle.tables.specs.Tests.{sized-true}
 use Rattle.bench.specs.Steps.{flagOf, taken, refused}
 use borrow.Author.Needs.{needs}
-use Rattle.bench.proofs.bench_mark.Statement.{statement}
-use Rattle.bench.proofs.bench_mark.Tie as tie
+use Rattle.bench.proofs.bench_queue.Statement.{statement}
+use Rattle.bench.proofs.bench_queue.Tie as tie
 
 is-sized-requires : tie.Need-is-sized-requires
 is-sized-requires c κs = search needs
 
-mark-domain-requires : tie.Need-mark-domain-requires
-mark-domain-requires c κs = sized-true _ (sym (c .before .before .is-sized .ensures) ∙ (c .before .if1 .taken))
+queue-domain-requires : tie.Need-queue-domain-requires
+queue-domain-requires c κs = sized-true _ (sym (c .before .before .is-sized .ensures) ∙ (c .before .if1 .taken))
 
 flag-requires : tie.Need-flag-requires
 flag-requires c κs = search needs
@@ -19,7 +19,7 @@ same-length : tie.Need-same-length
 same-length c = search needs
 
 returns : tie.Need-returns
-returns c = taken _ _ (c .before .before .before .before .before .before .is-sized .ensures) (c .before .before .before .before .before .if1 .taken) _ _ ((c .flag .ensures) ∙ ap flagOf ((c .before .before .before .mark-domain .ensures) .0)) _ _ ((c .before .before .before .mark-domain .ensures) .1)
+returns c = taken _ _ (c .before .before .before .before .before .before .is-sized .ensures) (c .before .before .before .before .before .if1 .taken) _ _ ((c .flag .ensures) ∙ ap flagOf ((c .before .before .before .queue-domain .ensures) .0)) _ _ ((c .before .before .before .queue-domain .ensures) .1)
 
 same-length-2 : tie.Need-same-length-2
 same-length-2 c = search needs
@@ -27,12 +27,12 @@ same-length-2 c = search needs
 returns-2 : tie.Need-returns-2
 returns-2 c = refused _ _ (c .before .is-sized .ensures) (c .if1 .left) _ _
 
-pub bench-mark-spec : {M : Type 1} → statement M
-bench-mark-spec =
+pub bench-queue-spec : {M : Type 1} → statement M
+bench-queue-spec =
     tie.close
     (tie.spec
     is-sized-requires
-    mark-domain-requires
+    queue-domain-requires
     flag-requires
     same-length
     returns
