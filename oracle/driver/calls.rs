@@ -89,7 +89,8 @@ pub enum Call {
 
 #[derive(Clone, Copy, PartialEq, Eq, Debug)]
 pub enum Update {
-    Permission { domain: Handle, cores: u64 },
+    /// Document 02, request 4: the marks, bits 0 to 4 for reach, READ, WRITE, EXEC, SUPER.
+    Permission { domain: Handle, cores: u64, marks: u64 },
     Cleanup { start: u64, end: u64 },
 }
 
@@ -194,7 +195,7 @@ impl fmt::Display for Call {
 impl fmt::Display for Update {
     fn fmt(&self, f: &mut fmt::Formatter) -> fmt::Result {
         match self {
-            Update::Permission { domain, cores } => write!(f, "p {domain} {cores}"),
+            Update::Permission { domain, cores, marks } => write!(f, "p {domain} {cores} {marks}"),
             Update::Cleanup { start, end } => write!(f, "c {start} {end}"),
         }
     }

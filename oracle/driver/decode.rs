@@ -8,11 +8,16 @@ pub const LIMITS: [u64; 5] = [32, 128, 1024, 1024, 128];
 
 /// How many words tables of these sizes have.
 pub fn total(z: &Sizes) -> usize {
-    former_total(z) + 2 * z.domains
+    former_total(z) + z.updates + 1
 }
 
-/// How many words the last delivery's tables of these sizes have: all sections but the interfaces, which stand last.
+/// How many words the last delivery's tables of these sizes have: all sections but the marks, which stand last.
 pub fn former_total(z: &Sizes) -> usize {
+    interfaces_at(z) + 2 * z.domains
+}
+
+/// Where the interfaces begin.
+fn interfaces_at(z: &Sizes) -> usize {
     hashes_at(z) + 5 * z.regions
 }
 
@@ -22,12 +27,12 @@ fn hashes_at(z: &Sizes) -> usize {
     7 + pools + z.domains * (5 + 3 * z.slots) + 8 * z.regions + 9 * z.records + 4 * (z.updates + 1)
 }
 
-/// The same words with all zeroes in the interfaces; none where they have no sizes or another length.
+/// The same words with all zeroes in the interfaces and the marks; none where they have no sizes or another length.
 pub fn without_interfaces(words: &[u64]) -> Option<Vec<u64>> {
-    sizes(words).map(|z| zeroed_from(words, former_total(&z)))
+    sizes(words).map(|z| zeroed_from(words, interfaces_at(&z)))
 }
 
-/// The same words with all zeroes in the hashes and the interfaces; none where they have no sizes or another length.
+/// The same words with all zeroes in the hashes, the interfaces and the marks; none where they have no sizes or another length.
 pub fn without_hashes(words: &[u64]) -> Option<Vec<u64>> {
     sizes(words).map(|z| zeroed_from(words, hashes_at(&z)))
 }
@@ -45,7 +50,7 @@ pub fn decode(words: &[u64]) -> Option<Tables> {
     let mut domains = entries(&domain_pool, w.take(sizes.domains * (5 + 3 * sizes.slots)), 5 + 3 * sizes.slots, domain)?;
     let mut regions = entries(&region_pool, w.take(sizes.regions * 8), 8, region)?;
     let records = entries(&record_pool, w.take(sizes.records * 9), 9, record)?;
-    let places = w.take((sizes.updates + 1) * 4).chunks(4).map(place).collect::<Option<Vec<_>>>()?;
+    let mut places = w.take((sizes.updates + 1) * 4).chunks(4).map(place).collect::<Option<Vec<_>>>()?;
     for (region, row) in regions.iter_mut().zip(w.take(sizes.regions * 5).chunks(5)) {
         let hash = hash(row)?;
         region.iter_mut().for_each(|r| r.hash = hash);
@@ -53,6 +58,9 @@ pub fn decode(words: &[u64]) -> Option<Tables> {
     for (domain, row) in domains.iter_mut().zip(w.take(sizes.domains * 2).chunks(2)) {
         let frozen = flag(row[1])?;
         domain.iter_mut().for_each(|d| (d.interface, d.frozen) = (row[0], frozen));
+    }
+    for (place, &word) in places.iter_mut().zip(w.take(sizes.updates + 1)) {
+        marked(place, word)?;
     }
     let tables = Tables { sizes, domain_pool, region_pool, record_pool, domains, regions, records, read, write, places };
     // What is not settled above must be 0: the words of a free entry, of an empty place, of a hash that is not there, and the like.
@@ -163,8 +171,16 @@ fn record(w: &[u64]) -> Option<Record> {
 fn place(w: &[u64]) -> Option<Option<Update>> {
     match w[0] {
         0 => Some(None),
-        1 => Some(Some(Update::Permission { domain: Handle { slot: w[1], gen: w[2] }, cores: w[3] })),
+        1 => Some(Some(Update::Permission { domain: Handle { slot: w[1], gen: w[2] }, cores: w[3], marks: 0 })),
         2 => Some(Some(Update::Cleanup { start: w[1], end: w[2] })),
         _ => None,
     }
+}
+
+/// A queued domain's marks are below 32; beside anything else stands 0, which the comparison of words tests.
+fn marked(place: &mut Option<Update>, word: u64) -> Option<()> {
+    if let Some(Update::Permission { marks, .. }) = place {
+        *marks = (word < 32).then_some(word)?;
+    }
+    Some(())
 }

@@ -137,8 +137,16 @@ fn record_words(record: &Record) -> [u64; 9] {
 
 fn update_words(update: &Update) -> [u64; 4] {
     match *update {
-        Update::Permission { domain, cores } => [1, domain.slot, domain.gen, cores],
+        Update::Permission { domain, cores, .. } => [1, domain.slot, domain.gen, cores],
         Update::Cleanup { start, end } => [2, start, end, 0],
+    }
+}
+
+/// The marks of the domain queued at a place; 0 for anything else.
+fn marks_word(update: &Option<Update>) -> u64 {
+    match *update {
+        Some(Update::Permission { marks, .. }) => marks,
+        _ => 0,
     }
 }
 
@@ -162,6 +170,7 @@ impl Tables {
         out.extend(self.places.iter().flat_map(|u| u.as_ref().map_or([0; 4], update_words)));
         out.extend(self.regions.iter().flat_map(|r| hash_words(r.as_ref().and_then(|r| r.hash))));
         out.extend(self.domains.iter().flat_map(|d| d.as_ref().map_or([0; 2], interface_words)));
+        out.extend(self.places.iter().map(marks_word));
         out
     }
 

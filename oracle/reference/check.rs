@@ -1,7 +1,10 @@
-//! Tests the reference: document 01's example and marked cases, lists with answers from the documents, conversions, and a list for each fault.
+//! Tests the reference: document 01's example and marked cases, lists with answers from the documents, conversions,
+//! drawn lists, and a list for each fault.
 
 mod check_answers;
 mod check_convert;
+mod check_drawn;
+mod check_marks;
 
 use reference::{Engine, Fault};
 use shared::calls::{show, Answer, Call, Handle, Reply, Sizes, Update};
@@ -24,6 +27,7 @@ fn main() {
     facts();
     check_answers::answers();
     check_convert::conversions();
+    check_drawn::drawn();
     faults();
     println!("the reference passes document 01's example and cases");
 }
@@ -69,7 +73,7 @@ fn list_lines(engine: &mut Engine) -> Vec<String> {
     }
     while let Ok(Reply::Popped(Some(update))) = engine.perform(&Call::Pop) {
         out.push(match update {
-            Update::Permission { domain, cores } => format!("p {} {cores}", domain.slot),
+            Update::Permission { domain, cores, .. } => format!("p {} {cores}", domain.slot),
             Update::Cleanup { start, end } => format!("c {start} {end}"),
         });
     }

@@ -1,6 +1,6 @@
-//! Document 02's converter of request 2: "older tables carry over that way by a converter", that is with all three set and unfrozen.
+//! Document 02's converter for request 4, by request 2's rule for converters: every queued domain gets all five marks, since which rights moved
+//! was not kept.
 
-use crate::interface::{Interface, OPENED};
 use shared::calls::Sizes;
 use shared::sound;
 
@@ -24,12 +24,12 @@ impl Lent {
 pub fn convert(old: &[u64], lent: Lent) -> Result<Vec<u64>, u8> {
     let sizes = stored_sizes(old).ok_or(1)?;
     let before = last_length(&sizes);
-    if old.len() != before || lent != Lent::of(before + 2 * sizes.domains) {
+    if old.len() != before || lent != Lent::of(before + sizes.updates + 1) {
         return Err(1);
     }
     let mut new = old.to_vec();
-    new.extend((0..sizes.domains).flat_map(|d| row(old, d)));
-    // The independent test of driver/sound.rs. It reads tables with the new rows; of those soundness asks nothing that `row` could
+    new.extend(ring(old, &sizes).chunks(4).map(marks));
+    // The independent test of driver/sound.rs. It reads tables with the marks; of those soundness asks nothing that `marks` could
     // break, so the old tables are sound exactly where the new ones are.
     if sound::fault(&new).is_some() {
         return Err(1);
@@ -50,20 +50,25 @@ fn stored_sizes(old: &[u64]) -> Option<Sizes> {
     })
 }
 
-/// How many words the last delivery's tables have (docs/TABLES.md, the sections up to the hashes).
+/// How many words the last delivery's tables have (docs/TABLES.md, the sections up to the interfaces).
 fn last_length(z: &Sizes) -> usize {
+    ring_at(z) + (z.updates + 1) * 4 + z.regions * 5 + z.domains * 2
+}
+
+/// Where the ring begins: behind the header, the pools, the domains, the regions and the tracker records.
+fn ring_at(z: &Sizes) -> usize {
     let header = 7;
     let pools = (2 + 2 * z.domains) + (2 + 2 * z.regions) + (2 + 2 * z.records);
     let entries = z.domains * (5 + 3 * z.slots) + z.regions * 8 + z.records * 9;
-    let ring = (z.updates + 1) * 4;
-    let hashes = z.regions * 5;
-    header + pools + entries + ring + hashes
+    header + pools + entries
 }
 
-/// A domain slot's row: the word and the freeze of a domain as it opens, both 0 where the slot is free.
-fn row(old: &[u64], d: usize) -> [u64; 2] {
-    // Behind the header the domain pool's head and count, then its free links: 0 for a slot in use.
-    let in_use = old[7 + 2 + d] == 0;
-    let Interface { word, frozen } = OPENED;
-    if in_use { [word, u64::from(frozen)] } else { [0, 0] }
+/// The ring's places, four words each.
+fn ring<'a>(old: &'a [u64], z: &Sizes) -> &'a [u64] {
+    &old[ring_at(z)..][..(z.updates + 1) * 4]
+}
+
+/// All five marks for a queued domain, kind 1; 0 for a range to clean up and for an empty place.
+fn marks(place: &[u64]) -> u64 {
+    if place[0] == 1 { 31 } else { 0 }
 }

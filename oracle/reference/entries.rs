@@ -56,7 +56,7 @@ impl Engine {
     }
 
     /// The ring's place that is `i` behind the first.
-    fn place(&self, i: usize) -> usize {
+    pub fn place(&self, i: usize) -> usize {
         (self.lists.queue.first + i) % (self.sizes.updates + 1)
     }
 }

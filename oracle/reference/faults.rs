@@ -89,11 +89,30 @@ pub enum Fault {
     FreezeClears,
     FreezeStopsSending,
     FreezeStopsCores,
+    // Document 02, request 4.
+    GapMarksAll,
+    ReachLast,
+    GatherRefreshesCores,
+    GatherReplaces,
+    GatherMovesBack,
+    GatherNeedsRoom,
+    GatherBySlotAlone,
+    LossMarksStaying,
+    FirstMarksOnly,
+    CarveMarksNet,
+    PopLeavesMarks,
+    PushedUnmarked,
+    UncacheableMarked,
+    OtherEntryGathers,
+    DomainKeepsMarks,
+    RefusedMarksStay,
+    RightsMarked,
+    ReachAlwaysMarked,
 }
 
 use Fault::*;
 
-const FAULTS: usize = 85;
+const FAULTS: usize = 103;
 
 /// Each fault with the words of the list of wrong ports, in the order of the enum.
 const NAMES: [(Fault, &str); FAULTS] = [
@@ -182,6 +201,24 @@ const NAMES: [(Fault, &str); FAULTS] = [
     (FreezeClears, "freezing clears the word"),
     (FreezeStopsSending, "a frozen domain can't send"),
     (FreezeStopsCores, "a frozen domain's core map can't be set"),
+    (GapMarksAll, "a filled gap marks all five"),
+    (ReachLast, "marks in the order READ to SUPER, reach last"),
+    (GatherRefreshesCores, "gathering new marks refreshes the core map"),
+    (GatherReplaces, "later marks replace the entry's"),
+    (GatherMovesBack, "gathering moves the entry to the end"),
+    (GatherNeedsRoom, "gathering new marks into a full ring is 14"),
+    (GatherBySlotAlone, "gathering by slot alone: a range to clean up that starts at that number takes the marks"),
+    (LossMarksStaying, "a loss marks the counts that stay above 0"),
+    (FirstMarksOnly, "only the first record that changes gives marks"),
+    (CarveMarksNet, "a carve marks only what differs before and after"),
+    (PopLeavesMarks, "popped marks stay for the next entry at that place"),
+    (PushedUnmarked, "an entry is pushed with no marks"),
+    (UncacheableMarked, "UNCACHEABLE marks bit 5"),
+    (OtherEntryGathers, "the oldest queued domain's entry gathers"),
+    (DomainKeepsMarks, "popped marks stay for the domain's next entry"),
+    (RefusedMarksStay, "a refused call's marks stay in the entry"),
+    (RightsMarked, "a change marks reach and all its rights"),
+    (ReachAlwaysMarked, "every change marks reach"),
 ];
 
 impl Fault {

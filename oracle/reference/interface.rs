@@ -50,7 +50,7 @@ impl Engine {
         self.seen.note_if(before.word != ALL && before.word != word, Branch::SetAgain);
         self.domain_mut(d).interface.word = self.word_set(before, word);
         if self.wrong(Fault::SetQueues) {
-            self.queue_domain(d)?;
+            self.queue_domain(d, 0)?;
         }
         Ok(Reply::Done)
     }

@@ -77,6 +77,8 @@ pub struct Lists {
     pub queue: Queue,
     /// Fault only: the hashes that freed regions leave in their slots.
     pub left: BTreeMap<usize, RegionHash>,
+    /// Fault only: the marks that popped updates leave, by place or by domain.
+    pub left_marks: BTreeMap<usize, u64>,
 }
 
 /// Arenas: fresh slots go 0, 1, 2.
@@ -112,6 +114,7 @@ impl Lists {
             regions: vec![None; sizes.regions],
             queue: Queue { updates: VecDeque::new(), first: 0 },
             left: BTreeMap::new(),
+            left_marks: BTreeMap::new(),
         }
     }
 }

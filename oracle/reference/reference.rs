@@ -1,5 +1,5 @@
-//! Document 01's calls over plain lists and stacks, and document 02's requests 1 (flags and hashes at send) and 2 (each domain's word). A wrong port
-//! can be put in as a fault.
+//! Document 01's calls over plain lists and stacks, and document 02's requests 1 (flags and hashes at send), 2 (each domain's word) and 4 (which
+//! rights moved). A wrong port can be put in as a fault.
 
 mod convert;
 mod entries;
@@ -7,6 +7,7 @@ mod faults;
 mod flags;
 mod interface;
 mod lists;
+mod marks;
 mod opening;
 mod permission;
 mod queue;
@@ -46,7 +47,10 @@ impl Engine {
         let before = if can_fail_late(call) { Some(self.lists.clone()) } else { None };
         let answer = self.act(call);
         if let (Err(_), Some(before)) = (&answer, before) {
-            self.lists = before;
+            let refused = std::mem::replace(&mut self.lists, before);
+            if self.wrong(Fault::RefusedMarksStay) {
+                self.keep_marks(&refused);
+            }
         }
         self.seen.count(call, &answer);
         answer
@@ -111,18 +115,19 @@ impl Engine {
 
     /// A domain gains a range; a change queues it.
     fn gain(&mut self, d: usize, gained: Access) -> Result<(), u8> {
-        if self.tracker(d).gain(gained)? {
-            self.queue_domain(d)?;
-        }
-        Ok(())
+        let marks = self.tracker(d).gain(gained)?;
+        self.changed(d, marks)
     }
 
     /// A domain loses a range; a change queues it.
     fn lose(&mut self, d: usize, lost: Access) -> Result<(), u8> {
-        if self.tracker(d).lose(lost)? {
-            self.queue_domain(d)?;
-        }
-        Ok(())
+        let marks = self.tracker(d).lose(lost)?;
+        self.changed(d, marks)
+    }
+
+    /// A change means a count left or came to 0, so a mark.
+    fn changed(&mut self, d: usize, marks: u64) -> Result<(), u8> {
+        if marks == 0 { Ok(()) } else { self.queue_domain(d, marks) }
     }
 }
 

@@ -160,6 +160,9 @@ impl Engine {
         if self.wrong(Fault::CarveQueuesInForce) {
             return self.exchange_by_rights_in_force(d, lost, gained);
         }
+        if self.wrong(Fault::CarveMarksNet) {
+            return self.exchange_by_net_marks(d, lost, gained);
+        }
         self.lose(d, lost)?;
         self.gain(d, gained)
     }
@@ -167,10 +170,9 @@ impl Engine {
     /// Fault only: queues the domain if its rights at some address are others than before.
     fn exchange_by_rights_in_force(&mut self, d: usize, lost: Access, gained: Access) -> Result<(), u8> {
         let before = self.rights_in_force(d);
-        self.tracker(d).lose(lost)?;
-        self.tracker(d).gain(gained)?;
+        let marks = self.tracker(d).lose(lost)? | self.tracker(d).gain(gained)?;
         if self.rights_in_force(d) != before {
-            self.queue_domain(d)?;
+            self.queue_domain(d, marks)?;
         }
         Ok(())
     }

@@ -85,11 +85,15 @@ pub enum Branch {
     FrozenSameWord,
     FrozenTwice,
     SetAgain,
+    MarksGrow,
+    MarksGrowWhileFull,
+    MarksDiffer,
+    RightAlone,
 }
 
 use Branch::*;
 
-const BRANCHES: usize = 80;
+const BRANCHES: usize = 84;
 
 /// Each branch with its name, in the order of the enum.
 const NAMES: [(Branch, &str); BRANCHES] = [
@@ -173,6 +177,10 @@ const NAMES: [(Branch, &str); BRANCHES] = [
     (FrozenSameWord, "21: the word that it has"),
     (FrozenTwice, "freeze: frozen already"),
     (SetAgain, "interface: a word in another's place"),
+    (MarksGrow, "ring: marks gathered that the entry lacked"),
+    (MarksGrowWhileFull, "ring: marks gathered that the entry lacked, while full"),
+    (MarksDiffer, "gain or loss: a later record has marks that the first lacks"),
+    (RightAlone, "gain or loss: rights moved, reach did not"),
 ];
 
 const _: () = {

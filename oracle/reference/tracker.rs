@@ -1,6 +1,7 @@
-//! Document 01's tracker paragraph: gain, loss, split and merge over one domain's records.
+//! Document 01's tracker paragraph: gain, loss, split and merge over one domain's records. Gain and loss answer document 02's marks.
 
 use crate::lists::{counters, Pool, Record};
+use crate::marks::bits;
 use crate::seen::{Branch, Seen};
 use crate::Fault;
 use shared::calls::Access;
@@ -19,9 +20,9 @@ impl Tracker<'_> {
     }
 
     /// Gain splits at edges, fills gaps and adds one, left to right; then it merges.
-    /// Answers whether a count left 0.
-    pub fn gain(&mut self, gained: Access) -> Result<bool, u8> {
-        let mut changed = false;
+    /// Answers which counts left 0.
+    pub fn gain(&mut self, gained: Access) -> Result<u64, u8> {
+        let mut marks = 0;
         let mut filled = false;
         let records = self.records.len();
         let mut i = self.cut(gained.start)?;
@@ -33,25 +34,27 @@ impl Tracker<'_> {
         while at < gained.end {
             let next = self.records.get(i).map_or(gained.end, |r| r.start.min(gained.end));
             if at < next {
-                self.fill(i, Access { start: at, end: next, ..gained })?;
-                (changed, filled) = (true, true);
+                let new = self.fill(i, Access { start: at, end: next, ..gained })?;
+                marks = self.walked(marks, new);
+                filled = true;
             } else {
                 let split = self.split(i, gained.end)?;
                 self.seen.note_if(split && filled, Branch::GapThenSplit);
                 self.seen.note_if(split && at == gained.start, Branch::GainInsideOne);
-                changed |= self.add_one(i, gained.rights);
+                let left = self.add_one(i, gained.rights);
+                marks = self.walked(marks, left);
             }
             at = self.records[i].end;
             i += 1;
         }
         self.merge()?;
-        Ok(changed)
+        Ok(self.answered(marks, gained.rights))
     }
 
     /// Loss splits, subtracts one and drops records at reach 0, left to right; then it merges.
-    /// Answers whether a count came to 0.
-    pub fn lose(&mut self, lost: Access) -> Result<bool, u8> {
-        let mut changed = false;
+    /// Answers which counts came to 0.
+    pub fn lose(&mut self, lost: Access) -> Result<u64, u8> {
+        let mut marks = 0;
         let mut dropped = Vec::new();
         let mut i = self.cut(lost.start)?;
         if self.wrong(Fault::LossSplitsFirst) {
@@ -63,7 +66,8 @@ impl Tracker<'_> {
             self.seen.note_if(split && !dropped.is_empty(), Branch::LossReuses);
             self.seen.note_if(split && !dropped.is_empty() && short, Branch::LossReusesLast);
             self.seen.note_if(split && self.records[i].start == lost.start, Branch::LossInsideOne);
-            changed |= self.subtract_one(i, lost.rights);
+            let came = self.subtract_one(i, lost.rights);
+            marks = self.walked(marks, came);
             if self.records[i].counts[0] == 0 {
                 let slot = self.records.remove(i).slot;
                 dropped.push(slot);
@@ -78,7 +82,24 @@ impl Tracker<'_> {
         if self.wrong(Fault::LossFreesLate) {
             dropped.iter().try_for_each(|&slot| self.pool.put_back(slot))?;
         }
-        Ok(changed)
+        Ok(self.answered(marks, lost.rights))
+    }
+
+    /// "somewhere in the range": the marks of all the walk's records.
+    fn walked(&mut self, marks: u64, more: u64) -> u64 {
+        self.seen.note_if(marks != 0 && more & !marks != 0, Branch::MarksDiffer);
+        if marks != 0 && self.wrong(Fault::FirstMarksOnly) { marks } else { marks | more }
+    }
+
+    /// What a whole gain or loss answers. Only faults change it.
+    fn answered(&mut self, marks: u64, rights: u8) -> u64 {
+        self.seen.note_if(marks != 0 && marks & 1 == 0, Branch::RightAlone);
+        match self.fault {
+            Some(Fault::ReachLast) => marks >> 1 | (marks & 1) << 4,
+            Some(Fault::ReachAlwaysMarked) if marks != 0 => marks | 1,
+            Some(Fault::RightsMarked) if marks != 0 => bits(|k| k < 5 && counters(rights)[k] == 1),
+            _ => marks,
+        }
     }
 
     /// Splits the record that has `at` inside it; answers the place of the first record from `at` on.
@@ -104,12 +125,17 @@ impl Tracker<'_> {
         Ok(true)
     }
 
-    /// Puts a new record at place `i`; its uncacheable count is made by these rights.
-    fn fill(&mut self, i: usize, gap: Access) -> Result<(), u8> {
+    /// Puts a new record at place `i`; its uncacheable count is made by these rights, and has no mark.
+    fn fill(&mut self, i: usize, gap: Access) -> Result<u64, u8> {
         self.seen.note_if(i > 0 && i < self.records.len(), Branch::GapBetween);
         let slot = self.new_slot()?;
-        self.records.insert(i, Record { slot, start: gap.start, end: gap.end, counts: counters(gap.rights) });
-        Ok(())
+        let counts = counters(gap.rights);
+        self.records.insert(i, Record { slot, start: gap.start, end: gap.end, counts });
+        Ok(match self.fault {
+            Some(Fault::GapMarksAll) => 31,
+            Some(Fault::UncacheableMarked) => bits(|k| counts[k] > 0),
+            _ => bits(|k| k < 5 && counts[k] > 0),
+        })
     }
 
     /// 13 NoTracker: a split or new record finds none free.
@@ -119,25 +145,26 @@ impl Tracker<'_> {
         Ok(slot)
     }
 
-    /// Adds one to reach and the rights' counts; true if one of them left 0.
-    fn add_one(&mut self, i: usize, rights: u8) -> bool {
+    /// Adds one to reach and the rights' counts; answers which of them left 0.
+    fn add_one(&mut self, i: usize, rights: u8) -> u64 {
         let mut step = counters(rights);
         if !self.wrong(Fault::UncacheableMoves) {
             step[5] = 0;
         }
         let counts = &mut self.records[i].counts;
-        let changed = (0..6).any(|k| step[k] == 1 && counts[k] == 0);
+        let left = bits(|k| step[k] == 1 && counts[k] == 0);
         (0..6).for_each(|k| counts[k] += step[k]);
-        changed
+        left
     }
 
-    /// Subtracts one likewise; true if a count came to 0. Only a fault can meet a count of 0 here.
-    fn subtract_one(&mut self, i: usize, rights: u8) -> bool {
+    /// Subtracts one likewise; answers which counts came to 0. Only a fault can meet a count of 0 here.
+    fn subtract_one(&mut self, i: usize, rights: u8) -> u64 {
         let mut step = counters(rights);
         step[5] = 0;
+        let other_side = self.wrong(Fault::LossMarksStaying);
         let counts = &mut self.records[i].counts;
         (0..6).for_each(|k| counts[k] = counts[k].saturating_sub(step[k]));
-        (0..6).any(|k| step[k] == 1 && counts[k] == 0)
+        bits(|k| step[k] == 1 && (counts[k] == 0) != other_side)
     }
 
     /// Touching neighbours with six equal counts become one; from the head, the left slot stays.

@@ -1,4 +1,5 @@
 pub mod Clauses
 pub mod Words
 pub mod Updates
+pub mod Fits
 pub mod Queue

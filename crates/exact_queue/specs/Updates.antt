@@ -46,66 +46,66 @@ some-up p g k (suc m) j a b e = elim (cmp k j) [
 
 -- no later update is of the same handle
 abbrev pub Apart : (ℕ → state.Update) → ℕ → ℕ → Type 0
-Apart g k m = (i j : ℕ) → k ≤ i → i < j → j < k + m → (h : state.Handle) (c : ℕ) → g i ≡ permission h c → isPermissionOf h (g j) ≡ false
+Apart g k m = (i j : ℕ) → k ≤ i → i < j → j < k + m → (h : state.Handle) (c x : ℕ) → g i ≡ permission h c x → isPermissionOf h (g j) ≡ false
 
 pub apart-singly : (g : ℕ → state.Update) (k m : ℕ) → Apart g k m → Singly (map g (countUp k m))
 apart-singly g k zero h = tt
 apart-singly g k (suc m) h = go (g k) refl (apart-singly g (suc k) m (λ i j a b d. h i j (omega arith) b (omega arith)))
   where
     go : (u : state.Update) → g k ≡ u → Singly (map g (countUp (suc k) m)) → Singly (u ∷ map g (countUp (suc k) m))
-    go (permission x c) e r = (none-up (isPermissionOf x) g (suc k) m (λ j a b. h k j (omega arith) a (omega arith) x c e), r)
+    go (permission y c x) e r = (none-up (isPermissionOf y) g (suc k) m (λ j a b. h k j (omega arith) a (omega arith) y c x e), r)
     go (cleanup a b) e r = r
 
 singly-rest : (u : state.Update) (us : List state.Update) → Singly (u ∷ us) → Singly us
-singly-rest (permission h c) us s = s .1
+singly-rest (permission h c x) us s = s .1
 singly-rest (cleanup a b) us s = s
 
-singly-first : (u : state.Update) (us : List state.Update) → Singly (u ∷ us) → (h : state.Handle) (c : ℕ) → u ≡ permission h c → countIf (isPermissionOf h) us ≡ 0
-singly-first u us s h c e = subst (λ (x : state.Update). Singly (x ∷ us)) e s .0
+singly-first : (u : state.Update) (us : List state.Update) → Singly (u ∷ us) → (h : state.Handle) (c x : ℕ) → u ≡ permission h c x → countIf (isPermissionOf h) us ≡ 0
+singly-first u us s h c x e = subst (λ (y : state.Update). Singly (y ∷ us)) e s .0
 
-pub singly-apart : (g : ℕ → state.Update) (k m : ℕ) → Singly (map g (countUp k m)) → (i j : ℕ) → k ≤ i → i < j → j < k + m → (h : state.Handle) (c : ℕ) → g i ≡ permission h c → isPermissionOf h (g j) ≡ true → ⊥
-singly-apart g k zero s i j a b d h c e t = omega arith
-singly-apart g k (suc m) s i j a b d h c e t = elim (cmp k i) [
-  | lt q ↦ singly-apart g (suc k) m (singly-rest (g k) (map g (countUp (suc k) m)) s) i j q b (omega arith) h c e t
+pub singly-apart : (g : ℕ → state.Update) (k m : ℕ) → Singly (map g (countUp k m)) → (i j : ℕ) → k ≤ i → i < j → j < k + m → (h : state.Handle) (c x : ℕ) → g i ≡ permission h c x → isPermissionOf h (g j) ≡ true → ⊥
+singly-apart g k zero s i j a b d h c x e t = omega arith
+singly-apart g k (suc m) s i j a b d h c x e t = elim (cmp k i) [
+  | lt q ↦ singly-apart g (suc k) m (singly-rest (g k) (map g (countUp (suc k) m)) s) i j q b (omega arith) h c x e t
   | ge q ↦
       let z : k ≡ i = omega arith in
-      let n = singly-first (g k) (map g (countUp (suc k) m)) s h c (ap g z ∙ e) in
+      let n = singly-first (g k) (map g (countUp (suc k) m)) s h c x (ap g z ∙ e) in
       omega (arith, n, some-up (isPermissionOf h) g (suc k) m j (omega arith) (omega arith) t)
 ]
 
 -- ---- an update's words
 
 abbrev kindIn : state.Update → ℕ
-kindIn (permission h c) = 1
+kindIn (permission h c x) = 1
 kindIn (cleanup a b) = 0
 
 abbrev slotIn : state.Update → ℕ
-slotIn (permission h c) = h .slot
+slotIn (permission h c x) = h .slot
 slotIn (cleanup a b) = 0
 
 abbrev genIn : state.Update → ℕ
-genIn (permission h c) = h .generation
+genIn (permission h c x) = h .generation
 genIn (cleanup a b) = 0
 
-pub permission-read : (u : Update) → u .kind ≡ 1 → updateFrom u ≡ permission (record { slot = u .a; generation = u .b }) (u .c)
-permission-read u e = rw (eq-eqb (u .kind) 1 e)
+pub permission-read : (u : Update) (x : ℕ) → u .kind ≡ 1 → updateFrom u x ≡ permission (record { slot = u .a; generation = u .b }) (u .c) x
+permission-read u x e = rw (eq-eqb (u .kind) 1 e)
 
-pub cleanup-read : (u : Update) → (u .kind ≡ 1 → ⊥) → updateFrom u ≡ cleanup (u .a) (u .b)
-cleanup-read u e = rw (ne-eqb (u .kind) 1 e)
+pub cleanup-read : (u : Update) (x : ℕ) → (u .kind ≡ 1 → ⊥) → updateFrom u x ≡ cleanup (u .a) (u .b)
+cleanup-read u x e = rw (ne-eqb (u .kind) 1 e)
 
-pub permission-is : (u : Update) (h : state.Handle) (c : ℕ) → updateFrom u ≡ permission h c → (u .kind ≡ 1) × (u .a ≡ h .slot) × (u .b ≡ h .generation)
-permission-is u h c e = elim (ℕ-discrete (u .kind) 1) [
-  | yes k ↦ let p = sym (permission-read u k) ∙ e in (k, ap slotIn p, ap genIn p)
-  | no k ↦ absurd (let z = ap kindIn (sym (cleanup-read u k) ∙ e) in omega arith)
+pub permission-is : (u : Update) (x : ℕ) (h : state.Handle) (c y : ℕ) → updateFrom u x ≡ permission h c y → (u .kind ≡ 1) × (u .a ≡ h .slot) × (u .b ≡ h .generation)
+permission-is u x h c y e = elim (ℕ-discrete (u .kind) 1) [
+  | yes k ↦ let p = sym (permission-read u x k) ∙ e in (k, ap slotIn p, ap genIn p)
+  | no k ↦ absurd (let z = ap kindIn (sym (cleanup-read u x k) ∙ e) in omega arith)
 ]
 
-pub names-is : (u : Update) (h : state.Handle) → isPermissionOf h (updateFrom u) ≡ true → (u .kind ≡ 1) × (h .slot ≡ u .a) × (h .generation ≡ u .b)
-names-is u h t = elim (ℕ-discrete (u .kind) 1) [
+pub names-is : (u : Update) (x : ℕ) (h : state.Handle) → isPermissionOf h (updateFrom u x) ≡ true → (u .kind ≡ 1) × (h .slot ≡ u .a) × (h .generation ≡ u .b)
+names-is u x h t = elim (ℕ-discrete (u .kind) 1) [
   | yes k ↦
-      let x = true-is (ap (isPermissionOf h) (sym (permission-read u k)) ∙ t) in
-      (k, eqb→eq (h .slot) (u .a) (and-l (eqb (h .slot) (u .a)) (eqb (h .generation) (u .b)) x), eqb→eq (h .generation) (u .b) (and-r (eqb (h .slot) (u .a)) (eqb (h .generation) (u .b)) x))
-  | no k ↦ absurd (true-false t (ap (isPermissionOf h) (cleanup-read u k)))
+      let y = true-is (ap (isPermissionOf h) (sym (permission-read u x k)) ∙ t) in
+      (k, eqb→eq (h .slot) (u .a) (and-l (eqb (h .slot) (u .a)) (eqb (h .generation) (u .b)) y), eqb→eq (h .generation) (u .b) (and-r (eqb (h .slot) (u .a)) (eqb (h .generation) (u .b)) y))
+  | no k ↦ absurd (true-false t (ap (isPermissionOf h) (cleanup-read u x k)))
 ]
 
-pub is-names : (u : Update) (h : state.Handle) → u .kind ≡ 1 → h .slot ≡ u .a → h .generation ≡ u .b → isPermissionOf h (updateFrom u) ≡ true
-is-names u h k a b = ap (isPermissionOf h) (permission-read u k) ∙ rw (eq-eqb (h .slot) (u .a) a, eq-eqb (h .generation) (u .b) b)
+pub is-names : (u : Update) (x : ℕ) (h : state.Handle) → u .kind ≡ 1 → h .slot ≡ u .a → h .generation ≡ u .b → isPermissionOf h (updateFrom u x) ≡ true
+is-names u x h k a b = ap (isPermissionOf h) (permission-read u x k) ∙ rw (eq-eqb (h .slot) (u .a) a, eq-eqb (h .generation) (u .b) b)

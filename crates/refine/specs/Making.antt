@@ -10,7 +10,7 @@ use Rattle.model.specs.Lists.{atSlot, countUp, firstOf, exists, afterIn}
 use Rattle.base.specs.Cases.{lt, ge, cmp, holds, fails, test}
 use Rattle.model.specs.Locals.{freshLocals}
 use Rattle.model.specs.State as state
-use Rattle.model.specs.Layout.{words, slotOr0, freeLink}
+use Rattle.model.specs.Layout.{words, slotOr0, freeLink, atPlace}
 use Rattle.model.specs.Pool.{freshPool}
 use Rattle.model.specs.Making.{emptyTables}
 use Rattle.laws.specs.Parts.{up-length}
@@ -21,7 +21,7 @@ use Rattle.making.specs.Empty.{empty, emptyDomain}
 use Rattle.decoded.specs.Rows.{same-up, replicate-up}
 use Rattle.laws.specs.Empty.{free-slot}
 use Rattle.decoded.specs.Links.{up-link, up-last}
-use Rattle.decoded.specs.Tables.{sizesFor, poolOf, domainFor, regionFor, slotHash, slotInterface, recordIn, placeFor, domainsFor, regionsFor, recordsFor, ringFor, hashesFor, interfacesFor, tablesOf}
+use Rattle.decoded.specs.Tables.{sizesFor, poolOf, domainFor, regionFor, slotHash, slotInterface, recordIn, placeFor, markFor, domainsFor, regionsFor, recordsFor, ringFor, hashesFor, interfacesFor, marksFor, tablesOf}
 use Rattle.decoded.specs.Words.{layout-tables}
 
 -- ---- a pool with every slot free
@@ -60,7 +60,7 @@ no-record zero i = refl
 no-record (suc n) i = no-record n i
 
 pub empty-tables : (z : state.Sizes) → tablesOf (emptyTables z) ≡ empty (sizesFor z)
-unfolding tablesOf empty emptyDomain domainsFor regionsFor recordsFor ringFor hashesFor interfacesFor
+unfolding tablesOf empty emptyDomain domainsFor regionsFor recordsFor ringFor hashesFor interfacesFor marksFor
 empty-tables z =
     let w : (0 + 0) % (z .updates + 1) ≡ 0 = mod-eq-of-lt (omega arith) in
     let p₁ = fresh-pool (z .domains) in
@@ -72,7 +72,8 @@ empty-tables z =
     let p₇ = replicate-up (placeFor (z .updates) (record { readPlace = 0; items = [] })) noUpdate (z .updates + 1) (λ i h. refl) in
     let p₈ = replicate-up (λ i. slotHash (atSlot (replicate (z .regions) none) i)) noHash (z .regions) (λ i h. ap slotHash (free-slot (z .regions) i)) in
     let p₉ = replicate-up (λ i. slotInterface (atSlot (replicate (z .domains) none) i)) noInterface (z .domains) (λ i h. ap slotInterface (free-slot (z .domains) i)) in
-    λ i. record { sizes = sizesFor z; read = 0; write = w i; domainPool = p₁ i; regionPool = p₂ i; recordPool = p₃ i; domains = p₄ i; regions = p₅ i; records = p₆ i; ring = p₇ i; hashes = p₈ i; interfaces = p₉ i }
+    let p₁₀ = replicate-up (λ k. markFor (atPlace (z .updates) (record { readPlace = 0; items = [] }) k)) 0 (z .updates + 1) (λ i h. refl) in
+    λ i. record { sizes = sizesFor z; read = 0; write = w i; domainPool = p₁ i; regionPool = p₂ i; recordPool = p₃ i; domains = p₄ i; regions = p₅ i; records = p₆ i; ring = p₇ i; hashes = p₈ i; interfaces = p₉ i; marks = p₁₀ i }
 
 -- what `make_empty` leaves
 pub empty-words : (z : state.Sizes) → layout (empty (sizesFor z)) ≡ words (emptyTables z)

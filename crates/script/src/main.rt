@@ -34,7 +34,8 @@ const WORDS: usize = sizes::HEADER_WIDTH
     + RECORDS * sizes::RECORD_WIDTH
     + (UPDATES + 1) * sizes::UPDATE_WIDTH
     + REGIONS * sizes::HASH_WIDTH
-    + DOMAINS * sizes::INTERFACE_WIDTH;
+    + DOMAINS * sizes::INTERFACE_WIDTH
+    + (UPDATES + 1) * sizes::MARK_WIDTH;
 
 // Bytes of input, and of output, that are held at a time.
 const BYTES: usize = 16384;

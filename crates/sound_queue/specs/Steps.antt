@@ -9,10 +9,11 @@ use borrow.Author.Tests.{ltb-true, not-true, not-false}
 use lib.Dec.{ltb}
 use lib.ListN.{getD}
 use Rattle.base.specs.Tests.{both, both-true, allFrom}
+use Rattle.tables.specs.declared.Update.{Update}
 use Rattle.tables.specs.Tables.{Tables}
 use Rattle.tables.specs.View.{view, ofParts}
 use Rattle.sizes.specs.Sizes.{sizesOf}
-use Rattle.sound_queue.specs.Ring.{allIn, numbersHold, singly, queuedIn, ringHolds, queueHolds}
+use Rattle.sound_queue.specs.Ring.{updateFits, marksFit, allIn, numbered, markNumbered, numbersHold, singly, queuedIn, ringHolds, queueHolds}
 
 pub updates-seen : (t : List ℕ) → getD t 4 0 ≡ view t .sizes .updates
 unfolding view ofParts sizesOf
@@ -41,6 +42,15 @@ module _ (p : ℕ → Bool) (i e : ℕ) where
 
     pub all-stop : p i ≡ false → allIn p i e ≡ false
     all-stop y = all-more ∙ ap (λ b. both b (allIn p (i + 1) e)) y
+
+-- ---- one place of the ring
+
+abbrev pub numberHolds : Tables → ℕ → ℕ → ℕ → ℕ → Bool
+numberHolds v n r m j = both (updateFits v (numbered v n r j) (ltb j m)) (marksFit (numbered v n r j) (markNumbered v n r j))
+
+-- from the update and the marks that stand there
+pub number-is : (v : Tables) (n r m j : ℕ) (u : Update) (x : ℕ) (fits marked : Bool) → u ≡ numbered v n r j → x ≡ markNumbered v n r j → fits ≡ updateFits v u (ltb j m) → marked ≡ marksFit u x → both fits marked ≡ numberHolds v n r m j
+number-is v n r m j u x fits marked eu ex ef em = (λ i. both (ef i) (em i)) ∙ λ i. both (updateFits v (eu i) (ltb j m)) (marksFit (eu i) (ex i))
 
 -- ---- the whole test
 

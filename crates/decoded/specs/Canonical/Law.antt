@@ -11,7 +11,7 @@ use Rattle.base.specs.Lists.{getD-any}
 use Rattle.model.specs.Lists.{Each, In, countUp}
 use Rattle.model.specs.State as state
 use Rattle.model.specs.Sound.{recordUses}
-use Rattle.tables.specs.Tables.{Tables, Domain, noDomain, noRegion, noRecord, noHash, noInterface}
+use Rattle.tables.specs.Tables.{Tables, noDomain, noRegion, noRecord, noHash, noInterface}
 use Rattle.decoded.specs.Shape.{Shaped}
 use Rattle.decoded.specs.Tables.{domainFor, regionFor, slotHash, slotInterface, recordIn, domainsFor, regionsFor, recordsFor, hashesFor, interfacesFor, tablesOf}
 use Rattle.decoded.specs.Tracker.Trackers.{record-unused}

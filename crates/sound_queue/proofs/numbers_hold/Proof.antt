@@ -1,18 +1,17 @@
 -- The rest of the numbers from here is the whole from the start.
 use Prim.Native.Nat.{_-_}
-use mathlib.Core.Path.{_≡_, refl, sym, ap, _∙_}
+use mathlib.Core.Path.{refl, sym, _∙_, _≡_}
 use native.Mathlib.Omega.{arith}
+use borrow.Author.Needs.{needs}
 use borrow.Author.Tests.{not-true, not-false}
-use lib.Dec.{ltb}
-use Rattle.tables.specs.declared.Update.{Update}
-use Rattle.sound_queue.specs.Ring.{updateFits, allIn, numbered, numbersHold}
+use Rattle.sound_queue.specs.Ring.{allIn, numbersHold}
 use Rattle.tables.specs.View.{view}
-use Rattle.sound_queue.specs.Steps.{all-end, all-go, all-stop}
+use Rattle.sound_queue.specs.Steps.{all-end, all-go, all-stop, numberHolds, number-is}
 use Rattle.sound_queue.proofs.numbers_hold.Statement.{statement}
 use Rattle.sound_queue.proofs.numbers_hold.Tie as tie
 
 abbrev Inv-loop : tie.InvT-loop
-Inv-loop t n read m j₀ j = allIn (λ k. updateFits (view t) (numbered (view t) n read k) (ltb k m)) 0 n ≡ allIn (λ k. updateFits (view t) (numbered (view t) n read k) (ltb k m)) j n
+Inv-loop t n read m j₀ j = allIn (numberHolds (view t) n read m) 0 n ≡ allIn (numberHolds (view t) n read m) j n
 
 abbrev μ-loop : tie.MeasureT-loop
 μ-loop t n read m j₀ j = n - j
@@ -23,12 +22,21 @@ loop-holds c = refl
 update-numbered-requires : tie.Need-update-numbered-requires Inv-loop μ-loop
 update-numbered-requires c κs = ((c .before .before .before .pre .0), (omega arith, omega (arith, (c .before .before .before .pre .1))))
 
+marks-numbered-requires : tie.Need-marks-numbered-requires Inv-loop μ-loop
+marks-numbered-requires c κs = ((c .before .before .before .before .pre .0), (omega arith, omega (arith, (c .before .before .before .before .pre .1))))
+
 update-fits-requires : tie.Need-update-fits-requires Inv-loop μ-loop
-update-fits-requires c κs = (c .before .before .before .before .pre .0)
+update-fits-requires c κs = (c .before .before .before .before .before .pre .0)
+
+marks-fit-requires : tie.Need-marks-fit-requires Inv-loop μ-loop
+marks-fit-requires c κs = search needs
+
+both-requires : tie.Need-both-requires Inv-loop μ-loop
+both-requires c κs = search needs
 
 returns : tie.Need-returns Inv-loop μ-loop
 unfolding numbersHold
-returns c = sym ((c .before .before .before .before .loop .inv) ∙ all-stop _ _ _ (c .before .before .before .loop-test .taken) (sym ((c .before .update-fits .ensures) ∙ ap (λ (u : Update). updateFits (view ((c .before .before .before .before .before .before .args .t) .now)) u (ltb (c .before .before .before .before .loop .j) (c .before .before .before .before .before .before .args .m))) (c .before .before .update-numbered .ensures)) ∙ not-true _ (c .if1 .taken)))
+returns c = sym ((c .before .before .before .before .before .before .before .loop .inv) ∙ all-stop _ _ _ (c .before .before .before .before .before .before .loop-test .taken) (sym ((c .before .both .ensures) ∙ number-is _ _ _ _ _ _ _ _ _ (c .before .before .before .before .before .update-numbered .ensures) (c .before .before .before .before .marks-numbered .ensures) (c .before .before .before .update-fits .ensures) (c .before .before .marks-fit .ensures)) ∙ not-true _ (c .if1 .taken)))
 
 add-j : tie.Need-add-j Inv-loop μ-loop
 add-j c = omega arith
@@ -37,7 +45,7 @@ loop-less : tie.Need-loop-less Inv-loop μ-loop
 loop-less c = omega arith
 
 loop-again : tie.Need-loop-again Inv-loop μ-loop
-loop-again c = (c .before .before .before .before .loop .inv) ∙ all-go _ _ _ (c .before .before .before .loop-test .taken) (sym ((c .before .update-fits .ensures) ∙ ap (λ (u : Update). updateFits (view ((c .before .before .before .before .before .before .args .t) .now)) u (ltb (c .before .before .before .before .loop .j) (c .before .before .before .before .before .before .args .m))) (c .before .before .update-numbered .ensures)) ∙ not-false _ (c .if1 .left))
+loop-again c = (c .before .before .before .before .before .before .before .loop .inv) ∙ all-go _ _ _ (c .before .before .before .before .before .before .loop-test .taken) (sym ((c .before .both .ensures) ∙ number-is _ _ _ _ _ _ _ _ _ (c .before .before .before .before .before .update-numbered .ensures) (c .before .before .before .before .marks-numbered .ensures) (c .before .before .before .update-fits .ensures) (c .before .before .marks-fit .ensures)) ∙ not-false _ (c .if1 .left))
 
 returns-2 : tie.Need-returns-2 Inv-loop μ-loop
 unfolding numbersHold
@@ -51,7 +59,10 @@ numbers-hold-spec =
     μ-loop
     loop-holds
     update-numbered-requires
+    marks-numbered-requires
     update-fits-requires
+    marks-fit-requires
+    both-requires
     returns
     add-j
     loop-less
