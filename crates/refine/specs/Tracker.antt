@@ -3,6 +3,7 @@ pub mod TrackerSteps
 pub mod Linked
 pub mod RecordSteps
 pub mod RecordFrees
+pub mod Unions
 pub mod WalkSteps
 pub mod GainSteps
 pub mod LossSteps

@@ -1,12 +1,14 @@
 -- A domain gains, or loses, a range: the walk over its tracker, and where a count left or came to 0 the update that this queues. The walks are the
--- tracker's; here the answer of a walk, 1 or 0, becomes the model's `putWalk`.
+-- tracker's; here the answer of a walk, its marks, becomes the model's `putWalk`.
 use mathlib.Core.Path.{_≡_, refl, ap, _∙_, sym}
 use Prim.Native.Nat.{ℕ, _<_}
 use mathlib.Core.Bool.{Bool, true, false}
 use mathlib.Core.Option.{some, none}
+use lib.Dec.{eqb}
 use lib.ListN.{length-set}
 use lib.Seq.{getD-set-same}
-use Rattle.model.specs.Lists.{oneIf, Each, atSlot, In, if_then_else_}
+use Rattle.base.specs.Cases.{pick}
+use Rattle.model.specs.Lists.{Each, atSlot, In, if_then_else_}
 use Rattle.model.specs.Outcome.{Outcome, ok, _>>=_}
 use Rattle.model.specs.State.{State, Domain, putDomain, withTracker, withRecordPool, Access}
 use Rattle.model.specs.Tracker.{Walk, gain, lose}
@@ -16,9 +18,9 @@ use Rattle.model.specs.Regions.{putWalk}
 use Rattle.model.specs.Sound.{Rising}
 use Rattle.laws.specs.Tree.Slots.{in-length, live-is}
 use Rattle.laws.specs.Tree.Steps.{domain-at}
-use Rattle.answers.specs.Answers.{Effect, andThen}
+use Rattle.answers.specs.Answers.{Effect, done, andThen}
 use Rattle.region.specs.Turns.{addRegion, removeRegion}
-use Rattle.domain.specs.Activate.{notifyIf, activate, deactivate}
+use Rattle.domain.specs.Activate.{notify, notifyIf, activate, deactivate}
 use Rattle.decoded.specs.Sizes.{good-limits}
 use Rattle.decoded.specs.Tables.{tablesOf}
 use Rattle.refine.specs.Agrees.{Agrees, agrees-call, agrees-from, bind-assoc}
@@ -63,29 +65,36 @@ module _ (s : State) (raisable : TrackersRaisable s) (d : ℕ) (x : Domain) (at 
   low : Each (λ q. Raisable (q .counts)) (x .tracker)
   low = rw (domain-at s d x at) at (raisable .low d)
 
-  -- ---- a walk is put back, and a change queues the domain
+  -- ---- a walk is put back, and a mark queues the domain
 
   abbrev after : Walk → State
   after w = withRecordPool (w .pool) (putDomain d (withTracker (w .records) x) s)
 
-  notify-if : (w : Walk) (b : Bool) → Agrees (notifyIf d (oneIf b) (tablesOf (after w))) (plain (if b then pushPermission d (after w) else ok (after w)))
+  -- by whether there is no mark
+  notify-by : (w : Walk) (b : Bool)
+      → Agrees (pick b (done 0 (tablesOf (after w))) (notify d (w .marks) (tablesOf (after w)))) (plain (if b then ok (after w) else pushPermission d (w .marks) (after w)))
   unfolding _>>=_
-  notify-if w true =
+  notify-by w true = (refl, refl)
+  notify-by w false =
       let q = raisable .base .ring .queue in
-      notify-refines (after w) (good-limits (s .sizes) (raisable .base .ring .sizesGood) .updates-high) (q .readPlace) (q .fits) d (withTracker (w .records) x)
+      notify-refines (after w) (good-limits (s .sizes) (raisable .base .ring .sizesGood) .updates-high) (q .readPlace) (q .fits) d (w .marks) (withTracker (w .records) x)
       (length-set (s .domains) d (some (withTracker (w .records) x)) ∙ raisable .base .domains .size)
       (getD-set-same (s .domains) d (some (withTracker (w .records) x)) none (in-length (s .domains) d x at))
-  notify-if w false = (refl, refl)
+      (q .singly)
 
-  put-is : (w : Walk) → putWalk d w s ≡ if w .changed then pushPermission d (after w) else ok (after w)
+  notify-if : (w : Walk) → Agrees (notifyIf d (w .marks) (tablesOf (after w))) (plain (if eqb (w .marks) 0 then ok (after w) else pushPermission d (w .marks) (after w)))
+  notify-if w = notify-by w (eqb (w .marks) 0)
+
+  put-is : (w : Walk) → putWalk d w s ≡ if eqb (w .marks) 0 then ok (after w) else pushPermission d (w .marks) (after w)
   unfolding putWalk
-  put-is w = ap (λ (y : Domain). let t = withRecordPool (w .pool) (putDomain d (withTracker (w .records) y) s) in if w .changed then pushPermission d t else ok t) (domain-at s d x at)
+  put-is w =
+      ap (λ (y : Domain). let t = withRecordPool (w .pool) (putDomain d (withTracker (w .records) y) s) in if eqb (w .marks) 0 then ok t else pushPermission d (w .marks) t) (domain-at s d x at)
 
   -- the walk m of the model, which the code's step z does
-  walk-refines : (z : Effect) (m : Outcome Walk) → Agrees z (m >>= λ w. ok (oneIf (w .changed), after w)) → Agrees (andThen z (notifyIf d)) (plain (m >>= λ w. putWalk d w s))
+  walk-refines : (z : Effect) (m : Outcome Walk) → Agrees z (m >>= λ w. ok (w .marks, after w)) → Agrees (andThen z (notifyIf d)) (plain (m >>= λ w. putWalk d w s))
   walk-refines z m h =
       agrees-call _ _ _ (bind-assoc m _ _)
-      (agrees-from z (notifyIf d) m (λ w. (oneIf (w .changed), after w)) (λ w. plain (putWalk d w s)) h (λ w e. agrees-call _ _ _ (ap plain (put-is w)) (notify-if w (w .changed))))
+      (agrees-from z (notifyIf d) m (λ w. (w .marks, after w)) (λ w. plain (putWalk d w s)) h (λ w e. agrees-call _ _ _ (ap plain (put-is w)) (notify-if w)))
 
 pub activate-refines : Follows activate model.activate
 unfolding activate model.activate

@@ -2,7 +2,7 @@
 -- The walk takes three turns at most for a record and two at the end, so that the code's number of turns suffices.
 use Prim.Native.Nat.{ℕ, _<_}
 use native.Mathlib.Omega.{arith}
-use Rattle.model.specs.Lists.{oneIf, Each}
+use Rattle.model.specs.Lists.{Each}
 use Rattle.model.specs.Outcome.{ok, _>>=_}
 use Rattle.model.specs.State.{State, Domain, withTracker, withRecordPool, putDomain}
 use Rattle.model.specs.Tracker as tracker
@@ -23,7 +23,7 @@ use Rattle.refine.specs.Tracker.MergedWalk.{tracker-fits, walked-merged}
 
 pub add-refines : (s : State) (d : ℕ) (x : Domain) (a : AccessRights) → Held s d x → Rising 0 (x .tracker) → Each (λ q. Raisable (q .counts)) (x .tracker) → a .start < a .end
     → Agrees (addRegion d a (tablesOf s))
-    (gain (a .ops .0) (a .start) (a .end) (x .tracker) (s .recordPool) >>= λ w. ok (oneIf (w .changed), withRecordPool (w .pool) (putDomain d (withTracker (w .records) x) s)))
+    (gain (a .ops .0) (a .start) (a .end) (x .tracker) (s .recordPool) >>= λ w. ok (w .marks, withRecordPool (w .pool) (putDomain d (withTracker (w .records) x) s)))
 unfolding addRegion gain tracked
 add-refines s d x a h o u k =
     let l = x .tracker in

@@ -1,33 +1,31 @@
 -- The turns of the code's gain, by where the range starts and ends about the record at hand. b is done, the rest is to come; the rest of the range
 -- starts at st. Each law says what the turn does to the tables of the state in the middle of the walk.
-use mathlib.Core.Path.{_≡_, refl, sym, ap, _∙_}
+use mathlib.Core.Path.{_≡_, refl, ap, _∙_}
 use Prim.Native.Nat.{ℕ, suc, _≤_, _<_, min}
-use mathlib.Core.Bool.{Bool, false, _||_, or-false}
 use mathlib.Core.List.{List, [], _∷_, _++_}
 use native.Mathlib.Omega.{arith}
 use lib.Dec.{ltb}
 use borrow.Author.Tests.{lt-ltb, le-ltb, ne-eqb, le-leb, lt-leb}
 use Rattle.base.specs.Cases.{lt, ge, cmp, pick, pick-t, pick-f}
-use Rattle.model.specs.Lists.{oneIf}
+use Rattle.rights.specs.Rights.{union}
 use Rattle.model.specs.State.{State, Record, Pool, Domain}
 use Rattle.model.specs.Layout.{link}
-use Rattle.model.specs.Tracker.{raise, changes}
 use Rattle.laws.specs.Words.SameTrackers.{firstSlot}
 use Rattle.tables.specs.declared.Region.{Region}
-use Rattle.tables.specs.Tables.{Tables, recordAt, withRecord}
+use Rattle.tables.specs.Tables.{Tables, noRecord, recordAt, withRecord}
 use Rattle.region.specs.declared.AccessRights.{AccessRights}
 use Rattle.region.specs.declared.Cursor.{Cursor}
 use Rattle.region.specs.declared.Progress.the-variants.{Going}
 use Rattle.region.specs.declared.Way.the-variants.{Add}
 use Rattle.tables.specs.Links.{slotTo}
 use Rattle.tracker_records.specs.Links.{inserted, split}
-use Rattle.tracker_records.specs.Counts.{changesB}
+use Rattle.tracker_records.specs.Counts.{crossingsOf}
 use Rattle.region.specs.Turns.{Turn, to, over, onward, nextOf, fillTurn, cutStart, cutEnd, raiseTurn, addAt, addTurn, turn}
 use Rattle.decoded.specs.Tables.{recordFor, tablesOf}
 use Rattle.refine.specs.Tracker.Linked.{slot-of, lastLink}
 use Rattle.refine.specs.Tracker.RecordSteps.{tracked}
-use Rattle.refine.specs.Tracker.GainSteps.{newRecord, raisedRecord}
-use Rattle.refine.specs.Tracker.TrackerCounts.{Raisable, made-is, raised-is, changes-is, noted-is}
+use Rattle.refine.specs.Tracker.GainSteps.{newRecord, raisedRecord, fills, raises}
+use Rattle.refine.specs.Tracker.TrackerCounts.{Raisable, made-is, raised-is, crossings-is, fills-is}
 use Rattle.refine.specs.Tracker.Walking.{cursor, Fits, row-here, changed-here}
 use Rattle.refine.specs.Tracker.Walks.{behind}
 
@@ -43,7 +41,7 @@ module _ (t : Tables) (d : ℕ) (a : AccessRights) (c : Cursor) (q : Region) whe
   unfolding addAt
   at-gap h = pick-t _ _ _ (lt-ltb (c .start) (q .start) h)
 
-  at-pass : q .start ≤ c .start → q .end ≤ c .start → addAt t d a c q ≡ to (Going (nextOf c (q .next) (c .start) false)) t
+  at-pass : q .start ≤ c .start → q .end ≤ c .start → addAt t d a c q ≡ to (Going (nextOf c (q .next) (c .start) 0)) t
   unfolding addAt
   at-pass h k = pick-f _ _ _ (le-ltb (c .start) (q .start) h) ∙ pick-t _ _ _ (le-leb (q .end) (c .start) k)
 
@@ -55,7 +53,7 @@ module _ (t : Tables) (d : ℕ) (a : AccessRights) (c : Cursor) (q : Region) whe
   unfolding addAt
   at-start h k = pick-f _ _ _ (le-ltb (c .start) (q .start) (omega arith)) ∙ pick-f _ _ _ (lt-leb (q .end) (c .start) k) ∙ pick-f _ _ _ (le-ltb (q .start) (c .start) (omega arith))
 
-module _ (s : State) (d : ℕ) (x : Domain) (a : AccessRights) (st : ℕ) (z : Bool) (b : List Record) (p : Pool) where
+module _ (s : State) (d : ℕ) (x : Domain) (a : AccessRights) (st z : ℕ) (b : List Record) (p : Pool) where
   abbrev tables : List Record → Tables
   tables l = tablesOf (tracked s d x (b ++ l) p)
 
@@ -65,14 +63,17 @@ module _ (s : State) (d : ℕ) (x : Domain) (a : AccessRights) (st : ℕ) (z : B
   turn-done l h = rw (le-leb (a .end) st h)
 
   fill-is : (l : List Record) (e : ℕ) → fillTurn (tables l) d a (cursor b l st z) e
-      ≡ onward (inserted (tables l) d (lastLink b) (recordFor (newRecord (a .ops .0) st e 0) (firstSlot l))) (λ k. record { prev = k; at = link (firstSlot l); start = e; changed = 1 })
+      ≡ onward (inserted (tables l) d (lastLink b) (recordFor (newRecord (a .ops .0) st e 0) (firstSlot l))) (λ k. record { prev = k; at = link (firstSlot l); start = e; marks = union z (fills (a .ops .0)) })
   unfolding fillTurn cursor
-  fill-is l e = ap (λ (q : Region). onward (inserted (tables l) d (lastLink b) q) (λ k. record { prev = k; at = link (firstSlot l); start = e; changed = 1 })) (made-is (a .ops .0) st e 0 (firstSlot l))
+  fill-is l e =
+      let next : Region → ℕ → Turn = λ q m. onward (inserted (tables l) d (lastLink b) q) (λ k. record { prev = k; at = link (firstSlot l); start = e; marks = union z m }) in
+      ap (λ (q : Region). next q (crossingsOf noRecord q)) (made-is (a .ops .0) st e 0 (firstSlot l))
+      ∙ ap (next (recordFor (newRecord (a .ops .0) st e 0) (firstSlot l))) (fills-is (a .ops .0) st e 0 (firstSlot l))
 
   module _ (todo : st < a .end) where
     -- no record is left
     pub turn-last : turn Add (tables []) d a (cursor b [] st z)
-        ≡ onward (inserted (tables []) d (lastLink b) (recordFor (newRecord (a .ops .0) st (a .end) 0) (firstSlot []))) (λ k. record { prev = k; at = link (firstSlot []); start = a .end; changed = 1 })
+        ≡ onward (inserted (tables []) d (lastLink b) (recordFor (newRecord (a .ops .0) st (a .end) 0) (firstSlot []))) (λ k. record { prev = k; at = link (firstSlot []); start = a .end; marks = union z (fills (a .ops .0)) })
     unfolding addTurn cursor
     turn-last = pick-f _ _ _ (lt-leb (a .end) st todo) ∙ fill-is [] (a .end)
 
@@ -94,19 +95,19 @@ module _ (s : State) (d : ℕ) (x : Domain) (a : AccessRights) (st : ℕ) (z : B
       -- a gap before q
       pub turn-gap : st < q .start → turn Add t d a c
           ≡ onward (inserted t d (lastLink b) (recordFor (newRecord (a .ops .0) st (min (a .end) (q .start)) 0) (firstSlot (q ∷ l))))
-          (λ k. record { prev = k; at = link (firstSlot (q ∷ l)); start = min (a .end) (q .start); changed = 1 })
+          (λ k. record { prev = k; at = link (firstSlot (q ∷ l)); start = min (a .end) (q .start); marks = union z (fills (a .ops .0)) })
       unfolding cursor
       turn-gap k = turn-row ∙ at-gap t d a c row k ∙ ap (fillTurn t d a c) (pick-min (q .start) (a .end)) ∙ fill-is (q ∷ l) (min (a .end) (q .start))
 
       -- q lies before the range
-      pub turn-pass : q .start ≤ st → q .end ≤ st → turn Add t d a c ≡ to (Going (behind q l st (z || false))) t
+      pub turn-pass : q .start ≤ st → q .end ≤ st → turn Add t d a c ≡ to (Going (behind q l st (union z 0))) t
       unfolding cursor
-      turn-pass k m = turn-row ∙ at-pass t d a c row k m ∙ ap (λ (y : Bool). to (Going (behind q l st y)) t) (sym (or-false z))
+      turn-pass k m = turn-row ∙ at-pass t d a c row k m
 
       -- the range starts inside q
-      pub turn-cut : q .start < st → st < q .end → turn Add t d a c ≡ onward (split t (q .slot) st) (λ k. record { prev = suc (q .slot); at = k; start = st; changed = oneIf z })
+      pub turn-cut : q .start < st → st < q .end → turn Add t d a c ≡ onward (split t (q .slot) st) (λ k. record { prev = suc (q .slot); at = k; start = st; marks = z })
       unfolding cutStart cursor
-      turn-cut k m = turn-row ∙ at-cut t d a c row k m ∙ ap (λ (i : ℕ). onward (split t i st) (λ k. record { prev = suc (q .slot); at = k; start = st; changed = oneIf z })) (slot-of (q .slot))
+      turn-cut k m = turn-row ∙ at-cut t d a c row k m ∙ ap (λ (i : ℕ). onward (split t i st) (λ k. record { prev = suc (q .slot); at = k; start = st; marks = z })) (slot-of (q .slot))
 
       module _ (same : q .start ≡ st) (some-of-it : q .start < q .end) where
         -- the range starts with q, and ends inside it
@@ -115,16 +116,15 @@ module _ (s : State) (d : ℕ) (x : Domain) (a : AccessRights) (st : ℕ) (z : B
         turn-trim m = turn-row ∙ at-start t d a c row same (omega arith) ∙ pick-t _ _ _ (lt-ltb (a .end) (q .end) m) ∙ ap (λ (i : ℕ). onward (split t i (a .end)) (λ k. c)) (slot-of (q .slot))
 
         pub turn-raise : q .end ≤ a .end → Raisable (q .counts)
-            → turn Add t d a c ≡ to (Going (behind (raisedRecord (a .ops .0) q) l (q .end) (z || changes (q .counts) (raise (a .ops .0) (q .counts))))) (tables (raisedRecord (a .ops .0) q ∷ l))
+            → turn Add t d a c ≡ to (Going (behind (raisedRecord (a .ops .0) q) l (q .end) (union z (raises (a .ops .0) q)))) (tables (raisedRecord (a .ops .0) q ∷ l))
         unfolding raiseTurn cursor
         turn-raise m u =
             let r = raisedRecord (a .ops .0) q in
-            let next : Region → Turn = λ y. to (Going (nextOf c (link (firstSlot l)) (q .end) (changesB row y))) (withRecord t (slotTo (suc (q .slot))) y) in
+            let next : Region → Turn = λ y. to (Going (nextOf c (link (firstSlot l)) (q .end) (crossingsOf row y))) (withRecord t (slotTo (suc (q .slot))) y) in
             turn-row
             ∙ at-start t d a c row same (omega arith)
             ∙ pick-f _ _ _ (le-ltb (a .end) (q .end) m)
             ∙ ap next (raised-is (a .ops .0) q (firstSlot l) u)
-            ∙ ap (λ (i : ℕ). to (Going (nextOf c (link (firstSlot l)) (q .end) (changesB row (recordFor r (firstSlot l))))) (withRecord t i (recordFor r (firstSlot l)))) (slot-of (q .slot))
-            ∙ ap (λ (u : Tables). to (Going (nextOf c (link (firstSlot l)) (q .end) (changesB row (recordFor r (firstSlot l))))) u) (changed-here s d x b l q p h r refl)
-            ∙ ap (λ (k : Bool). to (Going (nextOf c (link (firstSlot l)) (q .end) k)) (tables (r ∷ l))) (changes-is q r (firstSlot l) (firstSlot l))
-            ∙ ap (λ (k : ℕ). to (Going (record { prev = suc (q .slot); at = link (firstSlot l); start = q .end; changed = k })) (tables (r ∷ l))) (noted-is z (changes (q .counts) (r .counts)))
+            ∙ ap (λ (i : ℕ). to (Going (nextOf c (link (firstSlot l)) (q .end) (crossingsOf row (recordFor r (firstSlot l))))) (withRecord t i (recordFor r (firstSlot l)))) (slot-of (q .slot))
+            ∙ ap (λ (u : Tables). to (Going (nextOf c (link (firstSlot l)) (q .end) (crossingsOf row (recordFor r (firstSlot l))))) u) (changed-here s d x b l q p h r refl)
+            ∙ ap (λ (k : ℕ). to (Going (nextOf c (link (firstSlot l)) (q .end) k)) (tables (r ∷ l))) (crossings-is q r (firstSlot l) (firstSlot l))

@@ -3,7 +3,6 @@
 -- nothing is 0 on both sides.
 use Prim.Native.Nat.{ℕ, _<_}
 use native.Mathlib.Omega.{arith}
-use Rattle.model.specs.Lists.{oneIf}
 use Rattle.model.specs.Outcome.{ok, _>>=_}
 use Rattle.model.specs.State.{State, Domain, withTracker, withRecordPool, putDomain}
 use Rattle.model.specs.Tracker as tracker
@@ -23,7 +22,7 @@ use Rattle.refine.specs.Tracker.MergedWalk.{tracker-fits, walked-merged}
 
 pub remove-refines : (s : State) (d : ℕ) (x : Domain) (a : AccessRights) → Held s d x → Rising 0 (x .tracker) → a .start < a .end
     → Agrees (removeRegion d a (tablesOf s))
-    (lose (a .ops .0) (a .start) (a .end) (x .tracker) (s .recordPool) >>= λ w. ok (oneIf (w .changed), withRecordPool (w .pool) (putDomain d (withTracker (w .records) x) s)))
+    (lose (a .ops .0) (a .start) (a .end) (x .tracker) (s .recordPool) >>= λ w. ok (w .marks, withRecordPool (w .pool) (putDomain d (withTracker (w .records) x) s)))
 unfolding removeRegion lose tracked
 remove-refines s d x a h o k =
     let l = x .tracker in

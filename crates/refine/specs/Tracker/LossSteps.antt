@@ -3,27 +3,28 @@
 -- Beyond the range nothing changes: the records rise.
 use mathlib.Core.Path.{_≡_, refl, sym, ap, _∙_}
 use Prim.Native.Nat.{ℕ, _≤_, _<_}
-use mathlib.Core.Bool.{Bool, true, false, _||_}
+use mathlib.Core.Bool.{true, false}
 use mathlib.Core.List.{List, [], _∷_, _++_, append-assoc}
 use native.Mathlib.Omega.{arith}
 use native.Mathlib.Nat.{le-refl}
 use lib.Dec.{eqb}
+use Rattle.rights.specs.Rights.{union}
 use Rattle.model.specs.Outcome.{Outcome, ok, _>>=_}
 use Rattle.refusals.specs.Refusals.{noTracker}
 use Rattle.model.specs.State.{Record, Pool}
 use Rattle.model.specs.Pool.{allocate, free}
-use Rattle.model.specs.Tracker.{Walk, lower, changes, withEnd, withCounts, cutBefore, cutAfter, meets, keepOrDrop, removeFrom, removeRegion}
+use Rattle.model.specs.Tracker.{Walk, lower, leftCounts, crossings, withEnd, withCounts, cutBefore, cutAfter, meets, keepOrDrop, removeFrom, removeRegion}
 use Rattle.model.specs.Sound.{Rising}
 use Rattle.refine.specs.Agrees.{ok-then, bind-assoc, bind-same}
 use Rattle.refine.specs.Tracker.RecordSteps.{from}
 use Rattle.refine.specs.Tracker.WalkSteps.{walked, ahead, ahead-out, before-whole, before-cut, after-whole, after-cut, meets-t, meets-below, meets-above}
 
--- a record lowered, and whether that is a change
+-- a record lowered, and the marks of that
 abbrev pub loweredRecord : ℕ → Record → Record
 loweredRecord r q = withCounts (lower r (q .counts)) q
 
-abbrev pub lowers : ℕ → Record → Bool
-lowers r q = changes (q .counts) (lower r (q .counts))
+abbrev pub lowers : ℕ → Record → ℕ
+lowers r q = crossings (q .counts) (leftCounts (lower r (q .counts)))
 
 -- ---- one record
 
@@ -38,7 +39,7 @@ unfoldable lowerAfter : ℕ → ℕ → List Record × Record × Pool → Outcom
 lowerAfter r e x = cutAfter e (x .1) (x .2) >>= λ y. keepOrDrop (loweredRecord r (y .0)) (y .2) >>= λ u. ok (walked (x .0 ++ u .0 ++ y .1) (u .1) (lowers r (y .0)))
 
 module _ (r s e : ℕ) (q : Record) (p : Pool) where
-  missed : meets s e q ≡ false → removeFrom r s e q p ≡ ok (walked (q ∷ []) p false)
+  missed : meets s e q ≡ false → removeFrom r s e q p ≡ ok (walked (q ∷ []) p 0)
   unfolding removeFrom
   missed h = rw h
 
@@ -46,7 +47,7 @@ module _ (r s e : ℕ) (q : Record) (p : Pool) where
   unfolding removeFrom lowerAfter
   met h = rw h
 
-  lower-after : (x : List Record × Record × Pool) → lowerAfter r e x ≡ ahead (x .0) false (lowerFrom r e (x .1) (x .2))
+  lower-after : (x : List Record × Record × Pool) → lowerAfter r e x ≡ ahead (x .0) 0 (lowerFrom r e (x .1) (x .2))
   unfolding lowerAfter lowerFrom lowerThen ahead _>>=_
   lower-after x =
       bind-same (cutAfter e (x .1) (x .2)) _ _ (λ y.
@@ -58,7 +59,7 @@ module _ (r s e : ℕ) (q : Record) (p : Pool) where
   unfolding lowerAfter lowerFrom lowerThen _>>=_
   met-whole h a = met h ∙ ap (λ m. m >>= lowerAfter r e) (before-whole s q p a)
 
-  met-cut : meets s e q ≡ true → q .start < s → removeFrom r s e q p ≡ allocate noTracker p >>= λ z. ahead (withEnd s q ∷ []) false (lowerFrom r e (from s (z .0) q) (z .1))
+  met-cut : meets s e q ≡ true → q .start < s → removeFrom r s e q p ≡ allocate noTracker p >>= λ z. ahead (withEnd s q ∷ []) 0 (lowerFrom r e (from s (z .0) q) (z .1))
   met-cut h a =
       met h
       ∙ ap (λ m. m >>= lowerAfter r e) (before-cut s q p a)
@@ -86,13 +87,13 @@ module _ (r s e : ℕ) (q : Record) (p : Pool) where
 module _ (r s e : ℕ) (l : List Record) where
   -- behind the record at hand
   unfoldable goOn : Walk → Outcome Walk
-  goOn w = ahead (w .records) (w .changed) (removeRegion r s e l (w .pool))
+  goOn w = ahead (w .records) (w .marks) (removeRegion r s e l (w .pool))
 
   remove-cons : (q : Record) (p : Pool) → removeRegion r s e (q ∷ l) p ≡ removeFrom r s e q p >>= goOn
   unfolding removeRegion goOn ahead
   remove-cons q p = refl
 
-  remove-ok : (q : Record) (p : Pool) (w : Walk) → removeFrom r s e q p ≡ ok w → removeRegion r s e (q ∷ l) p ≡ ahead (w .records) (w .changed) (removeRegion r s e l (w .pool))
+  remove-ok : (q : Record) (p : Pool) (w : Walk) → removeFrom r s e q p ≡ ok w → removeRegion r s e (q ∷ l) p ≡ ahead (w .records) (w .marks) (removeRegion r s e l (w .pool))
   unfolding goOn _>>=_
   remove-ok q p w h = remove-cons q p ∙ ap (λ m. m >>= goOn) h
 
@@ -100,27 +101,27 @@ module _ (r s e : ℕ) (l : List Record) where
   remove-then q p m f h = remove-cons q p ∙ ap (λ m. m >>= goOn) h ∙ bind-assoc m f goOn
 
 -- nothing is left of the range
-pub lose-done : (r s e lo : ℕ) (l : List Record) (p : Pool) → s < e → e ≤ lo → Rising lo l → removeRegion r s e l p ≡ ok (walked l p false)
+pub lose-done : (r s e lo : ℕ) (l : List Record) (p : Pool) → s < e → e ≤ lo → Rising lo l → removeRegion r s e l p ≡ ok (walked l p 0)
 unfolding removeRegion ahead _>>=_
 lose-done r s e lo [] p t h o = refl
 lose-done r s e lo (q ∷ l) p t h o =
-    remove-ok r s e l q p (walked (q ∷ []) p false) (missed r s e q p (meets-above s e q (omega arith) (omega arith)))
-    ∙ ap (ahead (q ∷ []) false) (lose-done r s e (q .end) l p t (omega arith) (o .2))
+    remove-ok r s e l q p (walked (q ∷ []) p 0) (missed r s e q p (meets-above s e q (omega arith) (omega arith)))
+    ∙ ap (ahead (q ∷ []) 0) (lose-done r s e (q .end) l p t (omega arith) (o .2))
 
 module _ (r s e : ℕ) (p : Pool) (todo : s < e) (q : Record) (l : List Record) where
   -- q lies before the range
-  pub lose-pass : q .end ≤ s → removeRegion r s e (q ∷ l) p ≡ ahead (q ∷ []) false (removeRegion r s e l p)
-  lose-pass h = remove-ok r s e l q p (walked (q ∷ []) p false) (missed r s e q p (meets-below s e q h))
+  pub lose-pass : q .end ≤ s → removeRegion r s e (q ∷ l) p ≡ ahead (q ∷ []) 0 (removeRegion r s e l p)
+  lose-pass h = remove-ok r s e l q p (walked (q ∷ []) p 0) (missed r s e q p (meets-below s e q h))
 
   -- the range starts inside q
-  pub lose-cut : q .start < s → s < q .end → removeRegion r s e (q ∷ l) p ≡ allocate noTracker p >>= λ z. ahead (withEnd s q ∷ []) false (removeRegion r s e (from s (z .0) q ∷ l) (z .1))
+  pub lose-cut : q .start < s → s < q .end → removeRegion r s e (q ∷ l) p ≡ allocate noTracker p >>= λ z. ahead (withEnd s q ∷ []) 0 (removeRegion r s e (from s (z .0) q ∷ l) (z .1))
   unfolding goOn
   lose-cut h k =
       remove-then r s e l q p (allocate noTracker p) _ (met-cut r s e q p (meets-t s e q k (omega arith)) h)
       ∙ bind-same (allocate noTracker p) _ _ (λ z.
-      ahead-out (removeRegion r s e l) (withEnd s q ∷ []) false (lowerFrom r e (from s (z .0) q) (z .1)) ∙ ap (ahead (withEnd s q ∷ []) false) (right (z .0) (z .1)))
+      ahead-out (removeRegion r s e l) (withEnd s q ∷ []) 0 (lowerFrom r e (from s (z .0) q) (z .1)) ∙ ap (ahead (withEnd s q ∷ []) 0) (right (z .0) (z .1)))
     where
-      right : (i : ℕ) (p₁ : Pool) → lowerFrom r e (from s i q) p₁ >>= (λ w. ahead (w .records) (w .changed) (removeRegion r s e l (w .pool))) ≡ removeRegion r s e (from s i q ∷ l) p₁
+      right : (i : ℕ) (p₁ : Pool) → lowerFrom r e (from s i q) p₁ >>= (λ w. ahead (w .records) (w .marks) (removeRegion r s e l (w .pool))) ≡ removeRegion r s e (from s i q ∷ l) p₁
       right i p₁ = sym (remove-cons r s e l (from s i q) p₁ ∙ ap (λ m. m >>= goOn r s e l) (met-whole r s e (from s i q) p₁ (meets-t s e (from s i q) k todo) (le-refl s)))
 
   module _ (first : s ≤ q .start) (some-of-it : q .start < q .end) where
@@ -145,7 +146,7 @@ module _ (r s e : ℕ) (p : Pool) (todo : s < e) (q : Record) (l : List Record) 
       beyond i y =
           let v = from e i q in
           ap (ahead (y .0 ++ v ∷ []) (lowers r q)) (lose-done r s e (q .end) l (y .1) todo (omega arith) o)
-          ∙ ap (λ (m : List Record). ok (walked m (y .1) (lowers r q || false))) (append-assoc (y .0) (v ∷ []) l ∙ sym (append-assoc (y .0) [] (v ∷ l)))
+          ∙ ap (λ (m : List Record). ok (walked m (y .1) (union (lowers r q) 0))) (append-assoc (y .0) (v ∷ []) l ∙ sym (append-assoc (y .0) [] (v ∷ l)))
           ∙ sym (ap (ahead (y .0 ++ []) (lowers r q)) (lose-done r s e e (v ∷ l) (y .1) todo (le-refl e) (le-refl e, k, o)))
 
       trimmed : (i : ℕ) (p₁ : Pool) → lowerThen r (withEnd e q, from e i q ∷ [], p₁) >>= goOn r s e l ≡ removeRegion r s e (withEnd e q ∷ from e i q ∷ l) p₁

@@ -3,13 +3,14 @@
 -- nothing more. Invariant: slots in use or free once; the rest rises.
 use mathlib.Core.Path.{_≡_, ap, _∙_}
 use Prim.Native.Nat.{ℕ, zero, suc, _+_, _*_, _≤_, _<_}
-use mathlib.Core.Bool.{Bool, true, false, _||_}
+use mathlib.Core.Bool.{true, false}
 use mathlib.Core.List.{List, [], _∷_, _++_, append-nil}
 use native.Mathlib.Omega.{arith}
 use native.Mathlib.Nat.{le-refl}
 use lib.Dec.{eqb}
 use lib.ListN.{length}
 use Rattle.base.specs.Cases.{lt, ge, cmp, holds, fails, test}
+use Rattle.rights.specs.Rights.{union}
 use Rattle.model.specs.Outcome.{_>>=_}
 use Rattle.model.specs.State.{State, Record, Pool, Domain}
 use Rattle.model.specs.Pool.{free}
@@ -40,21 +41,21 @@ module _ (s : State) (d : ℕ) (x : Domain) (a : AccessRights) (todo : a .start 
   e = a .end
 
   -- n turns on the rest l
-  abbrev Loses : ℕ → Bool → List Record → List Record → Pool → Type 0
+  abbrev Loses : ℕ → ℕ → List Record → List Record → Pool → Type 0
   Loses n z b l p = Walks s d x a Remove n st z b l p (removeRegion r st e l p)
 
   -- ---- one turn
 
-  lose-nil : (n : ℕ) (z : Bool) (b : List Record) (p : Pool) → Loses (suc n) z b [] p
+  lose-nil : (n z : ℕ) (b : List Record) (p : Pool) → Loses (suc n) z b [] p
   lose-nil n z b p = walks-same (lose-done r st e e [] p todo (le-refl e) tt) (walks-over (turn-last s d x a st z b p))
 
-  module _ (n : ℕ) (z : Bool) (b : List Record) (q : Record) (l : List Record) (p : Pool) (h : Fits s d x (b ++ q ∷ l) p) where
+  module _ (n z : ℕ) (b : List Record) (q : Record) (l : List Record) (p : Pool) (h : Fits s d x (b ++ q ∷ l) p) where
     lose-over : Rising e (q ∷ l) → Loses (suc n) z b (q ∷ l) p
     lose-over o = walks-same (lose-done r st e e (q ∷ l) p todo (le-refl e) o) (walks-over (turn-beyond s d x a st z b p q l h (o .0)))
 
     module _ (near : q .start < e) where
-      pass-turn : q .end ≤ st → Loses n (z || false) (b ++ q ∷ []) l p → Loses (suc n) z b (q ∷ l) p
-      pass-turn m k = walks-same (lose-pass r st e p todo q l m) (walks-on q false (turn-pass s d x a st z b p q l h near m) k)
+      pass-turn : q .end ≤ st → Loses n (union z 0) (b ++ q ∷ []) l p → Loses (suc n) z b (q ∷ l) p
+      pass-turn m k = walks-same (lose-pass r st e p todo q l m) (walks-on q 0 (turn-pass s d x a st z b p q l h near m) k)
 
       cut-turn : q .start < st → st < q .end
           → ((i : ℕ) (p₁ : Pool) → Fits s d x ((b ++ withEnd st q ∷ []) ++ from st i q ∷ l) p₁ → Loses n z (b ++ withEnd st q ∷ []) (from st i q ∷ l) p₁) → Loses (suc n) z b (q ∷ l) p
@@ -70,7 +71,7 @@ module _ (s : State) (d : ℕ) (x : Domain) (a : AccessRights) (todo : a .start 
             (walks-trim s d x a Remove e n st z b q l p h (λ i p₁. removeRegion r st e (withEnd e q ∷ from e i q ∷ l) p₁) (turn-trim s d x a st z b p q l h near first some-of-it m) k)
 
         -- q is lowered, and dropped or kept
-        module _ (m : q .end ≤ e) (k : (b′ : List Record) (p′ : Pool) → Fits s d x (b′ ++ l) p′ → Loses n (z || lowers r q) b′ l p′) where
+        module _ (m : q .end ≤ e) (k : (b′ : List Record) (p′ : Pool) → Fits s d x (b′ ++ l) p′ → Loses n (union z (lowers r q)) b′ l p′) where
           drop-turn : eqb (lower r (q .counts) .reach) 0 ≡ true → Loses (suc n) z b (q ∷ l) p
           drop-turn v =
               let out : (j : ℕ) → uses j (b ++ q ∷ l) ≡ uses j (b ++ l) + uses j (q ∷ []) = λ j. omega (arith, uses-append j b (q ∷ l), uses-append j b l) in
@@ -78,7 +79,7 @@ module _ (s : State) (d : ℕ) (x : Domain) (a : AccessRights) (todo : a .start 
               (walks-then _ _ (free (q .slot) p) (λ p₁. (0, tracked s d x (b ++ l) p₁)) (λ p₁. ahead [] (lowers r q) (removeRegion r st e l p₁))
               (turn-drop s d x a st z b p q l h near first some-of-it m v) (removed-here s d x b l q p h) (λ p₁ f.
               agrees-call _ _ _ (finish-ahead s d x z (lowers r q) b [] (removeRegion r st e l p₁)
-              ∙ ap (λ (c : List Record). removeRegion r st e l p₁ >>= finish s d x (z || lowers r q) c) (append-nil b))
+              ∙ ap (λ (c : List Record). removeRegion r st e l p₁ >>= finish s d x (union z (lowers r q)) c) (append-nil b))
               (k b p₁ (fits-moved s d x (b ++ q ∷ l) (b ++ l) p p₁ h (moves-out p p₁ q (b ++ q ∷ l) (b ++ l) f out)) .agrees)))
 
           keep-turn : eqb (lower r (q .counts) .reach) 0 ≡ false → Loses (suc n) z b (q ∷ l) p
@@ -94,7 +95,7 @@ module _ (s : State) (d : ℕ) (x : Domain) (a : AccessRights) (todo : a .start 
   -- ---- the walk
 
   unfoldable LoseOk : List Record → Type 0
-  LoseOk l = (n : ℕ) (z : Bool) (b : List Record) (p : Pool) → Fits s d x (b ++ l) p → Rising 0 l → 3 * length l + 1 ≤ n → Loses n z b l p
+  LoseOk l = (n z : ℕ) (b : List Record) (p : Pool) → Fits s d x (b ++ l) p → Rising 0 l → 3 * length l + 1 ≤ n → Loses n z b l p
 
   lose-end : LoseOk []
   unfolding LoseOk
@@ -104,7 +105,7 @@ module _ (s : State) (d : ℕ) (x : Domain) (a : AccessRights) (todo : a .start 
   module _ (l : List Record) (after : LoseOk l) where
     -- the range starts with record q or before it
     module _ (q : Record) (near : q .start < e) (first : st ≤ q .start) (some-of-it : q .start < q .end) (o : Rising (q .end) l) where
-      lose-from : (n : ℕ) (z : Bool) (b : List Record) (p : Pool) → Fits s d x (b ++ q ∷ l) p → 3 * length l ≤ n → Loses (suc (suc (suc n))) z b (q ∷ l) p
+      lose-from : (n z : ℕ) (b : List Record) (p : Pool) → Fits s d x (b ++ q ∷ l) p → 3 * length l ≤ n → Loses (suc (suc (suc n))) z b (q ∷ l) p
       unfolding LoseOk
       lose-from n z b p h k = elim (cmp e (q .end)) [
         | lt t ↦
@@ -127,7 +128,7 @@ module _ (s : State) (d : ℕ) (x : Domain) (a : AccessRights) (todo : a .start 
     | lt t ↦ elim (cmp st (q .end)) [
       | ge u ↦
           pass-turn (suc (suc (suc n))) z b q l p h t u
-          (after (suc (suc (suc n))) (z || false) (b ++ q ∷ []) p (fits-on s d x b l q p h) (weaken-rising 0 (q .end) l (omega arith) (o .2)) (omega arith))
+          (after (suc (suc (suc n))) (union z 0) (b ++ q ∷ []) p (fits-on s d x b l q p h) (weaken-rising 0 (q .end) l (omega arith) (o .2)) (omega arith))
       | lt u ↦ elim (cmp (q .start) st) [
         | lt v ↦
             cut-turn (suc (suc (suc n))) z b q l p h t v u (λ i p₁ g.
@@ -143,6 +144,6 @@ module _ (s : State) (d : ℕ) (x : Domain) (a : AccessRights) (todo : a .start 
 
   -- from the head on, with n turns
   pub lose-walks : (n : ℕ) (l : List Record) (p : Pool) → Fits s d x l p → Rising 0 l → 3 * length l + 1 ≤ n
-      → Walks s d x a Remove n (a .start) false [] l p (removeRegion (a .ops .0) (a .start) (a .end) l p)
+      → Walks s d x a Remove n (a .start) 0 [] l p (removeRegion (a .ops .0) (a .start) (a .end) l p)
   unfolding LoseOk
-  lose-walks n l p h o k = lose-ok l n false [] p h o k
+  lose-walks n l p h o k = lose-ok l n 0 [] p h o k

@@ -2,7 +2,7 @@
 -- as many turns as records, and one more. Invariant: every record slot is in use or free once.
 use mathlib.Core.Path.{_≡_, refl, sym, ap, _∙_}
 use Prim.Native.Nat.{ℕ, zero, suc, _+_, _<_}
-use mathlib.Core.Bool.{Bool, true, false, _||_, or-false}
+use mathlib.Core.Bool.{true, false}
 use mathlib.Core.Option.{some}
 use mathlib.Core.List.{List, [], _∷_, _++_}
 use native.Mathlib.Omega.{arith}
@@ -10,6 +10,7 @@ use lib.Dec.{eqb}
 use lib.ListN.{length}
 use borrow.Author.Tests.{ne-eqb}
 use Rattle.base.specs.Cases.{holds, fails, test, pick}
+use Rattle.rights.specs.Rights.{union}
 use Rattle.model.specs.Outcome.{Outcome, ok, _>>=_}
 use Rattle.model.specs.State.{State, Record, Pool, Domain}
 use Rattle.model.specs.Pool.{free}
@@ -38,11 +39,11 @@ use Rattle.refine.specs.Tracker.Walks.{Walks, behind, walks-same, walks-
 
 -- ---- the model, as a walk
 
--- whatever changed before
+-- whatever was marked before
 unfoldable pub joining : Outcome (List Record × Pool) → Outcome Walk
-joining m = m >>= λ y. ok (walked (y .0) (y .1) false)
+joining m = m >>= λ y. ok (walked (y .0) (y .1) 0)
 
-join-end : (q : Record) (p : Pool) → joining (mergeInto q [] p) ≡ ok (walked (q ∷ []) p false)
+join-end : (q : Record) (p : Pool) → joining (mergeInto q [] p) ≡ ok (walked (q ∷ []) p 0)
 unfolding joining mergeInto _>>=_
 join-end q p = refl
 
@@ -50,13 +51,13 @@ join-in : (q n : Record) (l : List Record) (p : Pool) → mergeable q n ≡ true
 unfolding joining mergeInto
 join-in q n l p e = rw e (bind-assoc (free (n .slot) p) _ _)
 
-join-on : (q n : Record) (l : List Record) (p : Pool) → mergeable q n ≡ false → joining (mergeInto q (n ∷ l) p) ≡ ahead (q ∷ []) false (joining (mergeInto n l p))
+join-on : (q n : Record) (l : List Record) (p : Pool) → mergeable q n ≡ false → joining (mergeInto q (n ∷ l) p) ≡ ahead (q ∷ []) 0 (joining (mergeInto n l p))
 unfolding joining mergeInto ahead _>>=_
 join-on q n l p e = rw e (bind-assoc (mergeInto n l p) _ _ ∙ sym (bind-assoc (mergeInto n l p) _ _))
 
 -- ---- the turns
 
-module _ (s : State) (d : ℕ) (x : Domain) (a : AccessRights) (st : ℕ) (z : Bool) (b : List Record) (p : Pool) where
+module _ (s : State) (d : ℕ) (x : Domain) (a : AccessRights) (st z : ℕ) (b : List Record) (p : Pool) where
   abbrev tables : List Record → Tables
   tables l = tablesOf (tracked s d x (b ++ l) p)
 
@@ -107,9 +108,9 @@ module _ (s : State) (d : ℕ) (x : Domain) (a : AccessRights) (st : ℕ) (z : B
           (ap (λ (i : ℕ). onward (freedRecord (withRecord t i r) (slotTo (suc (n .slot)))) (λ v. c)) (slot-of (q .slot))
           ∙ ap (λ (i : ℕ). onward (freedRecord (withRecord t (q .slot) r) i) (λ v. c)) (slot-of (n .slot)))
 
-      turn-on : mergeable q n ≡ false → turn Merge (tables (q ∷ n ∷ l)) d a (cursor b (q ∷ n ∷ l) st z) ≡ to (Going (behind q (n ∷ l) st (z || false))) (tables (q ∷ n ∷ l))
+      turn-on : mergeable q n ≡ false → turn Merge (tables (q ∷ n ∷ l)) d a (cursor b (q ∷ n ∷ l) st z) ≡ to (Going (behind q (n ∷ l) st (union z 0))) (tables (q ∷ n ∷ l))
       unfolding mergeAt cursor
-      turn-on e = turn-two ∙ rw (mergeable-is q n (some (n .slot)) (firstSlot l) ∙ e) (ap (λ (k : Bool). to (Going (behind q (n ∷ l) st k)) (tables (q ∷ n ∷ l))) (sym (or-false z)))
+      turn-on e = turn-two ∙ rw (mergeable-is q n (some (n .slot)) (firstSlot l) ∙ e)
 
 -- ---- the walk
 
@@ -117,7 +118,7 @@ module _ (s : State) (d : ℕ) (x : Domain) (a : AccessRights) (st : ℕ) where
   -- as many turns as there are records
   unfoldable MergeOk : List Record → Type 0
   MergeOk l =
-      (n : ℕ) (z : Bool) (b : List Record) (q : Record) (p : Pool) → Fits s d x (b ++ q ∷ l) p → length l < n
+      (n z : ℕ) (b : List Record) (q : Record) (p : Pool) → Fits s d x (b ++ q ∷ l) p → length l < n
       → Walks s d x a Merge n st z b (q ∷ l) p (joining (mergeInto q l p))
 
   merge-end : MergeOk []
@@ -125,7 +126,7 @@ module _ (s : State) (d : ℕ) (x : Domain) (a : AccessRights) (st : ℕ) where
   merge-end zero z b q p h k = absurd (omega arith)
   merge-end (suc n) z b q p h k = walks-same (join-end q p) (walks-over (turn-end s d x a st z b p q h))
 
-  module _ (r : Record) (l : List Record) (after : MergeOk l) (n : ℕ) (z : Bool) (b : List Record) (q : Record) (p : Pool)
+  module _ (r : Record) (l : List Record) (after : MergeOk l) (n z : ℕ) (b : List Record) (q : Record) (p : Pool)
       (h : Fits s d x (b ++ q ∷ r ∷ l) p) (k : length l < n)
     where
       merge-in : mergeable q r ≡ true → Walks s d x a Merge (suc n) st z b (q ∷ r ∷ l) p (joining (mergeInto q (r ∷ l) p))
@@ -140,7 +141,7 @@ module _ (s : State) (d : ℕ) (x : Domain) (a : AccessRights) (st : ℕ) where
 
       merge-on : mergeable q r ≡ false → Walks s d x a Merge (suc n) st z b (q ∷ r ∷ l) p (joining (mergeInto q (r ∷ l) p))
       unfolding MergeOk
-      merge-on e = walks-same (join-on q r l p e) (walks-on q false (turn-on s d x a st z b p q r l h e) (after n (z || false) (b ++ q ∷ []) r p (fits-on s d x b (r ∷ l) q p h) k))
+      merge-on e = walks-same (join-on q r l p e) (walks-on q 0 (turn-on s d x a st z b p q r l h e) (after n (union z 0) (b ++ q ∷ []) r p (fits-on s d x b (r ∷ l) q p h) k))
 
   merge-cons : (r : Record) (l : List Record) → MergeOk l → MergeOk (r ∷ l)
   unfolding MergeOk
@@ -155,7 +156,7 @@ module _ (s : State) (d : ℕ) (x : Domain) (a : AccessRights) (st : ℕ) where
   merge-ok (r ∷ l) = merge-cons r l (merge-ok l)
 
   -- from the head on, with n turns
-  pub coalesce-walks : (n : ℕ) (z : Bool) (l : List Record) (p : Pool) → Fits s d x l p → length l < n → Walks s d x a Merge n st z [] l p (joining (coalesce l p))
+  pub coalesce-walks : (n z : ℕ) (l : List Record) (p : Pool) → Fits s d x l p → length l < n → Walks s d x a Merge n st z [] l p (joining (coalesce l p))
   unfolding MergeOk coalesce joining _>>=_
   coalesce-walks zero z l p h k = absurd (omega arith)
   coalesce-walks (suc n) z [] p h k = walks-over (turn-none s d x a st z [] p)

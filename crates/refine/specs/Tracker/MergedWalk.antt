@@ -2,12 +2,12 @@
 -- The code's number of turns suffices: a tracker has at most as many records as the pool has slots, since every slot is in it once at most.
 use mathlib.Core.Path.{_≡_, refl, sym, ap, _∙_}
 use Prim.Native.Nat.{ℕ, _+_, _-_, _*_, _≤_}
-use mathlib.Core.Bool.{Bool, false, or-false}
 use mathlib.Core.List.{List, [], map}
 use native.Mathlib.Omega.{arith}
+use lib.Bits.{or-zero-r}
 use lib.Dec.{eqb}
 use lib.ListN.{length, length-map}
-use Rattle.model.specs.Lists.{oneIf, countIf}
+use Rattle.model.specs.Lists.{countIf}
 use Rattle.model.specs.Outcome.{Outcome, ok, _>>=_}
 use Rattle.model.specs.State.{State, Record, Pool, Domain, withTracker}
 use Rattle.model.specs.Layout.{link}
@@ -53,54 +53,54 @@ module _ (s : State) (d : ℕ) (x : Domain) (a : AccessRights) where
   unfolding tablesOf tracked
   enough l p = refl
 
-  walked-is : (w : Way) (z : Bool) (l : List Record) (p : Pool) → Fits s d x l p
-      → turns.walked w d a (oneIf z) (tablesOf (tracked s d x l p)) ≡ walk w d a (3 * s .sizes .records + 3) (cursor [] l (a .start) z) (tablesOf (tracked s d x l p))
+  walked-is : (w : Way) (z : ℕ) (l : List Record) (p : Pool) → Fits s d x l p
+      → turns.walked w d a z (tablesOf (tracked s d x l p)) ≡ walk w d a (3 * s .sizes .records + 3) (cursor [] l (a .start) z) (tablesOf (tracked s d x l p))
   unfolding turns.walked cursor
   walked-is w z l p h =
       let t = tablesOf (tracked s d x l p) in
-      ap (λ (k : ℕ). walk w d a (turns.turns t) (record { prev = 0; at = k; start = a .start; changed = oneIf z }) t) (first-here s d x l p h)
-      ∙ ap (λ (k : ℕ). walk w d a k (record { prev = 0; at = link (firstSlot l); start = a .start; changed = oneIf z }) t) (enough l p)
+      ap (λ (k : ℕ). walk w d a (turns.turns t) (record { prev = 0; at = k; start = a .start; marks = z }) t) (first-here s d x l p h)
+      ∙ ap (λ (k : ℕ). walk w d a k (record { prev = 0; at = link (firstSlot l); start = a .start; marks = z }) t) (enough l p)
 
-  whole : (w : Way) (z : Bool) (l : List Record) (p : Pool) (m : Outcome Walk) → Fits s d x l p → Walks s d x a w (3 * s .sizes .records + 3) (a .start) z [] l p m
-      → Agrees (turns.walked w d a (oneIf z) (tablesOf (tracked s d x l p))) (m >>= finish s d x z [])
+  whole : (w : Way) (z : ℕ) (l : List Record) (p : Pool) (m : Outcome Walk) → Fits s d x l p → Walks s d x a w (3 * s .sizes .records + 3) (a .start) z [] l p m
+      → Agrees (turns.walked w d a z (tablesOf (tracked s d x l p))) (m >>= finish s d x z [])
   whole w z l p m h k = agrees-step _ _ (m >>= finish s d x z []) (walked-is w z l p h) (k .agrees)
 
   -- ---- the merge after it
 
   -- the model's answer
   abbrev put : Walk → Outcome (ℕ × State)
-  put w = ok (oneIf (w .changed), tracked s d x (w .records) (w .pool))
+  put w = ok (w .marks, tracked s d x (w .records) (w .pool))
 
-  join-put : (z : Bool) (m : Outcome (List Record × Pool)) → (m >>= λ y. ok (walked (y .0) (y .1) z)) >>= put ≡ joining m >>= finish s d x z []
+  join-put : (z : ℕ) (m : Outcome (List Record × Pool)) → (m >>= λ y. ok (walked (y .0) (y .1) z)) >>= put ≡ joining m >>= finish s d x z []
   unfolding joining finish _>>=_
   join-put z m =
       bind-assoc m _ put
-      ∙ sym (bind-assoc m _ (finish s d x z []) ∙ bind-same m _ _ (λ y. ap (λ (k : Bool). ok (oneIf k, tracked s d x (y .0) (y .1))) (or-false z)))
+      ∙ sym (bind-assoc m _ (finish s d x z []) ∙ bind-same m _ _ (λ y. ap (λ (k : ℕ). ok (k, tracked s d x (y .0) (y .1))) (or-zero-r z)))
 
-  merged-put : (m : Outcome Walk) → merged m >>= put ≡ m >>= (λ w. joining (coalesce (w .records) (w .pool)) >>= finish s d x (w .changed) [])
+  merged-put : (m : Outcome Walk) → merged m >>= put ≡ m >>= (λ w. joining (coalesce (w .records) (w .pool)) >>= finish s d x (w .marks) [])
   unfolding merged
-  merged-put m = bind-assoc m _ put ∙ bind-same m _ _ (λ w. join-put (w .changed) (coalesce (w .records) (w .pool)))
+  merged-put m = bind-assoc m _ put ∙ bind-same m _ _ (λ w. join-put (w .marks) (coalesce (w .records) (w .pool)))
 
   merge-after : (w : Walk) → Fits s d x (w .records) (w .pool)
-      → Agrees (turns.walked Merge d a (oneIf (w .changed)) (tablesOf (tracked s d x (w .records) (w .pool)))) (joining (coalesce (w .records) (w .pool)) >>= finish s d x (w .changed) [])
+      → Agrees (turns.walked Merge d a (w .marks) (tablesOf (tracked s d x (w .records) (w .pool)))) (joining (coalesce (w .records) (w .pool)) >>= finish s d x (w .marks) [])
   merge-after w h =
       let l = w .records in
       let p = w .pool in
-      whole Merge (w .changed) l p _ h (coalesce-walks s d x a (a .start) (3 * s .sizes .records + 3) (w .changed) l p h (omega (arith, length-fits l p h)))
+      whole Merge (w .marks) l p _ h (coalesce-walks s d x a (a .start) (3 * s .sizes .records + 3) (w .marks) l p h (omega (arith, length-fits l p h)))
 
   -- a walk that agrees with the model's m, and the merge
   module _ (h : Held s d x) (w : Way) (m : Outcome Walk) (moves : All (λ y. Moved (s .recordPool) (y .pool) (x .tracker) (y .records)) m) where
     start-fits : Fits s d x (x .tracker) (s .recordPool)
     start-fits = held-moved s d x h (s .recordPool) (x .tracker) (moved-none (s .recordPool) (x .tracker))
 
-    first-walk : Walks s d x a w (3 * s .sizes .records + 3) (a .start) false [] (x .tracker) (s .recordPool) m → Agrees (turns.walked w d a 0 (tablesOf s)) (m >>= finish s d x false [])
+    first-walk : Walks s d x a w (3 * s .sizes .records + 3) (a .start) 0 [] (x .tracker) (s .recordPool) m → Agrees (turns.walked w d a 0 (tablesOf s)) (m >>= finish s d x 0 [])
     first-walk k =
-        agrees-step _ _ (m >>= finish s d x false []) (ap (λ (y : State). turns.walked w d a 0 (tablesOf y)) (sym (tracked-same s d x (h .at)))) (whole w false (x .tracker) (s .recordPool) m start-fits k)
+        agrees-step _ _ (m >>= finish s d x 0 []) (ap (λ (y : State). turns.walked w d a 0 (tablesOf y)) (sym (tracked-same s d x (h .at)))) (whole w 0 (x .tracker) (s .recordPool) m start-fits k)
 
-    pub walked-merged : Walks s d x a w (3 * s .sizes .records + 3) (a .start) false [] (x .tracker) (s .recordPool) m
-        → Agrees (andThen (turns.walked w d a 0 (tablesOf s)) (turns.walked Merge d a)) (merged m >>= λ y. ok (oneIf (y .changed), tracked s d x (y .records) (y .pool)))
+    pub walked-merged : Walks s d x a w (3 * s .sizes .records + 3) (a .start) 0 [] (x .tracker) (s .recordPool) m
+        → Agrees (andThen (turns.walked w d a 0 (tablesOf s)) (turns.walked Merge d a)) (merged m >>= λ y. ok (y .marks, tracked s d x (y .records) (y .pool)))
     unfolding finish
     walked-merged k =
         agrees-call _ _ _ (merged-put m)
-        (agrees-from (turns.walked w d a 0 (tablesOf s)) (turns.walked Merge d a) m (λ y. (oneIf (y .changed), tracked s d x (y .records) (y .pool))) _ (first-walk k)
+        (agrees-from (turns.walked w d a 0 (tablesOf s)) (turns.walked Merge d a) m (λ y. (y .marks, tracked s d x (y .records) (y .pool))) _ (first-walk k)
         (λ y e. merge-after y (held-moved s d x h (y .pool) (y .records) (all-ok _ _ y moves e))))

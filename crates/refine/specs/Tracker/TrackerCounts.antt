@@ -1,8 +1,8 @@
 -- The counts of a tracker record in its row: made, raised, lowered, compared as the model says. A count is raised where the sum is a word.
 use mathlib.Core.Path.{_≡_, refl, ap, _∙_}
-use Prim.Native.Nat.{ℕ, _+_, _-_, _^_, _≤_, _<_}
-use mathlib.Core.Bool.{Bool, true, false, not, _&&_, _||_}
-use mathlib.Core.Option.{Option}
+use Prim.Native.Nat.{ℕ, _+_, _-_, _*_, _^_, _≤_, _<_}
+use mathlib.Core.Bool.{Bool, true, false, not, _&&_}
+use mathlib.Core.Option.{Option, none}
 use native.Mathlib.Omega.{arith}
 use lib.Dec.{eqb}
 use borrow.Author.Tests.{le-leb}
@@ -12,16 +12,17 @@ use Rattle.rights.specs.Rights as rights
 use Rattle.rights.specs.Counters as counters
 use Rattle.rights.specs.Rights.{has, READ, WRITE, EXEC, SUPER, UNCACHEABLE}
 use Rattle.rights.specs.Counters.{countersOf}
-use Rattle.model.specs.Lists.{if_then_else_, oneIf, exists}
+use Rattle.model.specs.Lists.{if_then_else_, oneIf}
 use Rattle.model.specs.State.{Counts, Record}
-use Rattle.model.specs.Fields.{Field, fields, get, passes, counter}
+use Rattle.model.specs.Fields.{Field, get, passes, counter}
 use Rattle.model.specs.Layout.{link}
-use Rattle.model.specs.Tracker.{lower, crosses, changes, mergeable, withCounts}
+use Rattle.model.specs.Tracker.{lower, noCounts, crosses, crossings, mergeable, withCounts}
 use Rattle.laws.specs.Stack.{one-at-most}
 use Rattle.tables.specs.declared.Region.{Region}
-use Rattle.tracker_records.specs.Counts.{up, made, raised, lowered, crossesB, changesB, mergeableB}
+use Rattle.tables.specs.Tables.{noRecord}
+use Rattle.tracker_records.specs.Counts.{up, made, raised, lowered, crossesB, markIf, crossingsOf, mergeableB}
 use Rattle.decoded.specs.Tables.{recordFor}
-use Rattle.refine.specs.Tracker.GainSteps.{newRecord, raisedRecord}
+use Rattle.refine.specs.Tracker.GainSteps.{newRecord, raisedRecord, fills}
 
 -- ---- tests
 
@@ -78,26 +79,37 @@ module _ (r : ℕ) (q : Record) (f : Option ℕ) where
   pub lowered-is : lowered r (recordFor q f) ≡ recordFor (withCounts (lower r (q .counts)) q) f
   lowered-is = λ t. row (q .start) (q .end) (λ c. get c (q .counts) - added-is c r t) (q .counts .uncacheable) (link f)
 
--- ---- a change, and neighbours that may be one record
+-- ---- the marks of the counts that left or came to 0
 
 cross-is : (a b : ℕ) → crossesB a b ≡ crosses a b
 cross-is a b = pick-if (eqb a 0) (not (eqb b 0)) (eqb b 0)
 
--- a test of the fields in the code's order
-any-is : (a b c d e : Bool) → (a || b || c || d || e) ≡ (a || (b || (c || (d || (e || false)))))
-any-is true b c d e = refl
-any-is false true c d e = refl
-any-is false false true d e = refl
-any-is false false false true e = refl
-any-is false false false false true = refl
-any-is false false false false false = refl
+mark-if : (b : Bool) (m : ℕ) → pick b m 0 ≡ oneIf b * m
+mark-if true m = omega arith
+mark-if false m = omega arith
 
-pub changes-is : (q n : Record) (f g : Option ℕ) → changesB (recordFor q f) (recordFor n g) ≡ changes (q .counts) (n .counts)
-unfolding changesB
-changes-is q n f g =
-    let cross : Field → Bool = λ c. crossesB (get c (q .counts)) (get c (n .counts)) in
-    any-is (cross Field.Reach) (cross Field.Read) (cross Field.Write) (cross Field.Exec) (cross Field.Super)
-    ∙ (λ t. exists (λ c. cross-is (get c (q .counts)) (get c (n .counts)) t) fields)
+mark-is : (a b m : ℕ) → markIf a b m ≡ oneIf (crosses a b) * m
+mark-is a b m = mark-if (crossesB a b) m ∙ ap (λ (c : Bool). oneIf c * m) (cross-is a b)
+
+pub crossings-is : (q n : Record) (f g : Option ℕ) → crossingsOf (recordFor q f) (recordFor n g) ≡ crossings (q .counts) (n .counts)
+unfolding crossingsOf
+crossings-is q n f g =
+    let j = q .counts in
+    let k = n .counts in
+    λ t. mark-is (j .reach) (k .reach) 1 t + mark-is (j .read) (k .read) 2 t + mark-is (j .write) (k .write) 4 t + mark-is (j .exec) (k .exec) 8 t + mark-is (j .super) (k .super) 16 t
+
+-- a free slot's row is that of a record without counts
+abbrev noneThere : Record
+noneThere = record { slot = 0; start = 0; end = 0; counts = noCounts }
+
+-- a record comes where none was; a record leaves
+pub fills-is : (r s e i : ℕ) (f : Option ℕ) → crossingsOf noRecord (recordFor (newRecord r s e i) f) ≡ fills r
+fills-is r s e i f = crossings-is noneThere (newRecord r s e i) none f
+
+pub drops-is : (q : Record) (f : Option ℕ) → crossingsOf (recordFor q f) noRecord ≡ crossings (q .counts) noCounts
+drops-is q f = crossings-is q noneThere f none
+
+-- ---- neighbours that may be one record
 
 -- the seven tests in the code's order and in the model's
 seven : (t a u b c d e : Bool) → both (both t (both a u)) (both (both b c) (both d e)) ≡ (t && ((a && (b && (c && (d && (e && true))))) && u))
@@ -121,11 +133,3 @@ mergeable-is q n f g =
     let k = n .counts in
     seven (eqb (q .end) (n .start)) (eqb (j .reach) (k .reach)) (eqb (j .uncacheable) (k .uncacheable))
     (eqb (j .read) (k .read)) (eqb (j .write) (k .write)) (eqb (j .exec) (k .exec)) (eqb (j .super) (k .super))
-
--- ---- whether there was a change, as a number
-
-pub noted-is : (z b : Bool) → pick b 1 (oneIf z) ≡ oneIf (z || b)
-noted-is true true = refl
-noted-is true false = refl
-noted-is false true = refl
-noted-is false false = refl

@@ -3,13 +3,13 @@
 -- the first of l. The walk agrees with the model where it agrees with the model's walk over l, put behind b.
 use mathlib.Core.Path.{_≡_, refl, sym, ap, subst, _∙_}
 use Prim.Native.Nat.{ℕ, suc, _+_}
-use mathlib.Core.Bool.{Bool, _||_, or-assoc}
 use mathlib.Core.Option.{Option, none}
 use mathlib.Core.List.{List, [], _∷_, _++_, append-assoc}
 use native.Mathlib.Omega.{arith}
 use lib.ListN.{set}
 use lib.Seq.{set-getD}
-use Rattle.model.specs.Lists.{oneIf, In}
+use Rattle.rights.specs.Rights.{union}
+use Rattle.model.specs.Lists.{In}
 use Rattle.refusals.specs.Refusals.{noTracker}
 use Rattle.model.specs.Outcome.{Outcome, ok, refuse, _>>=_}
 use Rattle.model.specs.State as state
@@ -36,6 +36,7 @@ use Rattle.refine.specs.Agrees.{Agrees, agrees-step, agrees-call, agrees
 use Rattle.refine.specs.Tracker.Linked.{lastLink, row-is}
 use Rattle.refine.specs.Tracker.RecordSteps.{tracked, Held, spread, tracked-again, held-moved, inSlot, from, inserted-is, moves-in, split-is}
 use Rattle.refine.specs.Tracker.RecordFrees.{removed-is, joined-is, changed-is}
+use Rattle.refine.specs.Tracker.Unions.{union-assoc}
 use Rattle.refine.specs.Tracker.WalkSteps.{ahead}
 
 -- ---- one turn
@@ -70,19 +71,19 @@ module _ (w : Way) (d : ℕ) (a : AccessRights) (n : ℕ) where
 
 -- ---- where a walk is
 
-unfoldable pub cursor : List Record → List Record → ℕ → Bool → Cursor
-cursor b l s z = record { prev = lastLink b; at = link (firstSlot l); start = s; changed = oneIf z }
+unfoldable pub cursor : List Record → List Record → ℕ → ℕ → Cursor
+cursor b l s z = record { prev = lastLink b; at = link (firstSlot l); start = s; marks = z }
 
--- the model's walk over the rest is put behind b; z says whether there was a change before
-unfoldable pub finish : State → ℕ → Domain → Bool → List Record → Walk → Outcome (ℕ × State)
-finish s d x z b w = ok (oneIf (z || w .changed), tracked s d x (b ++ w .records) (w .pool))
+-- the model's walk over the rest is put behind b; z are the marks before
+unfoldable pub finish : State → ℕ → Domain → ℕ → List Record → Walk → Outcome (ℕ × State)
+finish s d x z b w = ok (union z (w .marks), tracked s d x (b ++ w .records) (w .pool))
 
-pub finish-ahead : (s : State) (d : ℕ) (x : Domain) (z k : Bool) (b c : List Record) (m : Outcome Walk) → ahead c k m >>= finish s d x z b ≡ m >>= finish s d x (z || k) (b ++ c)
+pub finish-ahead : (s : State) (d : ℕ) (x : Domain) (z k : ℕ) (b c : List Record) (m : Outcome Walk) → ahead c k m >>= finish s d x z b ≡ m >>= finish s d x (union z k) (b ++ c)
 unfolding ahead finish _>>=_
 finish-ahead s d x z k b c (ok w) =
-    let e = sym (or-assoc z k (w .changed)) in
+    let e = sym (union-assoc z k (w .marks)) in
     let l = sym (append-assoc b c (w .records)) in
-    λ i. ok (oneIf (e i), tracked s d x (l i) (w .pool))
+    λ i. ok (e i, tracked s d x (l i) (w .pool))
 finish-ahead s d x z k b c (refuse r) = refl
 
 -- ---- the state in the middle of a walk

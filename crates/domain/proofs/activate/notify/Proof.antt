@@ -1,4 +1,4 @@
--- The words that are read give what is marked.
+-- The words that are read give what is queued.
 use mathlib.Core.Path.{_∙_}
 use Rattle.domain.specs.Activate.{notify}
 use borrow.Author.Needs.{needs}
@@ -11,8 +11,8 @@ load-head-requires c κs = search needs
 domain-generation-requires : tie.Need-domain-generation-requires
 domain-generation-requires c κs = search needs
 
-mark-domain-requires : tie.Need-mark-domain-requires
-mark-domain-requires c κs = search needs
+queue-domain-requires : tie.Need-queue-domain-requires
+queue-domain-requires c κs = search needs
 
 or-refused-requires : tie.Need-or-refused-requires
 or-refused-requires c κs = search needs
@@ -22,7 +22,7 @@ same-length c = search needs
 
 returns : tie.Need-returns
 unfolding notify
-returns c = rw (← (c .before .before .before .before .before .before .before .load-head .ensures), ← (c .before .before .before .before .before .domain-generation .ensures)) ((c .or-refused .ensures) ∙ rw ((c .before .before .before .mark-domain .ensures .0)), (c .before .before .before .mark-domain .ensures .1))
+returns c = rw (← (c .before .before .before .before .before .before .before .load-head .ensures), ← (c .before .before .before .before .before .domain-generation .ensures)) ((c .or-refused .ensures) ∙ rw ((c .before .before .before .queue-domain .ensures .0)), (c .before .before .before .queue-domain .ensures .1))
 
 pub notify-spec : {M : Type 1} → statement M
-notify-spec = tie.close (tie.spec load-head-requires domain-generation-requires mark-domain-requires or-refused-requires same-length returns)
+notify-spec = tie.close (tie.spec load-head-requires domain-generation-requires queue-domain-requires or-refused-requires same-length returns)
