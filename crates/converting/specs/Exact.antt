@@ -22,7 +22,7 @@ use Rattle.words.specs.Runs.{stored}
 use Rattle.words.specs.Cuts.{offset}
 use Rattle.sizes.specs.declared.Sizes.{Sizes}
 use Rattle.sizes.specs.Limits.{Limits}
-use Rattle.sizes.specs.Sizes.{sizesOf, widths, total, interfaceSection}
+use Rattle.sizes.specs.Sizes.{sizesOf, widths, total, markSection}
 use Rattle.sizes.specs.Tests.{sizedB}
 use Rattle.tables.specs.View.{Sized}
 use Rattle.tables.specs.Tests.{true-sized}
@@ -30,9 +30,9 @@ use Rattle.decoded.specs.Words.{words-sized}
 use Rattle.exact.specs.Law.{words-sound}
 use Rattle.frame.specs.Finish.{admitted}
 use Rattle.frame.specs.Law.{lent}
-use Rattle.converted.specs.Former.{openedRow, openedRows, rebuilt, former-length, rebuilt-opened}
+use Rattle.converted.specs.Former.{sizesIn, ringAt, markedRow, markedRows, rebuilt, former-length, rebuilt-marked}
 use Rattle.converted.specs.Unique.{convertible-words}
-use Rattle.converting.specs.Built.{fitsB, domains-are, front-at}
+use Rattle.converting.specs.Built.{fitsB, updates-are, front-at}
 use Rattle.converting.specs.Fits.{Fitted, fits-true, stored-front, stored-long}
 
 -- the new tables and v are as long, the old words fit, and the new ones pass
@@ -57,14 +57,14 @@ module _ (o t v w : List ℕ) where
 
 -- ---- the words that the old ones tell
 
-row-width : (n : ℕ) → length (openedRow n) ≡ 2
-row-width n = elim (test (eqb n 0)) [ holds e ↦ rw e | fails e ↦ rw e ]
+row-width : (n : ℕ) → length (markedRow n) ≡ 1
+row-width n = elim (test (eqb n 1)) [ holds e ↦ rw e | fails e ↦ rw e ]
 
-rebuilt-length : (o : List ℕ) → length (rebuilt o) ≡ length o + getD o 0 0 * 2
-rebuilt-length o = length-append o (openedRows o) ∙ ap (λ n. length o + n) (rows-length 2 _ (λ i. row-width (getD o (9 + i) 0)) 0 (getD o 0 0))
+rebuilt-length : (o : List ℕ) → length (rebuilt o) ≡ length o + (getD o 4 0 + 1) * 1
+rebuilt-length o = length-append o (markedRows o) ∙ ap (λ n. length o + n) (rows-length 1 _ (λ k. row-width (getD o (ringAt (sizesIn o) + 4 * k) 0)) 0 (getD o 4 0 + 1))
 
-row-words : (n : ℕ) → Each Word (openedRow n)
-row-words n = elim (test (eqb n 0)) [ holds e ↦ rw e (lit< tt, (lit< tt, tt)) | fails e ↦ rw e (lit< tt, (lit< tt, tt)) ]
+row-words : (n : ℕ) → Each Word (markedRow n)
+row-words n = elim (test (eqb n 1)) [ holds e ↦ rw e (lit< tt, tt) | fails e ↦ rw e (lit< tt, tt) ]
 
 rows-words : (f : ℕ → List ℕ) (l : List ℕ) → ((i : ℕ) → Each Word (f i)) → Each Word (flatMap f l)
 unfolding flatMap
@@ -72,14 +72,14 @@ rows-words f [] h = tt
 rows-words f (i ∷ l) h = each-join Word (f i) (flatMap f l) (h i) (rows-words f l h)
 
 rebuilt-words : (o : List ℕ) → Each Word o → Each Word (rebuilt o)
-rebuilt-words o h = each-join Word o (openedRows o) h (rows-words _ (countUp 0 (getD o 0 0)) (λ i. row-words (getD o (9 + i) 0)))
+rebuilt-words o h = each-join Word o (markedRows o) h (rows-words _ (countUp 0 (getD o 4 0 + 1)) (λ k. row-words (getD o (ringAt (sizesIn o) + 4 * k) 0)))
 
 sizes-at : (t u : List ℕ) → ((n : ℕ) → n < 5 → getD t n 0 ≡ getD u n 0) → sizesOf t ≡ sizesOf u
 unfolding sizesOf
 sizes-at t u h = rw (h 0 (lit< tt), h 1 (lit< tt), h 2 (lit< tt), h 3 (lit< tt), h 4 (lit< tt))
 
 -- all sections but the last
-total-is : (z : Sizes) → total z ≡ offset (widths z) interfaceSection + z .domains * 2
+total-is : (z : Sizes) → total z ≡ offset (widths z) markSection + (z .updates + 1) * 1
 unfolding total offset
 total-is z = omega arith
 
@@ -106,7 +106,7 @@ module _ (o t v w : List ℕ) (known : Each Word o) (h : convertsB o t v w ≡ t
   -- v is as long as they are
   whole : length v ≡ length (rebuilt o)
   whole =
-      let d : sizesOf u .domains ≡ getD o 0 0 = sym (domains-are u) ∙ ap (λ l. getD l 0 0) (fit .begins) ∙ front-at o _ 0 (omega (arith, first)) in
+      let d : sizesOf u .updates ≡ getD o 4 0 = sym (updates-are u) ∙ ap (λ l. getD l 4 0) (fit .begins) ∙ front-at o _ 4 (omega (arith, first)) in
       omega (arith, fit .whole, fit .sized .exact, fit .long, total-is (sizesOf u), rebuilt-length o)
 
   -- THEOREM
@@ -114,10 +114,10 @@ module _ (o t v w : List ℕ) (known : Each Word o) (h : convertsB o t v w ≡ t
   test-convertible =
       let (s, l) = lent (rebuilt o) w (rebuilt-words o known) (parts .2) in
       let n : length (rebuilt o) ≡ lengthFor (s .sizes) = ap length (l .tables) ∙ words-length s (l .sound) in
-      let d : getD o 0 0 ≡ s .sizes .domains = sym (front-at o (openedRows o) 0 (omega (arith, first))) ∙ ap (λ x. getD x 0 0) (l .tables ∙ words-join s) in
+      let d : getD o 4 0 ≡ s .sizes .updates = sym (front-at o (markedRows o) 4 (omega (arith, first))) ∙ ap (λ x. getD x 4 0) (l .tables ∙ words-join s) in
       let k : length o ≡ formerLength (s .sizes) = omega (arith, rebuilt-length o) in
-      let (e, p) = rebuilt-opened s (l .sound) o k (sym (l .tables)) in
-      (s, record { sound = l .sound; opened = p; old = e; tables = parts .0 ∙ whole ∙ n; work = whole ∙ n; secondWork = l .work ∙ n })
+      let (e, p) = rebuilt-marked s (l .sound) o k (sym (l .tables)) in
+      (s, record { sound = l .sound; marked = p; old = e; tables = parts .0 ∙ whole ∙ n; work = whole ∙ n; secondWork = l .work ∙ n })
 
 -- ---- convertible old words pass
 
@@ -145,9 +145,9 @@ module _ (o t v w : List ℕ) (s : State) (c : Convertible o t v w s) where
   unfolding fitsB
   fits =
       let z : Sized placed = record { limits = subst Limits (sym same-sizes) (sized .limits); exact = stored-long o v ∙ c .work ∙ sym all-long ∙ sized .exact ∙ ap total (sym same-sizes) } in
-      let d : sizesOf (words s) .domains ≡ s .sizes .domains = sym (domains-are (words s)) ∙ ap (λ l. getD l 0 0) (words-join s) in
-      let k : length o ≡ offset (widths (sizesOf (words s))) interfaceSection = omega (arith, old-long, all-long, sized .exact, total-is (sizesOf (words s))) in
-      both-i (sizedB placed) _ (true-sized placed z) (eq-eqb (length o) _ (k ∙ ap (λ (y : Sizes). offset (widths y) interfaceSection) (sym same-sizes)))
+      let d : sizesOf (words s) .updates ≡ s .sizes .updates = sym (updates-are (words s)) ∙ ap (λ l. getD l 4 0) (words-join s) in
+      let k : length o ≡ offset (widths (sizesOf (words s))) markSection = omega (arith, old-long, all-long, sized .exact, total-is (sizesOf (words s))) in
+      both-i (sizedB placed) _ (true-sized placed z) (eq-eqb (length o) _ (k ∙ ap (λ (y : Sizes). offset (widths y) markSection) (sym same-sizes)))
 
   passes : admitted (rebuilt o) w ≡ true
   unfolding admitted

@@ -14,12 +14,12 @@ use Rattle.words.specs.Runs.{stored, stored-in, stored-out}
 use Rattle.words.specs.Cuts.{offset, offset-inside}
 use Rattle.sizes.specs.declared.Sizes.{Sizes}
 use Rattle.sizes.specs.Limits.{Limits}
-use Rattle.sizes.specs.Sizes.{sizesOf, widths, total, interfaceSection}
+use Rattle.sizes.specs.Sizes.{sizesOf, widths, total, markSection}
 use Rattle.sizes.specs.Tests.{sizedB}
 use Rattle.tables.specs.View.{view, Sized, Left}
 use Rattle.tables.specs.Tests.{sized-true}
 use Rattle.converted.specs.Former.{rebuilt}
-use Rattle.converting.specs.Built.{openedAll, fitsB, built-words}
+use Rattle.converting.specs.Built.{markedAll, fitsB, built-words}
 
 pub stored-long : (o v : List ℕ) → length (stored v 0 o) ≡ length v
 stored-long o v = elim (cmp (length v) (0 + length o)) [
@@ -34,19 +34,19 @@ stored-front o v h = let e : 0 + length o ≡ length o = omega arith in stored-i
 -- what is known where they fit; u is v with the old words in it
 pub record Fitted (o v u : List ℕ) : Type 0 where
   pub sized : Sized u
-  pub long : length o ≡ offset (widths (sizesOf u)) interfaceSection
+  pub long : length o ≡ offset (widths (sizesOf u)) markSection
   pub begins : u ≡ o ++ drop (length o) v
   pub whole : length u ≡ length v
 
 module _ (o v u : List ℕ) (e : u ≡ stored v 0 o) where
-  fitted : sizedB u ≡ true → length o ≡ offset (widths (sizesOf u)) interfaceSection → Fitted o v u
+  fitted : sizedB u ≡ true → length o ≡ offset (widths (sizesOf u)) markSection → Fitted o v u
   unfolding total
   fitted b l =
       let z = sized-true u b in
       let w = ap length e ∙ stored-long o v in
-      record { sized = z; long = l; begins = e ∙ stored-front o v (omega (arith, z .exact, offset-inside (widths (sizesOf u)) interfaceSection)); whole = w }
+      record { sized = z; long = l; begins = e ∙ stored-front o v (omega (arith, z .exact, offset-inside (widths (sizesOf u)) markSection)); whole = w }
 
-  fits-is : fitsB o v ≡ both (sizedB u) (eqb (length o) (offset (widths (sizesOf u)) interfaceSection))
+  fits-is : fitsB o v ≡ both (sizedB u) (eqb (length o) (offset (widths (sizesOf u)) markSection))
   unfolding fitsB
   fits-is = rw e
 
@@ -67,14 +67,14 @@ module _ (o v u : List ℕ) (e : u ≡ stored v 0 o) where
       pub in-limits : (z : Sizes) → z ≡ sizesOf u → Limits z
       in-limits z s = subst Limits (sym s) (is-sized .limits)
 
-      module _ (z : Sizes) (s : z ≡ sizesOf u) (k : ℕ) (a : k ≡ offset (widths z) interfaceSection) where
-        at : k ≡ offset (widths (sizesOf u)) interfaceSection
-        at = a ∙ ap (λ (y : Sizes). offset (widths y) interfaceSection) s
+      module _ (z : Sizes) (s : z ≡ sizesOf u) (k : ℕ) (a : k ≡ offset (widths z) markSection) where
+        at : k ≡ offset (widths (sizesOf u)) markSection
+        at = a ∙ ap (λ (y : Sizes). offset (widths y) markSection) s
 
         pub other-length : (length o ≡ k → ⊥) → false ≡ fitsB o v
         other-length d = let f = ne-eqb (length o) _ (λ q. d (q ∙ sym at)) in let g : sizedB u ≡ true = sym t ∙ not-false b n in sym (fits-is ∙ rw (g, f))
 
-        pub all-built : length o ≡ k → (r : List ℕ) → Left r (openedAll (view u)) → (true ≡ fitsB o v) × (r ≡ rebuilt o)
+        pub all-built : length o ≡ k → (r : List ℕ) → Left r (markedAll (view u)) → (true ≡ fitsB o v) × (r ≡ rebuilt o)
         all-built q r l =
             let g : sizedB u ≡ true = sym t ∙ not-false b n in
             let f = fitted g (q ∙ at) in

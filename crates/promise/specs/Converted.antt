@@ -20,7 +20,7 @@ accepted-conversion o t v w t₁ v₁ w₁ y e (converted s c) = converted s c
 
 -- THEOREM
 pub everything-converted : EverythingConverted
-everything-converted z s cs o t v w t₁ v₁ w₁ t′ r xs m k f e h a u q =
+everything-converted z s cs o t v w t₁ v₁ w₁ t′ r xs m k e h a u q =
     let c = accepted-conversion o t v w t₁ v₁ w₁ (h .answer) (ap (λ (p : Reply). p .refusal) (sym (h .reply)) ∙ a) (h .converts) in
     let x = chained t₁ t′ xs q in
-    subst (λ b. ClaimsOf b t′) (x .same _) (demand3-converted z s cs (map callOf xs) (x .answers) o t v w t₁ v₁ w₁ t′ m k f e c (words-of xs u) (x .chain))
+    subst (λ b. ClaimsOf b t′) (x .same _) (demand3-converted z s cs (map callOf xs) (x .answers) o t v w t₁ v₁ w₁ t′ m k e c (words-of xs u) (x .chain))

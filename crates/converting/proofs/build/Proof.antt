@@ -1,4 +1,4 @@
--- The copy; whether it is sized, and the old words as many as they should be; then the interfaces.
+-- The copy; whether it is sized, and the old words as many as they should be; then the marks.
 use mathlib.Core.Path.{refl}
 use borrow.Author.Needs.{needs}
 use Rattle.base.specs.Tests.{true-false}
@@ -21,23 +21,23 @@ returns c = (not-sized _ _ _ (c .before .before .before .before .before .store .
 read-sizes-requires : tie.Need-read-sizes-requires
 read-sizes-requires c κs = search needs
 
-interfaces-at-requires : tie.Need-interfaces-at-requires
-interfaces-at-requires c κs = in-limits _ _ _ (c .before .before .before .before .before .before .before .store .ensures) _ (c .before .before .before .is-sized .ensures) (c .before .before .if1 .left) _ (c .read-sizes .ensures)
+marks-at-requires : tie.Need-marks-at-requires
+marks-at-requires c κs = in-limits _ _ _ (c .before .before .before .before .before .before .before .store .ensures) _ (c .before .before .before .is-sized .ensures) (c .before .before .if1 .left) _ (c .read-sizes .ensures)
 
-open-all-requires : tie.Need-open-all-requires
-open-all-requires c κs = is-sized _ _ _ (c .before .before .before .before .before .before .before .before .before .before .store .ensures) _ (c .before .before .before .before .before .before .is-sized .ensures) (c .before .before .before .before .before .if1 .left)
+mark-all-requires : tie.Need-mark-all-requires
+mark-all-requires c κs = is-sized _ _ _ (c .before .before .before .before .before .before .before .before .before .before .store .ensures) _ (c .before .before .before .before .before .before .is-sized .ensures) (c .before .before .before .before .before .if1 .left)
 
 same-length-2 : tie.Need-same-length-2
 same-length-2 c = search needs
 
 returns-2 : tie.Need-returns-2
-returns-2 c = let x = all-built _ _ _ (c .before .before .before .before .before .before .before .before .before .before .before .before .before .store .ensures) _ (c .before .before .before .before .before .before .before .before .before .is-sized .ensures) (c .before .before .before .before .before .before .before .before .if1 .left) _ (c .before .before .before .before .before .before .read-sizes .ensures) _ (c .before .before .before .before .before .interfaces-at .ensures) (c .before .before .before .before .if2 .taken) _ (c .before .before .open-all .ensures) in (x .0, λ e. x .1)
+returns-2 c = let x = all-built _ _ _ (c .before .before .before .before .before .before .before .before .before .before .before .before .before .store .ensures) _ (c .before .before .before .before .before .before .before .before .before .is-sized .ensures) (c .before .before .before .before .before .before .before .before .if1 .left) _ (c .before .before .before .before .before .before .read-sizes .ensures) _ (c .before .before .before .before .before .marks-at .ensures) (c .before .before .before .before .if2 .taken) _ (c .before .before .mark-all .ensures) in (x .0, λ e. x .1)
 
 same-length-3 : tie.Need-same-length-3
 same-length-3 c = search needs
 
 returns-3 : tie.Need-returns-3
-returns-3 c = (other-length _ _ _ (c .before .before .before .before .before .before .before .before .before .store .ensures) _ (c .before .before .before .before .before .is-sized .ensures) (c .before .before .before .before .if1 .left) _ (c .before .before .read-sizes .ensures) _ (c .before .interfaces-at .ensures) (c .if2 .left), λ e. absurd (true-false e refl))
+returns-3 c = (other-length _ _ _ (c .before .before .before .before .before .before .before .before .before .store .ensures) _ (c .before .before .before .before .before .is-sized .ensures) (c .before .before .before .before .if1 .left) _ (c .before .before .read-sizes .ensures) _ (c .before .marks-at .ensures) (c .if2 .left), λ e. absurd (true-false e refl))
 
 pub build-spec : {M : Type 1} → statement M
 build-spec =
@@ -48,8 +48,8 @@ build-spec =
     same-length
     returns
     read-sizes-requires
-    interfaces-at-requires
-    open-all-requires
+    marks-at-requires
+    mark-all-requires
     same-length-2
     returns-2
     same-length-3
