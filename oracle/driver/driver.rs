@@ -16,5 +16,6 @@ pub mod scripts;
 
 mod drawn;
 mod interfaces;
+mod marks;
 mod outside_interfaces;
 mod outside_flags;

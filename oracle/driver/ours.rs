@@ -78,9 +78,9 @@ pub fn numbers(call: &Call, answer: &Answer) -> Vec<u64> {
         Reply::Done => vec![0],
         Reply::Domain(h) => vec![h.slot, h.gen],
         Reply::Local(n) | Reply::Number(n) => vec![*n],
-        Reply::Popped(None) => vec![0; 4],
-        Reply::Popped(Some(Update::Permission { domain, cores })) => vec![1, domain.slot, domain.gen, *cores],
-        Reply::Popped(Some(Update::Cleanup { start, end })) => vec![2, *start, *end, 0],
+        Reply::Popped(None) => vec![0; 5],
+        Reply::Popped(Some(Update::Permission { domain, cores, marks })) => vec![1, domain.slot, domain.gen, *cores, *marks],
+        Reply::Popped(Some(Update::Cleanup { start, end })) => vec![2, *start, *end, 0, 0],
         Reply::Permissions(l) => {
             let records = l.iter().flat_map(|a| [a.start, a.end, a.rights as u64]);
             [l.len() as u64].into_iter().chain(records).collect()

@@ -64,7 +64,7 @@ fn answer(call: &Call, [refusal, a, b, c, d]: Numbers) -> Answer {
     }
     Ok(match call {
         Call::Open { .. } => Reply::Domain(Handle { slot: a, gen: b }),
-        Call::SetCores { .. } | Call::Revoke { .. } => Reply::Done,
+        Call::SetCores { .. } | Call::Revoke { .. } | Call::SetInterface { .. } | Call::FreezeInterface { .. } => Reply::Done,
         Call::Pop => Reply::Popped(match a {
             0 => None,
             1 => Some(Update::Permission { domain: Handle { slot: b, gen: c }, cores: d }),
