@@ -1,6 +1,7 @@
 //! Lists of calls on the last delivery's library: each with its answers, and the words of the tables behind it (oracle/former/make).
 
-// That delivery's own.
+// That delivery's own; its converter is not used.
+#[allow(dead_code)]
 mod exported;
 
 use exported::Numbers;
