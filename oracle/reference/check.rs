@@ -2,6 +2,7 @@
 
 mod check_answers;
 mod check_convert;
+mod check_marks;
 
 use reference::{Engine, Fault};
 use shared::calls::{show, Answer, Call, Handle, Reply, Sizes, Update};
@@ -69,7 +70,7 @@ fn list_lines(engine: &mut Engine) -> Vec<String> {
     }
     while let Ok(Reply::Popped(Some(update))) = engine.perform(&Call::Pop) {
         out.push(match update {
-            Update::Permission { domain, cores } => format!("p {} {cores}", domain.slot),
+            Update::Permission { domain, cores, .. } => format!("p {} {cores}", domain.slot),
             Update::Cleanup { start, end } => format!("c {start} {end}"),
         });
     }

@@ -1,27 +1,39 @@
-//! Runs the lists whose answers were written from the documents alone: documents.txt for request 1, interface.txt for request 2.
-//! Behind `# region` stand a region's rights and hash after the call above, behind `# domain` a domain's word and its freeze.
+//! Runs the lists whose answers were written from the documents alone: documents.txt for request 1, interface.txt for request 2, marks.txt for
+//! request 4. Behind `# region` stand a region's rights and hash after the call above, behind `# domain` a domain's word and its freeze, behind
+//! `# place` the marks' word of a place of the ring.
 
 use crate::check_convert::carries_over;
+use crate::check_marks::Writer;
 use crate::sizes;
 use reference::Engine;
 use shared::calls::{hash_word, show, Call, Handle};
 use shared::lists::parse;
 use shared::{sound, tables};
 
+const FILES: [(&str, &str); 3] = [
+    ("documents.txt", include_str!("documents.txt")),
+    ("interface.txt", include_str!("interface.txt")),
+    ("marks.txt", include_str!("marks.txt")),
+];
+
 /// Every call answered as written, every entry as written, and the tables sound after each call.
 pub fn answers() {
-    for (name, text) in [("documents.txt", include_str!("documents.txt")), ("interface.txt", include_str!("interface.txt"))] {
+    for (name, text) in FILES {
         let mut engine = None;
+        let mut writer = Writer::new(0);
         let mut calls = 0;
         for (i, line) in text.lines().enumerate() {
             let place = format!("{name}, line {}: {line}", i + 1);
             if let Some(numbers) = line.strip_prefix("sizes ") {
                 engine = Some(Engine::new(sizes(numbers), None));
+                writer = Writer::new(sizes(numbers).domains);
             }
             let Some(engine) = &mut engine else { continue };
             if let Some(call) = parse(line).unwrap_or_else(|error| panic!("{place}: {error}")) {
                 taking_away(engine, &call, &place);
-                assert_eq!(show(&engine.perform(&call)), written(line), "{place}");
+                let answer = engine.perform(&call);
+                assert_eq!(show(&answer), written(line), "{place}");
+                assert_eq!(writer.after(&answer, &engine.tables()), None, "{place}");
                 calls += 1;
             }
             entry(&engine.tables(), line, &place);
@@ -42,13 +54,20 @@ fn written(line: &str) -> &str {
 fn entry(tables: &tables::Tables, line: &str, place: &str) {
     let Some((_, comment)) = line.split_once("# ") else { return };
     let words: Vec<&str> = comment.split_whitespace().collect();
-    let ["region" | "domain", slot, "has", wanted @ ..] = &words[..] else { return };
+    let ["region" | "domain" | "place", slot, "has", wanted @ ..] = &words[..] else { return };
     let slot: usize = slot.parse().expect("a slot number");
     let found = match words[0] {
+        "place" => Some(marks_section(tables)[slot].to_string()),
         "region" => tables.regions[slot].as_ref().map(|r| format!("{} {}", r.rights, hash_word(r.hash))),
         _ => tables.domains[slot].as_ref().map(|d| format!("{}{}", d.interface, if d.frozen { " frozen" } else { "" })),
     };
     assert_eq!(found.unwrap_or("none".to_string()), wanted.join(" "), "{place}");
+}
+
+/// The tables' last U + 1 words.
+fn marks_section(tables: &tables::Tables) -> Vec<u64> {
+    let words = tables.words();
+    words[words.len() - tables.sizes.updates - 1..].to_vec()
 }
 
 /// "taking a bit away never makes a refused call succeed on tables otherwise the same": tried for each bit of each domain that is not frozen.

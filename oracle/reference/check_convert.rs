@@ -1,11 +1,12 @@
-//! Tests the converter of request 2: docs/TABLES.md's small example, changed in one place after another, with answers from the documents.
+//! Tests the converter of request 4: docs/TABLES.md's small example, changed in one place after another, with answers from the documents.
 
 use reference::{convert, Lent};
+use shared::calls::Update;
 use shared::tables::Tables;
 
 /// The small example of docs/TABLES.md, as the last delivery had it.
 #[rustfmt::skip]
-const OLD: [u64; 125] = [
+const OLD: [u64; 129] = [
     2, 2, 3, 3, 1, 0, 1,
     1, 1, 0, 1, 0, 0,
     1, 1, 0, 3, 1, 0, 0, 0,
@@ -23,13 +24,15 @@ const OLD: [u64; 125] = [
     0, 0, 0, 0, 0,
     0, 0, 0, 0, 0,
     0, 0, 0, 0, 0,
+    26, 0,
+    0, 0,
 ];
 
-/// What is put behind: domain 0 with all three bits, unfrozen; slot 1 is free.
-const ROWS: [u64; 4] = [26, 0, 0, 0];
+/// What is put behind: all five marks for the domain at place 0; place 1 is empty.
+const MARKS: [u64; 2] = [31, 0];
 
 /// The new tables' length.
-const NEW: usize = 129;
+const NEW: usize = 131;
 
 /// The example with some words changed.
 fn changed(words: &[(usize, u64)]) -> Vec<u64> {
@@ -39,12 +42,18 @@ fn changed(words: &[(usize, u64)]) -> Vec<u64> {
 }
 
 fn accepted(old: &[u64]) {
-    assert_eq!(convert(old, Lent::of(NEW)), Ok([old, &ROWS].concat()));
+    becomes(old, &MARKS);
+}
+
+/// Sound old tables, with these marks behind.
+fn becomes(old: &[u64], marks: &[u64; 2]) {
+    assert_eq!(convert(old, Lent::of(NEW)), Ok([old, marks].concat()));
 }
 
 pub fn conversions() {
     accepted(&OLD);
     kept();
+    marked();
     lengths();
     unsound();
     println!("the converter passes its cases");
@@ -56,8 +65,17 @@ fn kept() {
     accepted(&changed(&[(12, 9)])); // a free domain slot's generation
     accepted(&changed(&[(11, 9), (104, 9)])); // the live domain's, queued with that
     accepted(&changed(&[(110, 1), (111, u64::MAX), (114, 7)])); // a hash
-    accepted(&changed(&[(6, 0), (102, 0), (105, 0)])); // the ring is empty
     accepted(&changed(&[(56, 67)])); // VITAL: no count knows it
+    accepted(&changed(&[(125, u64::MAX), (126, 1)])); // a word, frozen
+}
+
+/// All five marks for a queued domain at whatever place, and none for anything else.
+fn marked() {
+    becomes(&changed(&[(6, 0), (102, 0), (105, 0)]), &[0, 0]); // the ring is empty
+    becomes(&changed(&[(5, 1), (6, 1), (102, 0), (105, 0)]), &[0, 0]); // so it is at the other place
+    becomes(&changed(&[(5, 1), (6, 0), (102, 0), (105, 0), (106, 1), (109, 5)]), &[0, 31]); // the domain is queued at place 1
+    becomes(&changed(&[(102, 2), (103, 4), (104, 8), (105, 0)]), &[0, 0]); // a range to clean up
+    becomes(&changed(&[(102, 2), (103, 1), (104, 1), (105, 0)]), &[0, 0]);
 }
 
 /// "1 for wrong lengths".
@@ -67,11 +85,12 @@ fn lengths() {
     refused(&[], Lent::of(0));
     refused(&OLD[..4], Lent::of(NEW));
     refused(&OLD[..5], Lent::of(NEW));
-    refused(&OLD[..124], Lent::of(NEW));
-    refused(&OLD[..110], Lent::of(NEW)); // without the hashes: the delivery before
+    refused(&OLD[..128], Lent::of(NEW));
+    refused(&OLD[..125], Lent::of(NEW)); // without the interfaces: the delivery before
+    refused(&OLD[..110], Lent::of(NEW)); // without the hashes, too
     refused(&[&OLD[..], &[0]].concat(), Lent::of(NEW));
-    refused(&[&OLD[..], &ROWS].concat(), Lent::of(NEW)); // converted already
-    refused(&[&OLD[..], &ROWS].concat(), Lent::of(NEW + 4));
+    refused(&[&OLD[..], &MARKS].concat(), Lent::of(NEW)); // converted already
+    refused(&[&OLD[..], &MARKS].concat(), Lent::of(NEW + 2));
     for wrong in [0, OLD.len(), NEW - 1, NEW + 1] {
         refused(&OLD, Lent { tables: wrong, ..Lent::of(NEW) });
         refused(&OLD, Lent { work: wrong, ..Lent::of(NEW) });
@@ -82,7 +101,7 @@ fn lengths() {
 
 /// "1 for .. unsound old tables": each change breaks one thing that document 01 asks, or a word of docs/TABLES.md.
 fn unsound() {
-    let unsound: [&[(usize, u64)]; 22] = [
+    let unsound: [&[(usize, u64)]; 28] = [
         &[(0, 0)], // a stored size outside its limits
         &[(0, 33)],
         &[(4, 129)],
@@ -105,17 +124,27 @@ fn unsound() {
         &[(106, 1)], // a queued place behind the write place
         &[(110, 2)], // no row of the hashes
         &[(115, 1)], // a hash of no region
+        &[(126, 2)], // no row of the interfaces
+        &[(127, 26)], // a word of no domain
+        &[(128, 1)],
+        &[(102, 3)], // a place that holds nothing that it could
+        &[(102, 2)], // a range with a core map
+        &[(106, 2)], // a range behind the write place
     ];
     for words in unsound {
         assert_eq!(convert(&changed(words), Lent::of(NEW)), Err(1), "{words:?}");
     }
 }
 
-/// The tables without their words carry over: the rows are those of domains as they open, whatever they were.
+/// The tables without their marks carry over: every queued domain has all five, whatever they were.
 pub fn carries_over(tables: &Tables, place: &str) {
-    let mut opened = tables.clone();
-    opened.domains.iter_mut().flatten().for_each(|d| (d.interface, d.frozen) = (26, false));
+    let mut marked = tables.clone();
+    for update in marked.places.iter_mut().flatten() {
+        if let Update::Permission { marks, .. } = update {
+            *marks = 31;
+        }
+    }
     let words = tables.words();
-    let old = &words[..words.len() - 2 * tables.sizes.domains];
-    assert_eq!(convert(old, Lent::of(words.len())), Ok(opened.words()), "{place}");
+    let old = &words[..words.len() - tables.sizes.updates - 1];
+    assert_eq!(convert(old, Lent::of(words.len())), Ok(marked.words()), "{place}");
 }
