@@ -217,7 +217,7 @@ pub fn compare(program: &str, seed: u64, calls: u64, length: usize) -> Result<bo
             return print_list(program, lists.swap_remove(at));
         }
     }
-    println!("{total} random calls answered by the proved engine as by the Rust, with the same hash of the tables' words after each");
+    println!("{total} random calls answered by the proved engine as by the Rust, the marks as by the reference, with the same hash of the tables' words after each");
     println!("{met}");
     Ok(true)
 }
@@ -249,6 +249,6 @@ pub fn sample(program: &str, file: &str) -> Result<bool, String> {
             return print_list(program, list);
         }
     }
-    println!("{calls} calls of {file} answered by the proved engine as by the Rust, with the same hash of the tables' words after each");
+    println!("{calls} calls of {file} answered by the proved engine as by the Rust, the marks as by the reference, with the same hash of the tables' words after each");
     Ok(calls > 0)
 }

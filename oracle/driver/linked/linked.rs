@@ -203,7 +203,7 @@ pub fn compare(seed: u64, calls: u64, length: usize) -> bool {
         }
         total += list.len() as u64;
     }
-    println!("{total} random calls answered by the linked library as by the Rust, with the same words after each");
+    println!("{total} random calls answered by the linked library as by the Rust, the marks as by the reference, with the same words after each");
     println!("{met}");
     true
 }
