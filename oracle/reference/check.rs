@@ -1,7 +1,9 @@
-//! Tests the reference: document 01's example and marked cases, lists with answers from the documents, conversions, and a list for each fault.
+//! Tests the reference: document 01's example and marked cases, lists with answers from the documents, conversions,
+//! drawn lists, and a list for each fault.
 
 mod check_answers;
 mod check_convert;
+mod check_drawn;
 mod check_marks;
 
 use reference::{Engine, Fault};
@@ -25,6 +27,7 @@ fn main() {
     facts();
     check_answers::answers();
     check_convert::conversions();
+    check_drawn::drawn();
     faults();
     println!("the reference passes document 01's example and cases");
 }

@@ -2,6 +2,7 @@
 
 use reference::{convert, Lent};
 use shared::calls::Update;
+use shared::sound;
 use shared::tables::Tables;
 
 /// The small example of docs/TABLES.md, as the last delivery had it.
@@ -56,6 +57,7 @@ pub fn conversions() {
     marked();
     lengths();
     unsound();
+    marks_words();
     println!("the converter passes its cases");
 }
 
@@ -134,6 +136,27 @@ fn unsound() {
     for words in unsound {
         assert_eq!(convert(&changed(words), Lent::of(NEW)), Err(1), "{words:?}");
     }
+}
+
+/// The marks' section: below 32, and 0 beside anything but a queued domain. A queued domain with none is sound, though no call makes it.
+fn marks_words() {
+    let fault = |old: &[(usize, u64)], marks: &[u64]| sound::fault(&[&changed(old), marks].concat());
+    let (domain, empty, range): (&[_], &[_], &[_]) = (&[], &[(6, 0), (102, 0), (105, 0)], &[(102, 2), (103, 4), (104, 8), (105, 0)]);
+    (0..32).for_each(|marks| assert_eq!(fault(domain, &[marks, 0]), None, "{marks}"));
+    assert_eq!((fault(empty, &[0, 0]), fault(range, &[0, 0])), (None, None));
+    let wrong: [(&[_], &[u64]); 10] = [
+        (domain, &[32, 0]),
+        (domain, &[39, 0]),
+        (domain, &[u64::MAX, 0]),
+        (domain, &[7, 7]),
+        (domain, &[0, 7]),
+        (empty, &[7, 0]),
+        (empty, &[0, 7]),
+        (range, &[7, 0]),
+        (domain, &[7]),
+        (domain, &[7, 0, 0]),
+    ];
+    wrong.iter().for_each(|(old, marks)| assert!(fault(old, marks).is_some(), "{marks:?}"));
 }
 
 /// The tables without their marks carry over: every queued domain has all five, whatever they were.
