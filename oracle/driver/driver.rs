@@ -9,6 +9,7 @@ pub mod leftovers;
 pub mod met;
 pub mod ours;
 pub mod outside;
+pub mod panics;
 pub mod random;
 pub mod sample;
 pub mod script;

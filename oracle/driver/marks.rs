@@ -30,20 +30,20 @@ impl Marks {
 
     /// Puts the marks beside the Rust's queued domains: those that a copy of the reference answers when all is popped.
     pub fn put(&self, tables: &mut Tables) {
-        let places = tables.places.len() as u64;
-        let mut at = tables.read;
-        let mut copy = (at != tables.write).then(|| self.0.clone());
+        if tables.read == tables.write {
+            return;
+        }
+        let (mut copy, mut at) = (self.0.clone(), tables.read);
         while at != tables.write {
-            let popped = copy.as_mut().map(|copy| copy.perform(&Call::Pop));
-            let Some(Ok(Reply::Popped(Some(mut update)))) = popped else { apart("the reference has fewer updates than the Rust") };
+            let popped = copy.perform(&Call::Pop);
             let place = &mut tables.places[at as usize];
-            let marked = update;
-            set([&mut update], 0);
-            if *place != Some(update) {
-                apart(&format!("the Rust has `{place:?}` in the queue, the reference `{marked}`"));
+            if left_out(popped.clone()) != Ok(Reply::Popped(*place)) {
+                apart(&format!("the Rust has {place:?} in the queue, the reference `{}`", show(&popped)));
             }
-            *place = Some(marked);
-            at = (at + 1) % places;
+            if let Ok(Reply::Popped(update)) = popped {
+                *place = update;
+            }
+            at = (at + 1) % tables.places.len() as u64;
         }
     }
 }
