@@ -109,7 +109,7 @@ pub fn marks(random: &mut Random, shape: &Shape) -> Edits {
         let other = marks_at(shape) + any;
         return vec![(place, shape.words[other]), (other, shape.words[place])];
     }
-    let (below, above) = (random.below(32), random.pick(&[32, 33, 63, 64, 1 << 5 | 1 << 32, 1 << 63, u64::MAX]));
+    let (below, above) = (random.below(32), random.pick(&[32, 33, 63, 64, 1 << 32, 1 << 63, u64::MAX]));
     vec![(place, if random.one_in(2) { below } else { above })]
 }
 
