@@ -1,5 +1,5 @@
 /* A host that lends memory to the engine: document 01's worked example, each answer printed as the script program prints it, and then
- * the calls that the example does not have. host.out is what it prints; lines `d` and `r` are readings.
+ * the calls that the example does not have. host.out is what it prints; lines `d` and `r` are readings, lines `m` the marks of popped domains.
  *
  *     rt staticlib engine
  *     gcc -std=c11 -Wall -Wextra -Werror -Iinclude examples/host.c target/staticlib/libengine.a -o host
@@ -60,16 +60,40 @@ static void read_more(mityvurno_domain_reply d, uint64_t address)
     printf("\n");
 }
 
-/* Empties the queue: what the monitor has to do in hardware. */
+/* What has moved since the domain's update before: a page-table writer reads the domain's permissions anew for these rights only. */
+static void moved(mityvurno_update_reply u)
+{
+    static const struct {
+        uint64_t mark;
+        const char *name;
+    } marks[] = {{MITYVURNO_MARK_REACH, "reach"},
+                 {MITYVURNO_MARK_READ, "READ"},
+                 {MITYVURNO_MARK_WRITE, "WRITE"},
+                 {MITYVURNO_MARK_EXEC, "EXEC"},
+                 {MITYVURNO_MARK_SUPER, "SUPER"}};
+    printf("m %" PRIu64 ":", u.a);
+    for (size_t i = 0; i < sizeof marks / sizeof marks[0]; i++)
+        if (u.marks & marks[i].mark)
+            printf(" %s", marks[i].name);
+    printf("\n");
+}
+
+/* Empties the queue: what the monitor has to do in hardware. A script's lines have no marks, so these come behind them. */
 static void updates(void)
 {
-    mityvurno_update_reply u;
-    for (u = mityvurno_pop(LENT); u.kind != MITYVURNO_NONE; u = mityvurno_pop(LENT)) {
-        if (u.kind == MITYVURNO_PERMISSION)
-            printf("p %" PRIu64 " %" PRIu64 "\n", u.a, u.c);
+    mityvurno_update_reply queue[UPDATES];
+    int n = 0;
+    while (n < UPDATES && (queue[n] = mityvurno_pop(LENT)).kind != MITYVURNO_NONE)
+        n++;
+    for (int i = 0; i < n; i++) {
+        if (queue[i].kind == MITYVURNO_PERMISSION)
+            printf("p %" PRIu64 " %" PRIu64 "\n", queue[i].a, queue[i].c);
         else
-            printf("c %" PRIu64 " %" PRIu64 "\n", u.a, u.b);
+            printf("c %" PRIu64 " %" PRIu64 "\n", queue[i].a, queue[i].b);
     }
+    for (int i = 0; i < n; i++)
+        if (queue[i].kind == MITYVURNO_PERMISSION)
+            moved(queue[i]);
 }
 
 static void example(mityvurno_domain_reply a, mityvurno_domain_reply b)

@@ -47,11 +47,11 @@ extern "C" {
 #define MITYVURNO_WORDS(domains, slots, regions, records, updates)                                              \
     ((size_t)7 + (2 + 2 * (size_t)(domains)) + (2 + 2 * (size_t)(regions)) + (2 + 2 * (size_t)(records)) +      \
      (size_t)(domains) * (5 + 3 * (size_t)(slots)) + 8 * (size_t)(regions) + 9 * (size_t)(records) +            \
-     4 * ((size_t)(updates) + 1) + 5 * (size_t)(regions) + 2 * (size_t)(domains))
+     4 * ((size_t)(updates) + 1) + 5 * (size_t)(regions) + 2 * (size_t)(domains) + ((size_t)(updates) + 1))
 
-/* The number of words that tables of the last delivery have, for mityvurno_convert_tables: without the domains' interfaces. */
+/* The number of words that tables of the last delivery have, for mityvurno_convert_tables: without the marks. */
 #define MITYVURNO_FORMER_WORDS(domains, slots, regions, records, updates) \
-    (MITYVURNO_WORDS(domains, slots, regions, records, updates) - 2 * (size_t)(domains))
+    (MITYVURNO_WORDS(domains, slots, regions, records, updates) - ((size_t)(updates) + 1))
 
 /* ---- rights: a word of 8 bits */
 
@@ -127,10 +127,20 @@ enum mityvurno_update {
     MITYVURNO_CLEAN_UP = 2    /* a range to clean up: a start, b end */
 };
 
+/* Which of a domain's counts came to 0 or left it at some address since its update before was popped (document 02, request 4). */
+enum mityvurno_mark {
+    MITYVURNO_MARK_REACH = 1,
+    MITYVURNO_MARK_READ = 2,
+    MITYVURNO_MARK_WRITE = 4,
+    MITYVURNO_MARK_EXEC = 8,
+    MITYVURNO_MARK_SUPER = 16
+};
+
 typedef struct {
     uint64_t refusal;
     uint64_t kind; /* of enum mityvurno_update */
     uint64_t a, b, c;
+    uint64_t marks; /* of enum mityvurno_mark, one or several; 0 where no domain is popped */
 } mityvurno_update_reply;
 
 typedef struct {
@@ -155,11 +165,11 @@ typedef struct {
 mityvurno_reply mityvurno_make_tables(MITYVURNO_LENT, uint64_t domains, uint64_t slots, uint64_t regions, uint64_t records,
                                       uint64_t updates);
 
-/* Tables of the last delivery, `old`, become tables of this one in `t`: the same entries and handles, and every domain has the interface
- * that it opens with. `old` is only read. The lengths: MITYVURNO_FORMER_WORDS of `old`; MITYVURNO_WORDS of `t`, `v` and `w`, by the
- * sizes that `old` stores. What `t` held before does not matter; `v` and `w` are two work areas, zero afterwards. Wrong lengths and old
- * tables that are not sound give 1, and `t` is as found. Older tables go through each delivery's converter in turn. Refusals: none but
- * 1. */
+/* Tables of the last delivery, `old`, become tables of this one in `t`: the same entries and handles, and every queued domain has all five
+ * marks, since which rights moved was not kept. `old` is only read. The lengths: MITYVURNO_FORMER_WORDS of `old`; MITYVURNO_WORDS of `t`,
+ * `v` and `w`, by the sizes that `old` stores. What `t` held before does not matter; `v` and `w` are two work areas, zero afterwards. Wrong
+ * lengths and old tables that are not sound give 1, and `t` is as found. Older tables go through each delivery's converter in turn.
+ * Refusals: none but 1. */
 mityvurno_reply mityvurno_convert_tables(const uint64_t *MITYVURNO_APART old, size_t old_words, uint64_t *MITYVURNO_APART t,
                                          size_t t_words, uint64_t *MITYVURNO_APART v, size_t v_words, uint64_t *MITYVURNO_APART w,
                                          size_t w_words);
@@ -215,7 +225,12 @@ mityvurno_reply mityvurno_revoke(MITYVURNO_LENT, uint64_t domain, uint64_t gener
 /* A RegionRevoke for the region in `local`; value: its local slot. Refusals: 3, 4, 5, 6, 9, 12. */
 mityvurno_reply mityvurno_create_revoke_capa(MITYVURNO_LENT, uint64_t domain, uint64_t generation, uint64_t local);
 
-/* The oldest update leaves the queue; kind MITYVURNO_NONE where it is empty. Refusals: none. */
+/* The oldest update leaves the queue; kind MITYVURNO_NONE where it is empty. Refusals: none.
+ *
+ * What a page-table writer may lean on: for each popped domain it reads the domain's permissions anew, for the rights that are marked. The
+ * count of a right that is not marked has not come to 0 or left it since the domain's update before was popped: at each address the domain
+ * has that right, or has it not, as then. UNCACHEABLE has no mark of its own and goes with MITYVURNO_MARK_REACH. A right that came and went
+ * again is marked, too. */
 mityvurno_update_reply mityvurno_pop(MITYVURNO_LENT);
 
 /* ---- readings */

@@ -6,6 +6,7 @@ use shared::sound::broken_clause;
 use shared::tables::Tables;
 
 use crate::judge::Judge;
+use crate::marks;
 use crate::random::{self, Random, Style};
 
 /// Where two runs of a list first differ.
@@ -14,19 +15,21 @@ pub struct Difference {
     pub what: String,
 }
 
-/// Runs a list on both sides; the calls come from `next`, which sees the judge's tables.
+/// Runs a list on both sides; the calls come from `next`, which sees the judge's tables. Marks are compared where the reference has a fault:
+/// then the judge has those of a reference without.
 fn run(
     fault: Option<Fault>,
     totals: &mut Totals,
     mut next: impl FnMut(usize, &Tables) -> Option<Call>,
 ) -> (Vec<Call>, Option<Difference>) {
-    let mut judge = Judge::new();
+    let mut judge = if fault.is_some() { Judge::new() } else { Judge::rust() };
     let mut tables = judge.tables();
     let mut reference = Engine::new(tables.sizes, fault);
     let mut list = Vec::new();
     while let Some(call) = next(list.len(), &tables) {
         let theirs = judge.perform(&call);
         let ours = reference.perform(&call);
+        let ours = if fault.is_some() { ours } else { marks::left_out(ours) };
         list.push(call);
         totals.calls += 1;
         let at = list.len() - 1;
@@ -36,7 +39,8 @@ fn run(
         }
         if changes(&call) {
             tables = judge.tables();
-            let differences = tables.differences(&reference.tables());
+            let entries = reference.tables();
+            let differences = tables.differences(&if fault.is_some() { entries } else { marks::with_all(entries, 0) });
             if !differences.is_empty() {
                 let what = format!("tables differ (- the Rust, + the reference):\n{}", differences.join("\n"));
                 return (list, Some(Difference { at, what }));

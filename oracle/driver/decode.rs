@@ -27,6 +27,11 @@ fn hashes_at(z: &Sizes) -> usize {
     7 + pools + z.domains * (5 + 3 * z.slots) + 8 * z.regions + 9 * z.records + 4 * (z.updates + 1)
 }
 
+/// The same words with all zeroes in the marks; none where they have no sizes or another length.
+pub fn without_marks(words: &[u64]) -> Option<Vec<u64>> {
+    sizes(words).map(|z| zeroed_from(words, former_total(&z)))
+}
+
 /// The same words with all zeroes in the interfaces and the marks; none where they have no sizes or another length.
 pub fn without_interfaces(words: &[u64]) -> Option<Vec<u64>> {
     sizes(words).map(|z| zeroed_from(words, interfaces_at(&z)))

@@ -27,7 +27,7 @@ fn records(random: &mut Random) -> Vec<Vec<u8>> {
     let length = random.below(most + 1) as usize;
     let filling = most == 700 && random.one_in(2);
     let style = if filling { Style::filling(random) } else { Style::new(random) };
-    let mut judge = Judge::new();
+    let mut judge = Judge::rust();
     let mut tables = judge.tables();
     let mut records = Vec::new();
     while records.len() < length {

@@ -9,6 +9,7 @@ pub mod leftovers;
 pub mod met;
 pub mod ours;
 pub mod outside;
+pub mod panics;
 pub mod random;
 pub mod sample;
 pub mod script;
@@ -16,5 +17,6 @@ pub mod scripts;
 
 mod drawn;
 mod interfaces;
+mod marks;
 mod outside_interfaces;
 mod outside_flags;

@@ -2,7 +2,7 @@
 
 use shared::calls::{hash_word, show, Call};
 use shared::lists::parse;
-use shared::tables::Tables;
+use shared::tables::{marks_word, Tables};
 
 use crate::compare::differs;
 use crate::judge::Judge;
@@ -15,7 +15,7 @@ pub struct Stored<'a> {
     entries: Vec<Entry<'a>>,
 }
 
-/// `region` or `domain`, a slot, and what the entry there has after the call.
+/// `region` or `domain` and a slot, or `place` and a place of the ring, and what the entry there has after the call.
 type Entry<'a> = (&'a str, &'a str, &'a str);
 
 impl Stored<'_> {
@@ -26,11 +26,11 @@ impl Stored<'_> {
     }
 }
 
-/// The entry that a comment is about, as `# region 0 has 19 -` or `# domain 0 has 26 frozen`.
+/// The entry that a comment is about, as `# region 0 has 19 -`, `# domain 0 has 26 frozen` or `# place 0 has 7`.
 fn entry(text: &str) -> Option<Entry<'_>> {
     let (kind, rest) = text.split_once("# ")?.1.split_once(' ')?;
     let (slot, said) = rest.split_once(" has ")?;
-    (matches!(kind, "region" | "domain") && slot.parse::<usize>().is_ok()).then_some((kind, slot, said))
+    (matches!(kind, "region" | "domain" | "place") && slot.parse::<usize>().is_ok()).then_some((kind, slot, said))
 }
 
 /// The lists of a text that have this build's sizes.
@@ -51,11 +51,12 @@ pub fn lists(text: &str) -> Result<Vec<Vec<Stored<'_>>>, String> {
     Ok(lists)
 }
 
-/// What an entry has: a region its rights and hash, a domain its word and whether it is frozen.
+/// What an entry has: a region its rights and hash, a domain its word and whether it is frozen, a place of the ring its marks.
 fn found(tables: &Tables, (kind, slot, _): Entry) -> String {
     let slot: usize = slot.parse().expect("a number, by `entry`");
     let found = match kind {
         "region" => tables.regions.get(slot).and_then(|r| r.as_ref()).map(|r| format!("{} {}", r.rights, hash_word(r.hash))),
+        "place" => tables.places.get(slot).map(|update| marks_word(update).to_string()),
         _ => tables.domains.get(slot).and_then(|d| d.as_ref()).map(|d| format!("{}{}", d.interface, if d.frozen { " frozen" } else { "" })),
     };
     found.unwrap_or("none".to_string())

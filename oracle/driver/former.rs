@@ -1,22 +1,33 @@
 //! Tables of the last delivery: what this delivery's are to be, and files that hold such tables (oracle/README.md, "The converter").
 
-use shared::calls::{show, Call};
+use shared::calls::{show, Answer, Call, Reply, Update};
 use shared::decode::{former_total, stored_sizes};
 use shared::lists::parse;
 
 use crate::judge::Judge;
+use crate::marks::with_all;
 
-/// SEND, ALIAS and CARVE: every domain's word as it opens.
-const OPENED: u64 = 26;
+/// Reach, READ, WRITE, EXEC and SUPER: which of them moved was not kept.
+const ALL: u64 = 31;
 
-/// This delivery's words: the old ones, and behind them a row of the interfaces for each domain slot, as a domain opens where the slot is
-/// in use; none where the old words are not of the length that their sizes ask for.
+/// This delivery's words: the old ones, and behind them for each place of the ring all marks where a domain is queued; none where the old
+/// words are not of the length that their sizes ask for.
 pub fn carried(old: &[u64]) -> Option<Vec<u64>> {
-    let sizes = stored_sizes(old).filter(|z| former_total(z) == old.len())?;
-    // The domain pool's free links stand behind the header, its head and its count: 0 for a slot in use.
-    let links = &old[9..9 + sizes.domains];
-    let rows = links.iter().flat_map(|&link| [if link == 0 { OPENED } else { 0 }, 0]);
-    Some(old.iter().copied().chain(rows).collect())
+    let z = stored_sizes(old).filter(|z| former_total(z) == old.len())?;
+    // Behind the ring stand the hashes and the interfaces. A place's first word is 1 for a domain.
+    let behind = old.len() - 5 * z.regions - 2 * z.domains;
+    let places = old[behind - 4 * (z.updates + 1)..behind].chunks(4);
+    let marks = places.map(|place| if place[0] == 1 { ALL } else { 0 });
+    Some(old.iter().copied().chain(marks).collect())
+}
+
+/// An answer as the last delivery has it: without marks.
+pub fn show_former(answer: &Answer) -> String {
+    let shown = show(answer);
+    match answer {
+        Ok(Reply::Popped(Some(Update::Permission { .. }))) => shown.rsplit_once(' ').map_or(String::new(), |(rest, _)| rest.to_string()),
+        _ => shown,
+    }
 }
 
 /// A list of calls with the answers, and the words, of the last delivery.
@@ -48,14 +59,14 @@ pub fn read(file: &str) -> Result<Vec<Kept>, String> {
 
 /// What is wrong with kept tables: the judge must answer the list as it stands, and come to what these tables are to be.
 fn wrong(kept: &Kept) -> Option<String> {
-    let mut judge = Judge::new();
+    let mut judge = Judge::rust();
     for (k, (call, stored)) in kept.calls.iter().enumerate() {
-        let answer = show(&judge.perform(call));
+        let answer = show_former(&judge.perform(call));
         if answer != *stored {
             return Some(format!("call {}, {call} -> {stored}: the Rust answers {answer}", k + 1));
         }
     }
-    (carried(&kept.words) != Some(judge.tables().words())).then(|| "the Rust comes to other words".to_string())
+    (carried(&kept.words) != Some(with_all(judge.tables(), ALL).words())).then(|| "the Rust comes to other words".to_string())
 }
 
 /// The kept tables of a file that have this build's sizes, beside the Rust's of the same lists.
@@ -65,7 +76,7 @@ pub fn check(file: &str) -> Result<bool, String> {
         println!("{file}: tables {}: {wrong}", k + 1);
         return Ok(false);
     }
-    println!("{} tables of {file} are the Rust's of their lists, but for the interfaces", kept.len());
+    println!("{} tables of {file} are the Rust's of their lists, but for the marks", kept.len());
     Ok(!kept.is_empty())
 }
 

@@ -40,7 +40,7 @@ fn way(judge: &mut Judge, call: &Call) -> Option<Way> {
 
 /// The first call of a list that leaves something behind in this way.
 fn found(list: &[Call], wanted: &Way) -> Option<usize> {
-    let mut judge = Judge::new();
+    let mut judge = Judge::rust();
     list.iter().position(|call| way(&mut judge, call).as_ref() == Some(wanted))
 }
 
@@ -51,7 +51,7 @@ pub fn print(seed: u64, calls: u64, length: usize) -> bool {
         let mut random = Random(list_seed(seed, number));
         let style = Style::new(&mut random);
         let mut presets = random::presets(&mut random, &engine::utils::mirror::sizes()).into_iter();
-        let mut judge = Judge::new();
+        let mut judge = Judge::rust();
         let mut list = Vec::new();
         for _ in 0..length {
             let call = presets.next().unwrap_or_else(|| random::call(&mut random, &style, &judge.tables()));
@@ -77,7 +77,7 @@ pub fn print(seed: u64, calls: u64, length: usize) -> bool {
 
 fn print_list(list: &[Call], left: &str) {
     println!("sizes {}", engine::utils::mirror::sizes());
-    let mut judge = Judge::new();
+    let mut judge = Judge::rust();
     for (k, call) in list.iter().enumerate() {
         let left = if k + 1 == list.len() { format!(" # leaves {left}") } else { String::new() };
         println!("{call} -> {}{left}", show(&judge.perform(call)));
@@ -91,7 +91,7 @@ pub fn check(file: &str) -> Result<bool, String> {
     let (mut judge, mut ways) = (None, 0);
     for (k, stored) in text.lines().enumerate() {
         if stored.starts_with("sizes ") {
-            judge = (stored == own).then(Judge::new);
+            judge = (stored == own).then(Judge::rust);
             continue;
         }
         let call = parse(stored).map_err(|e| format!("{file}: line {}: {e}", k + 1))?;

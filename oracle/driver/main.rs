@@ -7,8 +7,8 @@ use shared::calls::{show, Call};
 use shared::lists::parse;
 use shared::tables::Tables;
 
-use driver::judge::{self, Judge};
-use driver::{compare, fixed, former, leftovers, ours, outside, sample, script, scripts};
+use driver::judge::Judge;
+use driver::{compare, fixed, former, leftovers, ours, outside, panics, sample, script, scripts};
 
 const USAGE: &str = "driver run [tables|words]              answers to the calls on standard input; then every entry, or every word, of the tables
 driver compare SEED CALLS LENGTH       random lists, the Rust beside the reference
@@ -32,7 +32,7 @@ driver leftovers SEED CALLS LENGTH     what a failing call leaves behind in the 
 driver leftovers FILE                  these lists, run again";
 
 fn main() -> ExitCode {
-    judge::keep_panics();
+    panics::keep_panics();
     let args: Vec<String> = std::env::args().skip(1).collect();
     let words: Vec<&str> = args.iter().map(String::as_str).collect();
     match command(&words) {

@@ -78,9 +78,9 @@ pub fn numbers(call: &Call, answer: &Answer) -> Vec<u64> {
         Reply::Done => vec![0],
         Reply::Domain(h) => vec![h.slot, h.gen],
         Reply::Local(n) | Reply::Number(n) => vec![*n],
-        Reply::Popped(None) => vec![0; 4],
-        Reply::Popped(Some(Update::Permission { domain, cores })) => vec![1, domain.slot, domain.gen, *cores],
-        Reply::Popped(Some(Update::Cleanup { start, end })) => vec![2, *start, *end, 0],
+        Reply::Popped(None) => vec![0; 5],
+        Reply::Popped(Some(Update::Permission { domain, cores, marks })) => vec![1, domain.slot, domain.gen, *cores, *marks],
+        Reply::Popped(Some(Update::Cleanup { start, end })) => vec![2, *start, *end, 0, 0],
         Reply::Permissions(l) => {
             let records = l.iter().flat_map(|a| [a.start, a.end, a.rights as u64]);
             [l.len() as u64].into_iter().chain(records).collect()
@@ -217,7 +217,7 @@ pub fn compare(program: &str, seed: u64, calls: u64, length: usize) -> Result<bo
             return print_list(program, lists.swap_remove(at));
         }
     }
-    println!("{total} random calls answered by the proved engine as by the Rust, with the same hash of the tables' words after each");
+    println!("{total} random calls answered by the proved engine as by the Rust, the marks as by the reference, with the same hash of the tables' words after each");
     println!("{met}");
     Ok(true)
 }
@@ -249,6 +249,6 @@ pub fn sample(program: &str, file: &str) -> Result<bool, String> {
             return print_list(program, list);
         }
     }
-    println!("{calls} calls of {file} answered by the proved engine as by the Rust, with the same hash of the tables' words after each");
+    println!("{calls} calls of {file} answered by the proved engine as by the Rust, the marks as by the reference, with the same hash of the tables' words after each");
     Ok(calls > 0)
 }

@@ -26,7 +26,7 @@ pub fn sizes_fit() -> Result<(), String> {
 
 /// Runs a script on the Rust engine. A bad record is a call of its own, refused with 17, and the last one.
 pub fn answer(script: &[u8]) -> Answered {
-    let mut judge = Judge::new();
+    let mut judge = Judge::rust();
     let mut answers = Vec::new();
     let mut left = script;
     loop {
@@ -83,7 +83,7 @@ fn queue_lines(judge: &mut Judge) -> Vec<String> {
     let mut lines = Vec::new();
     while let Ok(Reply::Popped(Some(update))) = judge.perform(&Call::Pop) {
         lines.push(match update {
-            Update::Permission { domain, cores } => format!("p {} {cores}", domain.slot),
+            Update::Permission { domain, cores, .. } => format!("p {} {cores}", domain.slot),
             Update::Cleanup { start, end } => format!("c {start} {end}"),
         });
     }

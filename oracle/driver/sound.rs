@@ -1,7 +1,7 @@
 //! Document 01's paragraph **Sound**, tested on tables clause by clause, in plain loops.
 
 use crate::calls::{Handle, Update};
-use crate::decode::{decode, without_hashes, without_interfaces};
+use crate::decode::{decode, without_hashes, without_interfaces, without_marks};
 use crate::tables::{Capa, Domain, Kind, Pool, Region, Tables};
 
 /// The first clause that the tables break, if any.
@@ -13,6 +13,7 @@ pub fn broken_clause(t: &Tables) -> Option<&'static str> {
 pub fn fault(words: &[u64]) -> Option<&'static str> {
     let but_for = |zeroed: Option<Vec<u64>>| zeroed.is_some_and(|w| decode(&w).is_some());
     match decode(words) {
+        None if but_for(without_marks(words)) => Some(MARKS),
         None if but_for(without_interfaces(words)) => Some(INTERFACES),
         None if but_for(without_hashes(words)) => Some(HASHES),
         None => Some(WORDS),
@@ -22,10 +23,11 @@ pub fn fault(words: &[u64]) -> Option<&'static str> {
 
 /// What `fault` can name.
 pub fn clauses() -> impl Iterator<Item = &'static str> {
-    CLAUSES.iter().map(|(name, _)| *name).chain([INTERFACES, HASHES, WORDS])
+    CLAUSES.iter().map(|(name, _)| *name).chain([MARKS, INTERFACES, HASHES, WORDS])
 }
 
-/// They are the words of tables but for their rows of interfaces; but for those and their rows of hashes.
+/// They are the words of tables but for their marks; but for those and their rows of interfaces; but for these and their rows of hashes.
+const MARKS: &str = "a queued domain's marks are below 32; zeroes where none is queued";
 const INTERFACES: &str = "a row of the interfaces has a word, and 1 or 0; zeroes where no domain is";
 const HASHES: &str = "a row of the hashes has 1 and four words, or zeroes; zeroes where no region is";
 const WORDS: &str = "they are the words of tables";

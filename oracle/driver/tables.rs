@@ -143,7 +143,7 @@ fn update_words(update: &Update) -> [u64; 4] {
 }
 
 /// The marks of the domain queued at a place; 0 for anything else.
-fn marks_word(update: &Option<Update>) -> u64 {
+pub fn marks_word(update: &Option<Update>) -> u64 {
     match *update {
         Some(Update::Permission { marks, .. }) => marks,
         _ => 0,

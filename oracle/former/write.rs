@@ -1,6 +1,7 @@
 //! Lists of calls on the last delivery's library: each with its answers, and the words of the tables behind it (oracle/former/make).
 
-// That delivery's own.
+// That delivery's own; its converter is not used.
+#[allow(dead_code)]
 mod exported;
 
 use exported::Numbers;
@@ -64,7 +65,7 @@ fn answer(call: &Call, [refusal, a, b, c, d]: Numbers) -> Answer {
     }
     Ok(match call {
         Call::Open { .. } => Reply::Domain(Handle { slot: a, gen: b }),
-        Call::SetCores { .. } | Call::Revoke { .. } => Reply::Done,
+        Call::SetCores { .. } | Call::Revoke { .. } | Call::SetInterface { .. } | Call::FreezeInterface { .. } => Reply::Done,
         Call::Pop => Reply::Popped(match a {
             0 => None,
             1 => Some(Update::Permission { domain: Handle { slot: b, gen: c }, cores: d }),

@@ -280,7 +280,7 @@ fn record_of(r: &RegionMirror) -> tables::Record {
 /// An update as document 01 has it.
 pub fn update_of(u: Update) -> calls::Update {
     match u {
-        Update::PermissionUpdate { domain, core_map } => calls::Update::Permission { domain: numbers(domain), cores: core_map },
+        Update::PermissionUpdate { domain, core_map } => calls::Update::Permission { domain: numbers(domain), cores: core_map, marks: 0 },
         Update::Cleanup { start, end } => calls::Update::Cleanup { start: start as u64, end: end as u64 },
         _ => panic!("no compared call queues another update"),
     }

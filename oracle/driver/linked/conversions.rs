@@ -4,7 +4,6 @@
 use std::collections::BTreeMap;
 use std::time::Duration;
 
-use shared::calls::show;
 use shared::decode::{former_total, total};
 use shared::sound::{clauses, fault};
 
@@ -51,7 +50,7 @@ struct Converter {
 impl Converter {
     fn new(seed: u64) -> Converter {
         // The section that is added is always right, so that no input breaks its clause.
-        let old = clauses().filter(|name| !name.contains("interfaces"));
+        let old = clauses().filter(|name| !name.contains("marks"));
         let met = old.chain([SOUND, SIZES, LENGTHS]).map(|name| (name, 0)).collect();
         Converter { random: Random(seed), number: 0, met, runs: Runs::new([0; 4], true), longest: Duration::ZERO, answers: Answers::new() }
     }
@@ -83,7 +82,7 @@ impl Converter {
         self.longest = self.longest.max(lent::processor_time() - began);
         self.answers.add(got);
         let after = expected.filter(|_| clause.is_none()).unwrap_or(before);
-        if got != [u64::from(clause.is_some()), 0, 0, 0, 0] {
+        if got != exported::refused(u64::from(clause.is_some())) {
             return Err(format!("answered {got:?}; the clause that is broken: {clause:?}"));
         }
         if let Some(k) = (0..after.len()).find(|&k| t[k] != after[k]) {
@@ -166,7 +165,7 @@ fn contents(converter: &mut Converter, shape: &Shape) -> Result<(), String> {
 
     let mut words = vec![0; n];
     let made = exported::make(&mut words, &mut vec![9; n], z);
-    assert!(made == [0; 5], "making {z:?}: {made:?}");
+    assert!(made == exported::refused(0), "making {z:?}: {made:?}");
     let (kind, kept) = (converter.random.below(4), converter.random.below(old as u64 + 1) as usize);
     words.iter_mut().skip(5.max(kept)).for_each(|word| match kind {
         0 => *word = converter.random.next(),
@@ -206,18 +205,18 @@ pub fn convert(seed: u64, shapes: u64, length: usize, words: usize) -> bool {
 
 // ---- kept tables
 
-/// Converts them, and runs their list on this delivery: the same answers and the same words.
+/// Converts them, and runs their list on this delivery: the same answers and the same words, but for the marks.
 fn one_kept(converter: &mut Converter, kept: &Kept) -> Result<(), String> {
     let mut both = Both::make(converter.random.next())?;
     for (k, (call, stored)) in kept.calls.iter().enumerate() {
-        let answer = show(&both.perform(k as u64, call).map_err(|what| format!("call {}, {call}: {what}", k + 1))?);
+        let answer = former::show_former(&both.perform(k as u64, call).map_err(|what| format!("call {}, {call}: {what}", k + 1))?);
         if answer != *stored {
             return Err(format!("call {}, {call}: {answer}; the last delivery: {stored}", k + 1));
         }
     }
     converter.fitting(&kept.words, both.lent.len())?;
     let converted = &converter.runs.0[1];
-    let differs = (0..converted.len()).find(|&k| converted[k] != both.lent[k]);
+    let differs = (0..kept.words.len()).find(|&k| converted[k] != both.lent[k]);
     differs.map_or(Ok(()), |k| Err(format!("word {k} is {} after the list, {} converted", both.lent[k], converted[k])))
 }
 
@@ -231,6 +230,6 @@ pub fn kept(file: &str) -> Result<bool, String> {
             return Ok(false);
         }
     }
-    println!("{} tables of {file} converted to the words that their lists make here", kept.len());
+    println!("{} tables of {file} converted to the words that their lists make here, each queued domain with all marks", kept.len());
     Ok(!kept.is_empty())
 }

@@ -78,7 +78,7 @@ fn agrees(clause: Option<&str>, got: Numbers, before: &[u64], after: &[u64], wor
     if (got[0] == 1) != clause.is_some() {
         return Err(format!("answered {got:?}; the clause that is broken: {clause:?}"));
     }
-    if got[0] != 0 && (got[1..] != [0; 4] || before != after || run != [7; 6]) {
+    if got[0] != 0 && (got != exported::refused(got[0]) || before != after || run != [7; 6]) {
         return Err(format!("refused with {got:?}, but something changed or was returned"));
     }
     if let Some(broken) = (got[0] == 0 && before != after).then(|| fault(after)).flatten() {
@@ -161,7 +161,7 @@ fn any_words(tester: &mut Tester, shape: &Shape) -> Result<(), String> {
     let n = total_of(z);
     let mut words = vec![0; n];
     let made = exported::make(&mut words, &mut vec![9; n], z);
-    assert!(made == [0; 5], "making {z:?}: {made:?}");
+    assert!(made == exported::refused(0), "making {z:?}: {made:?}");
     let (kind, kept) = (tester.random.below(4), tester.random.below(n as u64 + 1) as usize);
     let random = &mut tester.random;
     words.iter_mut().skip(5.max(kept)).for_each(|w| match kind {

@@ -24,8 +24,8 @@ fn sampled(random: &mut Random, words: &[u64], k: usize) -> usize {
     at
 }
 
-/// Single words, `words` of them or all, with several values each; and for each word four edits of several words, four twists, and a row
-/// of the hashes and of the interfaces.
+/// Single words, `words` of them or all, with several values each; and for each word four edits of several words, four twists, a row
+/// of the hashes and of the interfaces, and marks.
 pub fn each(tester: &mut impl Tester, shape: &Shape, words: usize) -> Result<(), String> {
     let n = shape.words.len();
     let all = words >= n;
@@ -38,7 +38,8 @@ pub fn each(tester: &mut impl Tester, shape: &Shape, words: usize) -> Result<(),
             let edits = [shapes::several(tester.random(), &shape.words), twists::twist(tester.random(), shape)];
             edits.into_iter().try_for_each(|edits| tester.with_edits(shape, edits))?;
         }
-        let rows = [shapes::hash_row(tester.random(), shape), shapes::interface_row(tester.random(), shape)];
+        let random = tester.random();
+        let rows = [shapes::hash_row(random, shape), shapes::interface_row(random, shape), shapes::marks(random, shape)];
         rows.into_iter().try_for_each(|row| tester.with_edits(shape, row))?;
     }
     Ok(())

@@ -24,26 +24,32 @@ pub struct UpdateReply {
     a: u64,
     b: u64,
     c: u64,
+    marks: u64,
 }
 
-/// The refusal's number or 0, and up to four values, 0 where there is none.
-pub type Numbers = [u64; 5];
+/// The refusal's number or 0, and up to five values, 0 where there is none.
+pub type Numbers = [u64; 6];
+
+/// A refusal gives its number and nothing else; 0: accepted, with no value.
+pub fn refused(number: u64) -> Numbers {
+    [number, 0, 0, 0, 0, 0]
+}
 
 impl From<Reply> for Numbers {
     fn from(r: Reply) -> Numbers {
-        [r.refusal, r.value, 0, 0, 0]
+        [r.refusal, r.value, 0, 0, 0, 0]
     }
 }
 
 impl From<DomainReply> for Numbers {
     fn from(r: DomainReply) -> Numbers {
-        [r.refusal, r.slot, r.generation, 0, 0]
+        [r.refusal, r.slot, r.generation, 0, 0, 0]
     }
 }
 
 impl From<UpdateReply> for Numbers {
     fn from(r: UpdateReply) -> Numbers {
-        [r.refusal, r.kind, r.a, r.b, r.c]
+        [r.refusal, r.kind, r.a, r.b, r.c, r.marks]
     }
 }
 

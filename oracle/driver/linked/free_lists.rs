@@ -105,7 +105,7 @@ impl Shape {
         let mut words = vec![0; total(&named(z))];
         let mut work = words.clone();
         let made = exported::make(&mut words, &mut work, z);
-        if made != [0; 5] {
+        if made != exported::refused(0) {
             return Err(format!("making is answered {made:?}"));
         }
         let open = Call::Open { manager: None, cores: 0 };
@@ -165,7 +165,7 @@ fn lend((t, w): &mut (Lent, Lent), words: &[u64], sound: bool) -> Result<(), Str
     t.copy_from_slice(words);
     w.fill(u64::MAX);
     let got = exported::perform(t, w, &Call::Pop, &mut []);
-    if got != [u64::from(!sound), 0, 0, 0, 0] {
+    if got != exported::refused(u64::from(!sound)) {
         return Err(format!("answered {got:?}; the clause that is broken: {clause:?}"));
     }
     if let Some(k) = (0..words.len()).find(|&k| t[k] != words[k]) {

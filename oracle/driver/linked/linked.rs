@@ -51,8 +51,8 @@ fn other_length(random: &mut Random, n: usize) -> usize {
 fn expected(call: &Call, answer: &Answer) -> Numbers {
     let numbers = numbers(call, answer);
     let listed = matches!(call, Call::Permissions { .. } | Call::Holders { .. });
-    let mut out = [0; 5];
-    out.iter_mut().zip(&numbers).take(if listed { 2 } else { 5 }).for_each(|(place, n)| *place = *n);
+    let mut out = exported::refused(0);
+    out.iter_mut().zip(&numbers).take(if listed { 2 } else { 6 }).for_each(|(place, n)| *place = *n);
     out
 }
 
@@ -81,7 +81,7 @@ impl Both {
         both.refused_makings()?;
         fill(&mut both.random, &mut both.work);
         let got = exported::make(&mut both.lent, &mut both.work, sizes());
-        both.check("make", got, [0; 5])?;
+        both.check("make", got, exported::refused(0))?;
         Ok(both)
     }
 
@@ -97,7 +97,7 @@ impl Both {
             fill(&mut self.random, &mut w);
             let before = t.to_vec();
             let got = exported::make(&mut t, &mut w, z);
-            if got != [refusal, 0, 0, 0, 0] || *t != before[..] || w.iter().any(|w| *w != 0) {
+            if got != exported::refused(refusal) || *t != before[..] || w.iter().any(|w| *w != 0) {
                 return Err(format!("making {z:?} in {tables} words with a work area of {work}: {got:?}"));
             }
         }
@@ -143,7 +143,7 @@ impl Both {
         fill(&mut self.random, &mut run);
         let before = run.to_vec();
         let got = exported::perform(&mut self.lent, &mut self.work, call, &mut run);
-        self.check("with a work area of another length: ", got, [1, 0, 0, 0, 0])?;
+        self.check("with a work area of another length: ", got, exported::refused(1))?;
         std::mem::swap(&mut work, &mut self.work);
         (*run == before[..]).then_some(()).ok_or("with a work area of another length the run changed".to_string())
     }
@@ -203,7 +203,7 @@ pub fn compare(seed: u64, calls: u64, length: usize) -> bool {
         }
         total += list.len() as u64;
     }
-    println!("{total} random calls answered by the linked library as by the Rust, with the same words after each");
+    println!("{total} random calls answered by the linked library as by the Rust, the marks as by the reference, with the same words after each");
     println!("{met}");
     true
 }

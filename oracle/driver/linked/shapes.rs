@@ -1,6 +1,6 @@
 //! Sound tables of many shapes, made by random lists of calls, and ways to damage them.
 
-use shared::calls::{Access, Call, Extras, Handle, RegionHash};
+use shared::calls::{Access, Call, Extras, Handle, RegionHash, Update};
 use shared::decode::decode;
 use shared::tables::Tables;
 
@@ -80,17 +80,37 @@ pub fn several(random: &mut Random, words: &[u64]) -> Edits {
 /// A row of the hashes, which stand before the interfaces: a hash, none, and rows that are neither. A free slot's has to be zero.
 pub fn hash_row(random: &mut Random, shape: &Shape) -> Edits {
     let sizes = engine::utils::mirror::sizes();
-    let row = shape.words.len() - 2 * sizes.domains - 5 * (1 + random.below(sizes.regions as u64) as usize);
+    let row = marks_at(shape) - 2 * sizes.domains - 5 * (1 + random.below(sizes.regions as u64) as usize);
     let [given, word] = random.pick(&[[0, 0], [1, 0], [1, 9], [0, 9], [2, 0], [2, 9], [u64::MAX, 9]]);
     let set = 1 + random.below(4) as usize;
     [(row, given)].into_iter().chain((1..5).map(|k| (row + k, if k == set { word } else { 0 }))).collect()
 }
 
-/// A row of the interfaces, which stand last: any word, frozen or not, and rows that are neither. A free slot's has to be zero.
+/// A row of the interfaces, which stand before the marks: any word, frozen or not, and rows that are neither. A free slot's has to be zero.
 pub fn interface_row(random: &mut Random, shape: &Shape) -> Edits {
-    let row = shape.words.len() - 2 * (1 + random.below(engine::utils::mirror::sizes().domains as u64) as usize);
+    let row = marks_at(shape) - 2 * (1 + random.below(engine::utils::mirror::sizes().domains as u64) as usize);
     let word = random.pick(&[0, 26, 1, u64::MAX]);
     vec![(row, word), (row + 1, random.pick(&[0, 1, 2, 26, u64::MAX]))]
+}
+
+/// Where the marks begin: they stand last, one word for each place of the ring.
+fn marks_at(shape: &Shape) -> usize {
+    shape.words.len() - engine::utils::mirror::sizes().updates - 1
+}
+
+/// The marks of a place, mostly of one where a domain is queued: any below 32, and others. Beside a range to clean up and an empty place has
+/// to be 0. Or those of two places exchanged.
+pub fn marks(random: &mut Random, shape: &Shape) -> Edits {
+    let places = shape.tables().places;
+    let domains: Vec<usize> = (0..places.len()).filter(|&k| matches!(places[k], Some(Update::Permission { .. }))).collect();
+    let any = random.below(places.len() as u64) as usize;
+    let place = marks_at(shape) + if domains.is_empty() || random.one_in(3) { any } else { random.pick(&domains) };
+    if random.one_in(4) {
+        let other = marks_at(shape) + any;
+        return vec![(place, shape.words[other]), (other, shape.words[place])];
+    }
+    let (below, above) = (random.below(32), random.pick(&[32, 33, 63, 64, 1 << 32, 1 << 63, u64::MAX]));
+    vec![(place, if random.one_in(2) { below } else { above })]
 }
 
 /// The exported calls in turn, on a domain that is live, if any is.

@@ -10,8 +10,8 @@ use driver::random::Random;
 /// What a twist does; none where the tables have no place for it.
 type Twist = fn(&mut Random, &mut Tables) -> Option<()>;
 
-const TWISTS: [Twist; 11] =
-    [split, drop_record, add_record, manager, second_slot, forged, emptied, move_child, circle, free_order, ring];
+const TWISTS: [Twist; 12] =
+    [split, drop_record, add_record, manager, second_slot, forged, emptied, move_child, circle, free_order, ring, marks];
 
 /// One or two twists, as edits of the words.
 pub fn twist(random: &mut Random, shape: &Shape) -> Edits {
@@ -218,9 +218,21 @@ fn ring(random: &mut Random, t: &mut Tables) -> Option<()> {
     let d = random.below(t.domains.len() as u64);
     let mut domain = domain_handle(t, d);
     domain.gen = domain.gen.wrapping_sub(u64::from(random.one_in(4)));
-    let update = random.pick(&[Update::Permission { domain, cores: 5 }, Update::Permission { domain, cores: 0 }, Update::Cleanup { start: 9, end: 2 }]);
+    let marks = random.pick(&[0, 1, 31, 32]);
+    let queued = |cores| Update::Permission { domain, cores, marks };
+    let update = random.pick(&[queued(5), queued(0), Update::Cleanup { start: 9, end: 2 }]);
     // Also where the ring is full: the write place then meets the read place.
     t.places[t.write as usize] = Some(update);
     t.write = (t.write + 1) % places;
+    Some(())
+}
+
+/// Other marks beside all queued domains, which are as good.
+fn marks(random: &mut Random, t: &mut Tables) -> Option<()> {
+    for update in t.places.iter_mut().flatten() {
+        if let Update::Permission { marks, .. } = update {
+            *marks = random.below(32);
+        }
+    }
     Some(())
 }
