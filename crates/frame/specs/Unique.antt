@@ -44,8 +44,8 @@ domain-tells = record {
 
 pub update-tells : Tells updateReplyOf
 update-tells = record {
-  from = λ n. record { refusal = n .0; kind = getD (n .1) 0 0; a = getD (n .1) 1 0; b = getD (n .1) 2 0; c = getD (n .1) 3 0 };
-  same = λ a i. record { refusal = code-told a i; kind = value-told a 0 i; a = value-told a 1 i; b = value-told a 2 i; c = value-told a 3 i };
+  from = λ n. record { refusal = n .0; kind = getD (n .1) 0 0; a = getD (n .1) 1 0; b = getD (n .1) 2 0; c = getD (n .1) 3 0; marks = getD (n .1) 4 0 };
+  same = λ a i. record { refusal = code-told a i; kind = value-told a 0 i; a = value-told a 1 i; b = value-told a 2 i; c = value-told a 3 i; marks = value-told a 4 i };
 }
 
 -- ---- what is settled
