@@ -1,13 +1,10 @@
--- Domains, their interfaces, and channels on the tables, each call as the model has it, check by check.
+-- Domains and channels on the tables, each call as the model has it, check by check.
 use Prim.Native.Nat.{ℕ}
-use lib.Dec.{eqb}
-use Rattle.base.specs.Cases.{pick}
 use Rattle.tables.specs.declared.Handle.{Handle}
 use Rattle.tables.specs.declared.DomainHead.{DomainHead}
 use Rattle.tables.specs.Kinds.{MANAGEMENT, CHANNEL}
-use Rattle.tables.specs.Tables.{Tables, headAt, interfaceAt, withHead, withInterface}
-use Rattle.refusals.specs.Refusals.{isFrozen}
-use Rattle.answers.specs.Answers.{Effect, done, refused, andThen}
+use Rattle.tables.specs.Tables.{Tables, headAt, withHead}
+use Rattle.answers.specs.Answers.{Effect, done, andThen}
 use Rattle.tables.specs.Links.{linkTo}
 use Rattle.domain.specs.Activate.{reserve, insert}
 use Rattle.domain.specs.Opened.{newDomain}
@@ -37,12 +34,3 @@ withCores h cores = record { manager = h .manager; cores = cores; tracker = h .t
 
 unfoldable pub setCoreMap : Handle → ℕ → Tables → Effect
 setCoreMap h cores s = andThen (liveDomain h s) (λ d s₁. done 0 (withHead s₁ d (withCores (headAt s₁ d) cores)))
-
--- 21 where the word is frozen
-unfoldable pub setInterface : Handle → ℕ → Tables → Effect
-setInterface h word s =
-    andThen (liveDomain h s) (λ d s₁.
-    pick (eqb (interfaceAt s₁ d .frozen) 0) (done 0 (withInterface s₁ d (record { word = word; frozen = 0 }))) (refused isFrozen s₁))
-
-unfoldable pub freezeInterface : Handle → Tables → Effect
-freezeInterface h s = andThen (liveDomain h s) (λ d s₁. done 0 (withInterface s₁ d (record { word = interfaceAt s₁ d .word; frozen = 1 })))

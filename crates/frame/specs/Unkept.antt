@@ -22,7 +22,8 @@ use Rattle.answers.specs.declared.Answer.{Answer}
 use Rattle.answers.specs.declared.Answer.the-variants.{Done, Refused}
 use Rattle.answers.specs.Answers.{andThen}
 use Rattle.checks.specs.Checks.{liveDomain}
-use Rattle.domain_calls.specs.Calls.{setCoreMap, setInterface, freezeInterface}
+use Rattle.domain_calls.specs.Calls.{setCoreMap}
+use Rattle.interface_calls.specs.Calls.{setInterface, freezeInterface}
 use Rattle.call.specs.declared.Call.{Call}
 use Rattle.call.specs.declared.Call.the-variants.{Open, OpenUnder, Channel, SetCoreMap, SetInterface, FreezeInterface, Root, Alias, Carve, Send, Revoke, CreateRevokeCapa}
 use Rattle.call.specs.Steps.{stepNamed}

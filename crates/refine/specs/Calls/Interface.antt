@@ -15,7 +15,7 @@ use Rattle.laws.specs.Keep.Base.{Base, sound-base}
 use Rattle.tables.specs.declared.Handle.{Handle}
 use Rattle.tables.specs.declared.Interface.{Interface}
 use Rattle.tables.specs.Tables.{interfaceAt, withInterface}
-use Rattle.domain_calls.specs.Calls.{setInterface, freezeInterface}
+use Rattle.interface_calls.specs.Calls.{setInterface, freezeInterface}
 use Rattle.decoded.specs.Tables.{interfaceFor, tablesOf}
 use Rattle.refine.specs.Arenas.Pools.{handleIn}
 use Rattle.refine.specs.Agrees.{Agrees, agrees-call, ok-then, bind-assoc, then-bind}

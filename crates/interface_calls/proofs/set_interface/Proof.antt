@@ -3,10 +3,10 @@ use mathlib.Core.Path.{refl}
 use borrow.Author.Tests.{eq-eqb, ne-eqb}
 use Rattle.answers.specs.Then.{stays, on-done, on-refused}
 use Rattle.checks.specs.Reads.{ran-domain}
-use Rattle.domain_calls.specs.Calls.{setInterface}
+use Rattle.interface_calls.specs.Calls.{setInterface}
 use borrow.Author.Needs.{needs}
-use Rattle.domain_calls.proofs.set_interface.Statement.{statement}
-use Rattle.domain_calls.proofs.set_interface.Tie as tie
+use Rattle.interface_calls.proofs.set_interface.Statement.{statement}
+use Rattle.interface_calls.proofs.set_interface.Tie as tie
 
 live-domain-requires : tie.Need-live-domain-requires
 live-domain-requires c κs = search needs

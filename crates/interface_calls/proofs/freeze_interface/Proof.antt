@@ -2,10 +2,10 @@
 use mathlib.Core.Path.{refl}
 use Rattle.answers.specs.Then.{on-done, on-refused}
 use Rattle.checks.specs.Reads.{ran-domain}
-use Rattle.domain_calls.specs.Calls.{freezeInterface}
+use Rattle.interface_calls.specs.Calls.{freezeInterface}
 use borrow.Author.Needs.{needs}
-use Rattle.domain_calls.proofs.freeze_interface.Statement.{statement}
-use Rattle.domain_calls.proofs.freeze_interface.Tie as tie
+use Rattle.interface_calls.proofs.freeze_interface.Statement.{statement}
+use Rattle.interface_calls.proofs.freeze_interface.Tie as tie
 
 live-domain-requires : tie.Need-live-domain-requires
 live-domain-requires c κs = search needs
