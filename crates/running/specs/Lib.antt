@@ -1,4 +1,3 @@
-pub mod Given
 pub mod Named
 pub mod Takes
 pub mod Outcomes

@@ -1,8 +1,7 @@
 // A script's records, run as calls (document 01, "The script program").
-pub mod perform;
+mod perform;
 pub mod scripts;
 
-pub use perform::run;
 pub use scripts::Ran;
 pub use scripts::Taken;
 pub use scripts::run_script;

@@ -1,5 +1,5 @@
 -- By what parsing found; a parsed record is one that `run` takes.
-use Rattle.running.specs.Given.{parsed-given}
+use Rattle.naming.specs.Given.{parsed-given}
 use Rattle.running.specs.Takes.{left-short, left-bad, record-runs}
 use mathlib.Core.Path.{sym, _∙_}
 use borrow.Author.Needs.{needs}

@@ -4,10 +4,10 @@ use Prim.Native.Nat.{_<_}
 use native.Mathlib.Omega.{arith}
 use Rattle.model.specs.Perform.{Call}
 use Rattle.script_records.specs.Script.{kindOf}
-use Rattle.running.specs.Named.{rights-at, names-at}
+use Rattle.naming.specs.Named.{rights-at, names-at}
 use borrow.Author.Needs.{needs}
-use Rattle.running.proofs.perform.call_of.Statement.{statement}
-use Rattle.running.proofs.perform.call_of.Tie as tie
+use Rattle.naming.proofs.call_of.Statement.{statement}
+use Rattle.naming.proofs.call_of.Tie as tie
 
 opening-requires : tie.Need-opening-requires
 opening-requires c κs = search needs

@@ -1,8 +1,8 @@
 -- By whether there is a manager.
 use borrow.Author.Needs.{needs}
-use Rattle.running.specs.Named.{alone-is, under-is}
-use Rattle.running.proofs.perform.opening.Statement.{statement}
-use Rattle.running.proofs.perform.opening.Tie as tie
+use Rattle.naming.specs.Named.{alone-is, under-is}
+use Rattle.naming.proofs.opening.Statement.{statement}
+use Rattle.naming.proofs.opening.Tie as tie
 
 returns : tie.Need-returns
 returns c = (alone-is ((c .before .before .args .r) .a) ((c .before .before .args .r) .b) ((c .before .before .args .r) .c) (c .if1 .taken), search needs)
