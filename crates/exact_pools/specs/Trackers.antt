@@ -19,11 +19,11 @@ use Rattle.tables.specs.declared.Region.{Region}
 use Rattle.tables.specs.Tables.{Tables, noDomain, noRecord, headAt, recordAt}
 use Rattle.decoded.specs.Decode.Read.{chainFrom, taken, recordFrom, domainRead}
 use Rattle.decoded.specs.Canonical.Ends.{chainEnd}
-use Rattle.sound_pools.specs.declared.links.Stack.the-variants.{Trackers}
-use Rattle.decoded.specs.Canonical.Ends.{chainEnd}
-use Rattle.sound_pools.specs.Walk.{covered, met}
-use Rattle.sound_pools.specs.Hold.{mayMeet, eligible, nextOf, onward, trackersMet, trackersHold}
-use Rattle.sound_pools.specs.Counting.{covers-at, at-covers}
+use Rattle.sound_lists.specs.declared.links.Stack.the-variants.{Trackers}
+use Rattle.sound_lists.specs.Walk.{covered, met}
+use Rattle.sound_lists.specs.Stacks.{mayMeet, eligible, nextOf}
+use Rattle.sound_lists.specs.Counting.{covers-at, at-covers}
+use Rattle.sound_pools.specs.Hold.{onward, trackersMet, trackersHold}
 use Rattle.exact_pools.specs.Walks.{marked-once, once-marked, Met, met-is, Goes, is-met}
 use Rattle.exact_pools.specs.Pools.{inside-of}
 use Rattle.exact_pools.specs.Domains.{domain-free}

@@ -1,10 +1,5 @@
-pub mod Walk
 pub mod Hold
-pub mod Counting
-pub mod Marks
-pub mod Reads
+pub mod Passed
 pub mod Rows
-pub mod Loops
-pub mod Turns
+pub mod Trackers
 pub mod Answers
-pub mod Checked

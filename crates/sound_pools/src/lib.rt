@@ -4,12 +4,11 @@ ghost use mathlib.Core.Path.{_≡_};
 ghost use lib.ListN.{length, replicate};
 ghost use Rattle.tables.specs.View.{view, Sized};
 ghost use Rattle.sound_pools.specs.Hold.{outsidePoolsHold, recordPoolHolds};
+use sound_lists::links::Stack;
+use sound_lists::walks;
 
-pub mod links;
 pub mod rows;
-pub mod walks;
-
-pub use links::Stack;
+pub mod trackers;
 
 // The pools of domains and of regions, with their rows and the slot lists. `w` is a work area as long as the tables, and all zero.
 pub fn outside_pools_hold(t: &[u64], w: &mut [u64]) -> bool
@@ -37,6 +36,6 @@ pub fn record_pool_holds(t: &[u64], w: &mut [u64]) -> bool
 {
     let stack = walks::stack_holds(t, Stack::Records, w);
     let rows = rows::records_hold(t);
-    let trackers = walks::trackers_hold(t, w);
+    let trackers = trackers::trackers_hold(t, w);
     words::both(words::both(stack, rows), trackers)
 }

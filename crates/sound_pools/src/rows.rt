@@ -1,13 +1,13 @@
 // Rows: what is free is all zero, and a domain in use has a list that holds.
 ghost use mathlib.Core.Path.{_≡_};
 ghost use Rattle.tables.specs.View.{view, Sized};
+ghost use Rattle.sound_lists.specs.Marks.{Clean};
 ghost use Rattle.sound_pools.specs.Hold.{headClear, slotClear, slotWellFormed, slotFits, regionClear, recordClear, slotsHold, domainHolds, rowsHold};
-ghost use Rattle.sound_pools.specs.Marks.{Clean};
 ghost use Rattle.sound_pools.specs.Rows.{regionFits, recordFits};
-use crate::links;
-use crate::links::Stack;
-use crate::walks;
 use pools::Pool;
+use sound_lists::links;
+use sound_lists::links::Stack;
+use sound_lists::walks;
 use tables::DomainHead;
 use tables::Region;
 use tables::RegionCapa;

@@ -8,7 +8,7 @@ use lib.ListN.{length}
 use Rattle.base.specs.Tests.{allFrom}
 use Rattle.tables.specs.View.{view}
 use Rattle.sound_pools.specs.Hold.{domainHolds, rowHolds, rowsHold}
-use Rattle.sound_pools.specs.Marks.{Passed, passed-start, passed-go, passed-stop, passed-end}
+use Rattle.sound_pools.specs.Passed.{Passed, passed-start, passed-go, passed-stop, passed-end}
 use Rattle.sound_pools.specs.Answers.{clean-same}
 use Rattle.sound_pools.proofs.rows.domains_hold.Statement.{statement}
 use Rattle.sound_pools.proofs.rows.domains_hold.Tie as tie

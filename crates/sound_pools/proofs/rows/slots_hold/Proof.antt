@@ -4,7 +4,7 @@ use borrow.Author.Tests.{not-true, not-false}
 use mathlib.Core.Path.{sym, ap, _∙_}
 use native.Mathlib.Omega.{arith}
 use Rattle.sound_pools.specs.Hold.{slotFits, slotsHold}
-use Rattle.sound_pools.specs.Marks.{Passed, passed-start, passed-go, passed-stop, passed-end}
+use Rattle.sound_pools.specs.Passed.{Passed, passed-start, passed-go, passed-stop, passed-end}
 use Rattle.tables.specs.View.{view}
 use borrow.Author.Needs.{needs}
 use Prim.Native.Nat.{_-_}
