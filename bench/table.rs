@@ -4,6 +4,7 @@ use std::hint::black_box;
 
 use engine::utils::mirror;
 use engine::CapaEngine;
+use shared::decode::former_total;
 
 use crate::timing::{self, Times};
 
@@ -12,11 +13,12 @@ pub fn words(e: &CapaEngine) -> Vec<u64> {
     mirror::tables(e).words()
 }
 
-/// An operation on both, which leaves the same tables on both.
+/// An operation on both, which leaves the same tables on both. The marks, which stand last, are left out: the Rust has none.
 pub fn once(name: &str, t: &mut [u64], e: &mut CapaEngine, mut ours: impl FnMut(&mut [u64]), mut rust: impl FnMut(&mut CapaEngine)) {
     ours(t);
     rust(e);
-    assert!(*t == words(e), "{name}: the two engines differ");
+    let compared = former_total(&mirror::sizes());
+    assert!(t[..compared] == words(e)[..compared], "{name}: the two engines differ");
 }
 
 /// Times one operation on both from the same state.
