@@ -3,8 +3,8 @@
 ghost use mathlib.Core.Path.{_≡_};
 ghost use Prim.Native.Nat.{_+_, _≤_, _<_};
 ghost use lib.ListN.{length};
-use frame::Reply;
-use frame::UpdateReply;
+use replies::Reply;
+use replies::UpdateReply;
 use libc::STDOUT_FILENO;
 
 // ---- Parts of a line

@@ -15,9 +15,10 @@ use Rattle.model.specs.Converting.{Converted, notConvertible, converted}
 use Rattle.laws.specs.Words.Length.{words-length}
 use Rattle.words.specs.Copies.{copied}
 use Rattle.answers.specs.declared.Answer.the-variants.{Refused}
-use Rattle.frame.specs.declared.replies.Reply.{Reply}
-use Rattle.frame.specs.Replies.{replyOf, Converts}
-use Rattle.frame.specs.Finish.{replyFor, copy-back}
+use Rattle.replies.specs.declared.Reply.{Reply}
+use Rattle.replies.specs.Replies.{replyOf, Converts}
+use Rattle.frame.specs.Finish.{copy-back}
+use Rattle.replies.specs.ReplyFor.{replyFor}
 use Rattle.converted.specs.Former.{rebuilt}
 use Rattle.converted.specs.Unique.{convertible-words, converted-unique}
 use Rattle.converting.specs.Exact.{convertsB, test-convertible, convertible-test}

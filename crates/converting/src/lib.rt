@@ -5,9 +5,8 @@ ghost use Rattle.tables.specs.View.{view, Sized, Left};
 ghost use Rattle.converted.specs.Former.{rebuilt};
 ghost use Rattle.converting.specs.Built.{marksBeside, markedAll, fitsB};
 ghost use Rattle.converting.specs.Exact.{convertsB};
-ghost use Rattle.frame.specs.Replies.{Converts};
-use frame::Reply;
-use frame::replies;
+ghost use Rattle.replies.specs.Replies.{Converts};
+use replies::Reply;
 use refusals::Refusal;
 use tables::Update;
 

@@ -2,8 +2,8 @@
 ghost use Rattle.model.specs.State.{noOptions};
 ghost use Rattle.model.specs.Perform.{Call, Step};
 ghost use Rattle.call.specs.Arguments.{handle, hashIn, withFlags, withHash};
-ghost use Rattle.frame.specs.Replies.{replyOf, Returns};
-use frame::Reply;
+ghost use Rattle.replies.specs.Replies.{replyOf, Returns};
+use replies::Reply;
 
 // Without a flag word and a hash. The value is the slot in the list of the domain that the target names.
 #[no_mangle]

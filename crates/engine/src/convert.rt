@@ -1,6 +1,6 @@
 // Tables of the last delivery made this delivery's.
-ghost use Rattle.frame.specs.Replies.{Converts};
-use frame::Reply;
+ghost use Rattle.replies.specs.Replies.{Converts};
+use replies::Reply;
 
 // `old` is only read; v and w are two work areas, each as long as the new tables t.
 #[no_mangle]

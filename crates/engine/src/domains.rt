@@ -2,9 +2,9 @@
 ghost use mathlib.Core.Option.{none, some};
 ghost use Rattle.model.specs.Perform.{Call, Step};
 ghost use Rattle.call.specs.Arguments.{handle};
-ghost use Rattle.frame.specs.Replies.{replyOf, domainReplyOf, Returns};
-use frame::DomainReply;
-use frame::Reply;
+ghost use Rattle.replies.specs.Replies.{replyOf, domainReplyOf, Returns};
+use replies::DomainReply;
+use replies::Reply;
 
 // A domain without a manager.
 #[no_mangle]

@@ -1,8 +1,8 @@
 // The readings (document 01, **Reading**). The tables are lent to be read only.
 ghost use Rattle.model.specs.Perform.{Call, Reading};
 ghost use Rattle.call.specs.Arguments.{handle};
-ghost use Rattle.frame.specs.Replies.{replyOf, Returns, ListsPermissions, ListsHolders};
-use frame::Reply;
+ghost use Rattle.replies.specs.Replies.{replyOf, Returns, ListsPermissions, ListsHolders};
+use replies::Reply;
 use readings::Permission;
 
 #[no_mangle]

@@ -1,8 +1,8 @@
 // Regions: roots, aliases and carves; the value is the local slot.
 ghost use Rattle.model.specs.Perform.{Call, Step};
 ghost use Rattle.call.specs.Arguments.{handle, access};
-ghost use Rattle.frame.specs.Replies.{replyOf, Returns};
-use frame::Reply;
+ghost use Rattle.replies.specs.Replies.{replyOf, Returns};
+use replies::Reply;
 
 #[no_mangle]
 pub extern "C" fn mityvurno_create_root_region(

@@ -16,10 +16,9 @@ use Rattle.model.specs.Memory.{zeroed}
 use Rattle.words.specs.Copies.{copied}
 use Rattle.answers.specs.declared.Answer.{Answer}
 use Rattle.answers.specs.declared.Answer.the-variants.{Done, Refused}
-use Rattle.refusals.specs.Refusals.{number}
 use Rattle.sound.specs.Test.{isSound}
-use Rattle.frame.specs.declared.replies.Reply.{Reply}
-use Rattle.frame.specs.declared.replies.DomainReply.{DomainReply}
+use Rattle.replies.specs.declared.Reply.{Reply}
+use Rattle.replies.specs.declared.DomainReply.{DomainReply}
 use Rattle.tables.specs.Tables.{Tables}
 
 unfoldable pub admitted : List ℕ → List ℕ → Bool
@@ -33,10 +32,6 @@ kept t w = pick (admitted t w) t (zeroed w)
 abbrev pub finished : Answer → List ℕ → List ℕ → List ℕ
 finished (Done v) t w = t
 finished (Refused r) t w = copied w t
-
-abbrev pub replyFor : Answer → Reply
-replyFor (Done v) = record { refusal = 0; value = v }
-replyFor (Refused r) = record { refusal = number r; value = 0 }
 
 -- the reply to an opening: the slot with its generation in the tables v
 unfoldable pub openedFor : Tables → Reply → DomainReply

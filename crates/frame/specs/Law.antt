@@ -33,9 +33,10 @@ use Rattle.refine.specs.Agrees.{Agrees}
 use Rattle.refine.specs.Calls.Perform.{stepFor, slotFrom, call-refines}
 use Rattle.sound.specs.Test.{isSound}
 use Rattle.exact.specs.Law.{sound-words, words-sound}
-use Rattle.frame.specs.declared.replies.Reply as replies
-use Rattle.frame.specs.Replies.{replyOf, Returns}
-use Rattle.frame.specs.Finish.{admitted, kept, kept-copy, kept-clear, finished, replyFor, copy-back}
+use Rattle.replies.specs.declared.Reply as replies
+use Rattle.replies.specs.Replies.{replyOf, Returns}
+use Rattle.frame.specs.Finish.{admitted, kept, kept-copy, kept-clear, finished, copy-back}
+use Rattle.replies.specs.ReplyFor.{replyFor}
 
 -- ---- what is admitted
 

@@ -1,4 +1,3 @@
-pub mod Replies
 pub mod Finish
 pub mod Law
 pub mod Steps

@@ -9,10 +9,10 @@ use Rattle.model.specs.Perform.{Call, Answer, code}
 use Rattle.laws.specs.AfterUnique.{after-unique}
 use Rattle.laws.specs.FilledUnique.{told, same-told, numberIn, SameRun, permissions-unique, holders-unique}
 use Rattle.readings.specs.declared.Permission.{Permission}
-use Rattle.frame.specs.declared.replies.Reply.{Reply}
-use Rattle.frame.specs.declared.replies.DomainReply.{DomainReply}
-use Rattle.frame.specs.declared.replies.UpdateReply.{UpdateReply}
-use Rattle.frame.specs.Replies.{valueOf, replyOf, domainReplyOf, updateReplyOf, Returns, accessOf, ListsPermissions, ListsHolders}
+use Rattle.replies.specs.declared.Reply.{Reply}
+use Rattle.replies.specs.declared.DomainReply.{DomainReply}
+use Rattle.replies.specs.declared.UpdateReply.{UpdateReply}
+use Rattle.replies.specs.Replies.{valueOf, replyOf, domainReplyOf, updateReplyOf, Returns, accessOf, ListsPermissions, ListsHolders}
 
 -- ---- a record is made of the numbers that its answer tells
 

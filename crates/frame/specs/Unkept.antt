@@ -28,9 +28,10 @@ use Rattle.call.specs.declared.Call.{Call}
 use Rattle.call.specs.declared.Call.the-variants.{Open, OpenUnder, Channel, SetCoreMap, SetInterface, FreezeInterface, Root, Alias, Carve, Send, Revoke, CreateRevokeCapa}
 use Rattle.call.specs.Steps.{stepNamed}
 use Rattle.calls.specs.Steps.{stepOf}
-use Rattle.frame.specs.declared.replies.Reply.{Reply}
-use Rattle.frame.specs.Replies.{replyOf, Returns}
-use Rattle.frame.specs.Finish.{admitted, kept, kept-copy, finished, replyFor, copy-back}
+use Rattle.replies.specs.declared.Reply.{Reply}
+use Rattle.replies.specs.Replies.{replyOf, Returns}
+use Rattle.frame.specs.Finish.{admitted, kept, kept-copy, finished, copy-back}
+use Rattle.replies.specs.ReplyFor.{replyFor}
 use Rattle.frame.specs.Law.{call-returns, admitted-sized, admitted-long}
 use Rattle.frame.specs.Steps.{ran-step}
 

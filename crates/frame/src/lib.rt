@@ -5,17 +5,13 @@ ghost use Rattle.model.specs.Perform.{Call};
 ghost use Rattle.model.specs.CallWords.{StepWords};
 ghost use Rattle.model.specs.Memory.{zeroed};
 ghost use Rattle.call.specs.Steps.{stepNamed};
-ghost use Rattle.frame.specs.Finish.{admitted, kept, finished, replyFor};
-ghost use Rattle.frame.specs.Replies.{replyOf, Returns};
+ghost use Rattle.frame.specs.Finish.{admitted, kept, finished};
+ghost use Rattle.replies.specs.ReplyFor.{replyFor};
+ghost use Rattle.replies.specs.Replies.{replyOf, Returns};
 ghost use Rattle.frame.specs.Unkept.{checksFirst};
 use answers::Answer;
 use refusals::Refusal;
-
-pub mod replies;
-
-pub use replies::DomainReply;
-pub use replies::Reply;
-pub use replies::UpdateReply;
+use replies::Reply;
 
 // Whether the call may run: both lengths are right and the tables are sound. The work area is then all zero.
 pub fn admits(t: &[u64], w: &mut [u64]) -> bool

@@ -24,9 +24,9 @@ use Rattle.tables.specs.View.{view, Sized}
 use Rattle.decoded.specs.Tables.{poolOf, tablesOf}
 use Rattle.decoded.specs.Words.{words-held}
 use Rattle.refine.specs.Calls.Open.{opened-handle}
-use Rattle.frame.specs.declared.replies.Reply as replies
-use Rattle.frame.specs.declared.replies.DomainReply.{DomainReply}
-use Rattle.frame.specs.Replies.{replyOf, domainReplyOf, Returns}
+use Rattle.replies.specs.declared.Reply as replies
+use Rattle.replies.specs.declared.DomainReply.{DomainReply}
+use Rattle.replies.specs.Replies.{replyOf, domainReplyOf, Returns}
 use Rattle.frame.specs.Finish.{openedFor}
 
 -- the reply is made of the slot and of the generation that it has in the tables left

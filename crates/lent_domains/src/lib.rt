@@ -4,11 +4,10 @@ ghost use mathlib.Core.Option.{none, some};
 ghost use Rattle.model.specs.Perform.{Call, Step};
 ghost use Rattle.tables.specs.View.{view, Sized};
 ghost use Rattle.call.specs.Arguments.{handle};
-ghost use Rattle.frame.specs.Replies.{domainReplyOf, Returns};
+ghost use Rattle.replies.specs.Replies.{domainReplyOf, Returns};
 ghost use Rattle.frame.specs.Finish.{openedFor};
-use frame::DomainReply;
-use frame::Reply;
-use frame::replies;
+use replies::DomainReply;
+use replies::Reply;
 
 // An accepted opening's slot, with the generation that it has.
 fn opened(t: &[u64], r: Reply) -> DomainReply

@@ -30,9 +30,10 @@ use Rattle.decoded.specs.Sizes.{and-both, good-sizes}
 use Rattle.decoded.specs.Tables.{sizesFor, tablesOf}
 use Rattle.decoded.specs.Words.{view-words, words-sized}
 use Rattle.refine.specs.Making.{empty-words}
-use Rattle.frame.specs.declared.replies.Reply as replies
-use Rattle.frame.specs.Replies.{replyOf, Returns}
-use Rattle.frame.specs.Finish.{replyFor, zeroed-long}
+use Rattle.replies.specs.declared.Reply as replies
+use Rattle.replies.specs.Replies.{replyOf, Returns}
+use Rattle.frame.specs.Finish.{zeroed-long}
+use Rattle.replies.specs.ReplyFor.{replyFor}
 
 made-sizes : (z : Sizes) → tablesOf (emptyTables z) .sizes ≡ sizesFor z
 unfolding tablesOf

@@ -1,9 +1,8 @@
 // Making empty tables: the sizes are tested first, then the lengths alone.
 ghost use Rattle.model.specs.Perform.{Call};
 ghost use Rattle.call.specs.Arguments.{sizes};
-ghost use Rattle.frame.specs.Replies.{replyOf, Returns};
-use frame::Reply;
-use frame::replies;
+ghost use Rattle.replies.specs.Replies.{replyOf, Returns};
+use replies::Reply;
 use refusals::Refusal;
 use sizes::Sizes;
 

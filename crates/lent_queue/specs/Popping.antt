@@ -20,8 +20,8 @@ use Rattle.decoded.specs.Tables.{tablesOf}
 use Rattle.decoded.specs.Words.{words-held, held-words}
 use Rattle.refine.specs.Queue.RingSteps.{itemFor}
 use Rattle.refine.specs.Calls.Pop.{pop-refines}
-use Rattle.frame.specs.declared.replies.UpdateReply.{UpdateReply}
-use Rattle.frame.specs.Replies.{updateReplyOf, Returns}
+use Rattle.replies.specs.declared.UpdateReply.{UpdateReply}
+use Rattle.replies.specs.Replies.{updateReplyOf, Returns}
 use Rattle.frame.specs.Finish.{admitted}
 use Rattle.frame.specs.Law.{lent, step-returns}
 

@@ -23,11 +23,11 @@ use Rattle.readings.specs.Readings.{permissionList, planOf}
 use Rattle.readings.specs.Listing.{runAt, plan-run, plan-turns}
 use Rattle.refine.specs.Agrees.{bind-assoc}
 use Rattle.refine.specs.Calls.Readings.{permissionIn, permissions-are, fill-same, fill-map}
-use Rattle.frame.specs.declared.replies.Reply as replies
+use Rattle.replies.specs.declared.Reply as replies
 use Rattle.lent_readings.specs.declared.Listing.{Listing}
 use Rattle.call.specs.Arguments.{handle}
-use Rattle.frame.specs.Replies.{accessOf, ListsPermissions}
-use Rattle.frame.specs.Finish.{replyFor}
+use Rattle.replies.specs.Replies.{accessOf, ListsPermissions}
+use Rattle.replies.specs.ReplyFor.{replyFor}
 use Rattle.lent_readings.specs.Lookup.{domainRead, Reads, Live, Refuses, live-after, read-sized}
 use Rattle.lent_readings.specs.Readings.{is-live, is-refused}
 

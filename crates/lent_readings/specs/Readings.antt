@@ -24,10 +24,11 @@ use Rattle.decoded.specs.Tables.{tablesOf}
 use Rattle.decoded.specs.Words.{words-held}
 use Rattle.refine.specs.Agrees.{bind-assoc}
 use Rattle.refine.specs.Calls.Readings.{refcount-is, cores-are, holders-are, fill-same}
-use Rattle.frame.specs.declared.replies.Reply as replies
+use Rattle.replies.specs.declared.Reply as replies
 use Rattle.call.specs.Arguments.{handle}
-use Rattle.frame.specs.Replies.{replyOf, Returns, ListsHolders}
-use Rattle.frame.specs.Finish.{admitted, replyFor}
+use Rattle.replies.specs.Replies.{replyOf, Returns, ListsHolders}
+use Rattle.frame.specs.Finish.{admitted}
+use Rattle.replies.specs.ReplyFor.{replyFor}
 use Rattle.frame.specs.Law.{lent, not-admitted}
 use Rattle.lent_readings.specs.Lookup.{domainRead, Reads, Live, Refuses, Says, read-says, live-after}
 

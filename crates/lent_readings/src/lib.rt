@@ -3,12 +3,11 @@ ghost use mathlib.Core.Path.{_≡_};
 ghost use Rattle.model.specs.Memory.{zeroed};
 ghost use Rattle.model.specs.Perform.{Call, Reading};
 ghost use Rattle.call.specs.Arguments.{handle};
-ghost use Rattle.frame.specs.Replies.{replyOf, Returns, ListsHolders};
+ghost use Rattle.replies.specs.Replies.{replyOf, Returns, ListsHolders};
 ghost use Rattle.lent_readings.specs.Lookup.{domainRead};
 ghost use Rattle.lent_readings.specs.Permissions.{Plans};
 use answers::Answer;
-use frame::Reply;
-use frame::replies;
+use replies::Reply;
 use refusals::Refusal;
 use tables::Handle;
 

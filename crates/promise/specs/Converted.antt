@@ -6,7 +6,7 @@ use Prim.Native.Nat.{ℕ}
 use Rattle.model.specs.Perform as model
 use Rattle.model.specs.Perform.{Answer, code}
 use Rattle.model.specs.Converting.{Converted, notConvertible, converted}
-use Rattle.frame.specs.declared.replies.Reply.{Reply}
+use Rattle.replies.specs.declared.Reply.{Reply}
 use Rattle.book.specs.Lent.{ClaimsOf}
 use Rattle.converted.specs.Theorem.{demand3-converted}
 use Rattle.promise.specs.Calls.{callOf}

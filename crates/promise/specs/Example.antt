@@ -6,8 +6,8 @@ use mathlib.Core.Option.{none, some}
 use mathlib.Core.List.{List, [], _∷_, _++_}
 use Rattle.model.specs.State.{Root, Alias, Carve}
 use Rattle.model.specs.Checked.Script.{dom}
-use Rattle.frame.specs.declared.replies.Reply.{Reply}
-use Rattle.frame.specs.declared.replies.DomainReply.{DomainReply}
+use Rattle.replies.specs.declared.Reply.{Reply}
+use Rattle.replies.specs.declared.DomainReply.{DomainReply}
 use Rattle.call.specs.Arguments.{sizes}
 use Rattle.book.specs.Book.{Book, Noted, regionOf, managementOf, blank}
 use Rattle.book.specs.Example.{noting, reg, slots}

@@ -10,8 +10,8 @@ use Rattle.model.specs.CallWords.{StepWords}
 use Rattle.model.specs.Layout.{words}
 use Rattle.model.specs.Memory.{After, notSound, performed, zeroed}
 use Rattle.model.specs.Checked.HashAlone.{hash-alone}
-use Rattle.frame.specs.declared.replies.Reply.{Reply}
-use Rattle.frame.specs.Replies.{replyOf, domainReplyOf, updateReplyOf, Returns}
+use Rattle.replies.specs.declared.Reply.{Reply}
+use Rattle.replies.specs.Replies.{replyOf, domainReplyOf, updateReplyOf, Returns}
 use Rattle.book.specs.Book.{Book}
 use Rattle.book.specs.Lent.{ClaimsOf}
 use Rattle.promise.specs.Calls.{Called, Words, Exported, Sequence, make-tables, open-domain, open-under, open-channel, set-core-map, set-interface, freeze-interface, create-root-region, alias-region, carve-region, send, send-with-flags, send-with-hash, revoke, create-revoke-capa, pop}

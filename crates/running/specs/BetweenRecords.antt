@@ -10,7 +10,7 @@ use Rattle.model.specs.CallWords.{CallWords}
 use Rattle.model.specs.Memory.{zeroed}
 use Rattle.book.specs.Lent.{Chain}
 use Rattle.script_records.specs.Script.{scriptCalls}
-use Rattle.frame.specs.declared.replies.Reply.{Reply}
+use Rattle.replies.specs.declared.Reply.{Reply}
 use Rattle.running.specs.RunScript.{scriptReply}
 
 -- The calls cs, then those of r.

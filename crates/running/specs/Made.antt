@@ -20,8 +20,8 @@ use Rattle.laws.specs.Making.{make-lengths, make-made}
 use Rattle.book.specs.Lent.{demand3-lent}
 use Rattle.decoded.specs.Sizes.{and-both}
 use Rattle.script_records.specs.Script.{scriptCalls}
-use Rattle.frame.specs.declared.replies.Reply.{Reply}
-use Rattle.frame.specs.Replies.{replyOf, Returns}
+use Rattle.replies.specs.declared.Reply.{Reply}
+use Rattle.replies.specs.Replies.{replyOf, Returns}
 use Rattle.frame.specs.Finish.{zeroed-clear}
 use Rattle.running.specs.RunScript.{Fit, RanScript}
 use Rattle.running.specs.BetweenRecords.{RunsAll}

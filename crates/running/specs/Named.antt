@@ -4,8 +4,8 @@ use Prim.Native.Nat.{ℕ}
 use mathlib.Core.List.{List}
 use Rattle.model.specs.Perform.{Call}
 use Rattle.call.specs.declared.Call as code
-use Rattle.frame.specs.declared.replies.Reply.{Reply}
-use Rattle.frame.specs.Replies.{replyOf, Returns}
+use Rattle.replies.specs.declared.Reply.{Reply}
+use Rattle.replies.specs.Replies.{replyOf, Returns}
 use Rattle.call.specs.Steps.{stepNamed}
 use Rattle.script_records.specs.declared.Record.{Record}
 use Rattle.script_records.specs.Parsed.{callIn}

@@ -14,8 +14,8 @@ use Rattle.model.specs.Memory.{After}
 use Rattle.tables.specs.View.{Sized}
 use Rattle.decoded.specs.Words.{words-sized}
 use Rattle.book.specs.Book.{blank}
-use Rattle.frame.specs.declared.replies.Reply.{Reply}
-use Rattle.frame.specs.Replies.{replyOf, Returns}
+use Rattle.replies.specs.declared.Reply.{Reply}
+use Rattle.replies.specs.Replies.{replyOf, Returns}
 use Rattle.promise.specs.Reached.{Leads, Reached, reached-claims, reached-made, leads-none, step-leads, pop-leads}
 use Rattle.script_records.specs.declared.Record.{Record}
 use Rattle.script_records.specs.declared.Parsed.{Parsed}

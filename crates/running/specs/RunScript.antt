@@ -16,7 +16,7 @@ use Rattle.book.specs.Demand3.{noteAll}
 use Rattle.book.specs.Lent.{Chain, ClaimsOf}
 use Rattle.promise.specs.Reached.{Reached}
 use Rattle.script_records.specs.Script.{scriptCalls}
-use Rattle.frame.specs.declared.replies.Reply.{Reply}
+use Rattle.replies.specs.declared.Reply.{Reply}
 
 -- The tables are what an accepted making of a script's tables and then some calls of the exported functions left; so `everything` speaks of them.
 abbrev pub ScriptTables : List ℕ → Type 0

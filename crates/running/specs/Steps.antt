@@ -20,7 +20,7 @@ use Rattle.bytes.specs.Numbers.{Bytes}
 use Rattle.script_records.specs.Words.{call-size, call-words, bytes-drop}
 use Rattle.script_records.specs.Scripts.{script-ended}
 use Rattle.script_records.specs.Streams.{stream-call, stream-bad, stream-cut}
-use Rattle.frame.specs.declared.replies.Reply.{Reply}
+use Rattle.replies.specs.declared.Reply.{Reply}
 use Rattle.running.specs.declared.scripts.Place.{Place}
 use Rattle.running.specs.declared.scripts.Ran.{Ran}
 use Rattle.running.specs.Chains.{chain-end, each-end}

@@ -6,8 +6,8 @@ use Rattle.script_records.specs.declared.Record.{Record}
 use Rattle.script_records.specs.declared.Parsed.{Parsed}
 use Rattle.script_records.specs.declared.Parsed.the-variants as parsed
 use Rattle.script_records.specs.Parsed.{sizeOf, callIn}
-use Rattle.frame.specs.declared.replies.Reply.{Reply}
-use Rattle.frame.specs.Replies.{replyOf, Returns}
+use Rattle.replies.specs.declared.Reply.{Reply}
+use Rattle.replies.specs.Replies.{replyOf, Returns}
 use Rattle.running.specs.declared.scripts.Taken.{Taken}
 use Rattle.running.specs.declared.scripts.Taken.the-variants.{Short, Bad, Done}
 

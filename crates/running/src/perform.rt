@@ -1,8 +1,8 @@
 // A record's call on lent tables, by the one function that runs every such call.
-ghost use Rattle.frame.specs.Replies.{replyOf, Returns};
+ghost use Rattle.replies.specs.Replies.{replyOf, Returns};
 ghost use Rattle.script_records.specs.Parsed.{callIn};
 ghost use Rattle.naming.specs.Given.{Given};
-use frame::Reply;
+use replies::Reply;
 use script_records::Record;
 
 // The call that a record names.

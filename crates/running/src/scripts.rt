@@ -7,7 +7,7 @@ ghost use Rattle.running.specs.Takes.{Takes};
 ghost use Rattle.running.specs.BetweenRecords.{RunsAll};
 ghost use Rattle.running.specs.RunScript.{RanScript};
 use crate::perform;
-use frame::Reply;
+use replies::Reply;
 use refusals::Refusal;
 use script_records::Parsed;
 

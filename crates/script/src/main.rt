@@ -11,7 +11,7 @@ ghost use Rattle.running.specs.RunScript.{ScriptTables};
 use byte_io::input;
 use byte_io::input::Buffered;
 use byte_io::output;
-use frame::Reply;
+use replies::Reply;
 use refusals::Refusal;
 use running::Taken;
 

@@ -1,6 +1,6 @@
 -- The test; the call on admitted tables; what is kept of it.
 use denote.Ref.{now}
-use Rattle.frame.specs.Replies.{replyOf}
+use Rattle.replies.specs.Replies.{replyOf}
 use Rattle.frame.specs.Finish.{each-word}
 use Rattle.frame.specs.Law.{call-returns, memory-returns, admitted-sized}
 use Rattle.frame.specs.Steps.{ran-step}

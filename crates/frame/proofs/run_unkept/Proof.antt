@@ -1,7 +1,7 @@
 -- The test; the call on admitted tables, of which nothing has to be put back.
 use denote.Ref.{now}
 use mathlib.Core.Path.{sym, _∙_}
-use Rattle.frame.specs.Replies.{replyOf}
+use Rattle.replies.specs.Replies.{replyOf}
 use Rattle.frame.specs.Finish.{each-word, kept-clear}
 use Rattle.frame.specs.Law.{memory-returns, admitted-sized}
 use Rattle.frame.specs.Unkept.{unkept-returns}

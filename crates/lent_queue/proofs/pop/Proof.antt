@@ -2,7 +2,7 @@
 use mathlib.Core.Path.{refl, sym, _∙_}
 use denote.Ref.{now}
 use Rattle.model.specs.Perform.{Call}
-use Rattle.frame.specs.Replies.{updateReplyOf}
+use Rattle.replies.specs.Replies.{updateReplyOf}
 use Rattle.frame.specs.Finish.{each-word, kept-clear}
 use Rattle.frame.specs.Law.{memory-returns, admitted-sized}
 use Rattle.lent_queue.specs.Popping.{pop-returns}

@@ -39,9 +39,9 @@ use denote.Exit.{yes}
 use denote.Signature.{plain}
 use Rattle.readings.specs.declared.Permission.{Permission}
 use Rattle.readings.proofs.Permission as T
-use Rattle.frame.specs.declared.replies.Reply.{Reply}
+use Rattle.replies.specs.declared.Reply.{Reply}
 use Rattle.call.specs.Arguments.{handle}
-use Rattle.frame.specs.Replies.{ListsPermissions}
+use Rattle.replies.specs.Replies.{ListsPermissions}
 use Rattle.frame.proofs.replies.Reply as R
 use Rattle.frame.proofs.replies.Reply.Laws as R′
 use Rattle.engine.proofs.read.mityvurno_permissions as callee

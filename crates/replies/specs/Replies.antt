@@ -9,9 +9,9 @@ use Rattle.model.specs.Perform.{Call, Answer, code, values}
 use Rattle.model.specs.Converting.{Converted}
 use Rattle.model.specs.Memory.{After, AfterPermissions, AfterHolders}
 use Rattle.readings.specs.declared.Permission.{Permission}
-use Rattle.frame.specs.declared.replies.Reply.{Reply}
-use Rattle.frame.specs.declared.replies.DomainReply.{DomainReply}
-use Rattle.frame.specs.declared.replies.UpdateReply.{UpdateReply}
+use Rattle.replies.specs.declared.Reply.{Reply}
+use Rattle.replies.specs.declared.DomainReply.{DomainReply}
+use Rattle.replies.specs.declared.UpdateReply.{UpdateReply}
 
 -- ---- an answer as a record
 

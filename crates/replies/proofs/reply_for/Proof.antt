@@ -1,9 +1,9 @@
 -- By the answer's case.
 use mathlib.Core.Path.{sym, ap, _∙_}
-use Rattle.frame.specs.Finish.{replyFor}
+use Rattle.replies.specs.ReplyFor.{replyFor}
 use borrow.Author.Needs.{needs}
-use Rattle.frame.proofs.replies.reply_for.Statement.{statement}
-use Rattle.frame.proofs.replies.reply_for.Tie as tie
+use Rattle.replies.proofs.reply_for.Statement.{statement}
+use Rattle.replies.proofs.reply_for.Tie as tie
 
 enum-known-a : tie.Need-enum-known-a
 enum-known-a c = search needs

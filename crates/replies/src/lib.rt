@@ -2,7 +2,7 @@
 // 0 where there is none.
 ghost use mathlib.Core.Path.{_≡_};
 ghost use Rattle.answers.specs.declared.Answer.the-variants.{Refused};
-ghost use Rattle.frame.specs.Finish.{replyFor};
+ghost use Rattle.replies.specs.ReplyFor.{replyFor};
 use answers::Answer;
 use refusals::Refusal;
 
