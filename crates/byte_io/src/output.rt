@@ -3,9 +3,9 @@
 ghost use mathlib.Core.Path.{_≡_};
 ghost use Prim.Native.Nat.{_+_, _≤_, _<_};
 ghost use lib.ListN.{length};
+use libc::STDOUT_FILENO;
 use replies::Reply;
 use replies::UpdateReply;
-use libc::STDOUT_FILENO;
 
 // ---- Parts of a line
 

@@ -6,8 +6,8 @@ ghost use Rattle.converted.specs.Former.{rebuilt};
 ghost use Rattle.converting.specs.Built.{marksBeside, markedAll, fitsB};
 ghost use Rattle.converting.specs.Exact.{convertsB};
 ghost use Rattle.replies.specs.Replies.{Converts};
-use replies::Reply;
 use refusals::Refusal;
+use replies::Reply;
 use tables::Update;
 
 // Reach and the four rights.

@@ -2,8 +2,8 @@
 ghost use Rattle.model.specs.Perform.{Call};
 ghost use Rattle.call.specs.Arguments.{sizes};
 ghost use Rattle.replies.specs.Replies.{replyOf, Returns};
-use replies::Reply;
 use refusals::Refusal;
+use replies::Reply;
 use sizes::Sizes;
 
 pub fn make_tables(

@@ -1,8 +1,8 @@
 // The queue of updates.
 ghost use Rattle.model.specs.Perform.{Call};
 ghost use Rattle.replies.specs.Replies.{updateReplyOf, Returns};
-use replies::UpdateReply;
 use refusals::Refusal;
+use replies::UpdateReply;
 use tables::Update;
 
 // The oldest update leaves the queue; none where it is empty.

@@ -7,8 +7,8 @@ ghost use Rattle.replies.specs.Replies.{replyOf, Returns, ListsHolders};
 ghost use Rattle.lent_readings.specs.Lookup.{domainRead};
 ghost use Rattle.lent_readings.specs.Permissions.{Plans};
 use answers::Answer;
-use replies::Reply;
 use refusals::Refusal;
+use replies::Reply;
 use tables::Handle;
 
 // How many records fill a run, the link of the first, and the reply.

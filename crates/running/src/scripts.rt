@@ -7,8 +7,8 @@ ghost use Rattle.running.specs.Takes.{Takes};
 ghost use Rattle.running.specs.BetweenRecords.{RunsAll};
 ghost use Rattle.running.specs.RunScript.{RanScript};
 use crate::perform;
-use replies::Reply;
 use refusals::Refusal;
+use replies::Reply;
 use script_records::Parsed;
 
 // A record that was run: what its call replied, and the bytes that it took.

@@ -11,8 +11,8 @@ ghost use Rattle.running.specs.RunScript.{ScriptTables};
 use byte_io::input;
 use byte_io::input::Buffered;
 use byte_io::output;
-use replies::Reply;
 use refusals::Refusal;
+use replies::Reply;
 use running::Taken;
 
 // The sizes of a script's tables, and how many words these are.
