@@ -116,7 +116,7 @@ stored =
     ∷ leaves two 1 26 false
     ∷ leaves (two ++ (set 0 0 ∷ freeze 0 ∷ under ∷ [])) 2 26 false
     -- "set by the platform to any value", in place of the last one
-    ∷ leaves (two ++ (set 0 (2 ^ 64 - 1) ∷ [])) 0 (2 ^ 64 - 1) false
+    ∷ leaves (two ++ (set 0 18_446_744_073_709_551_615 ∷ [])) 0 18_446_744_073_709_551_615 false
     ∷ leaves (two ++ (set 0 8 ∷ set 0 5 ∷ [])) 0 5 false
     ∷ leaves (two ++ (set 0 8 ∷ [])) 1 26 false
     -- a freeze keeps the word, of its own domain alone, and stays; a refused setting leaves both
