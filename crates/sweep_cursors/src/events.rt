@@ -3,8 +3,8 @@ ghost use mathlib.Core.Path.{_≡_};
 ghost use lib.ListN.{drop};
 ghost use Rattle.sweep.specs.Sweep.{upto, next};
 ghost use Rattle.sound_events.specs.Events.{eventsIn};
-ghost use Rattle.sound_sweep.specs.Sums.{Low};
-ghost use Rattle.sound_sweep.specs.Cursors.{cursorIn, At, First};
+ghost use Rattle.sweep_cursors.specs.Sums.{Low};
+ghost use Rattle.sweep_cursors.specs.Cursors.{cursorIn, At, First};
 use crate::Cursor;
 use crate::counts;
 

@@ -1,8 +1,8 @@
 -- The event in the place, or none.
-use Rattle.sound_sweep.specs.Moves.{next-less, next-far, next-none}
+use Rattle.sweep_cursors.specs.Moves.{next-less, next-far, next-none}
 use borrow.Author.Needs.{needs}
-use Rattle.sound_sweep.proofs.events.next.Statement.{statement}
-use Rattle.sound_sweep.proofs.events.next.Tie as tie
+use Rattle.sweep_cursors.proofs.events.next.Statement.{statement}
+use Rattle.sweep_cursors.proofs.events.next.Tie as tie
 
 mul-a : tie.Need-mul-a
 mul-a c = search needs

@@ -1,4 +1,4 @@
--- The code's five sums as the sweep's counts, and what keeps them inside a word.
+-- The code's five sums and a record's six counts as the sweep's counts, and what keeps the sums inside a word.
 use mathlib.Core.Path.{_≡_, refl, ap, _∙_}
 use mathlib.Core.Bool.{Bool, true, false}
 use Prim.Native.Nat.{ℕ, suc, _+_, _/_, _%_, _^_, _≤_}
@@ -12,12 +12,17 @@ use Rattle.model.specs.Lists.{oneIf}
 use Rattle.model.specs.State.{Counts}
 use Rattle.model.specs.Fields.{Field, get, passes}
 use Rattle.model.specs.Tracker.{noCounts, raise}
+use Rattle.tables.specs.declared.Region.{Region}
 use Rattle.laws.specs.Stack.{one-at-most}
 use Rattle.laws.specs.Fields.{get-none, get-raise}
-use Rattle.sound_sweep.specs.declared.Sums.{Sums}
+use Rattle.sweep_cursors.specs.declared.Sums.{Sums}
 
 abbrev pub countsOf : Sums → Counts
 countsOf s = record { reach = s .«ref_count»; read = s .«read_count»; write = s .«write_count»; exec = s .«exec_count»; super = s .«super_count»; uncacheable = 0 }
+
+abbrev pub countsFrom : Region → Counts
+countsFrom q =
+    record { reach = q .«ref_count»; read = q .«read_count»; write = q .«write_count»; exec = q .«exec_count»; super = q .«super_count»; uncacheable = q .«uncache_count» }
 
 -- no sum is above n
 abbrev pub Low : ℕ → Sums → Type 0

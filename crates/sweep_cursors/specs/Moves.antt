@@ -9,10 +9,10 @@ use Rattle.sweep.specs.Sweep.{pass, upto, next}
 use Rattle.sweep.specs.Loops.{place-go, place-stop, place-end, place-next, place-none}
 use Rattle.sound_events.specs.Events.{eventsIn}
 use Rattle.sound_events.specs.Words.{length-events, address-in, rights-in}
-use Rattle.sound_sweep.specs.declared.Sums.{Sums}
-use Rattle.sound_sweep.specs.declared.Cursor.{Cursor}
-use Rattle.sound_sweep.specs.Sums.{countsOf, Low, none-low, raise-low}
-use Rattle.sound_sweep.specs.Cursors.{cursorIn, At, First}
+use Rattle.sweep_cursors.specs.declared.Sums.{Sums}
+use Rattle.sweep_cursors.specs.declared.Cursor.{Cursor}
+use Rattle.sweep_cursors.specs.Sums.{countsOf, Low, none-low, raise-low}
+use Rattle.sweep_cursors.specs.Cursors.{cursorIn, At, First}
 
 pub first : (s : Sums) → countsOf s ≡ noCounts → First (record { place = 0; sums = s })
 first s e p = record { low = none-low s 0 e; is = λ t. record { sums = e t; ahead = eventsIn p } }

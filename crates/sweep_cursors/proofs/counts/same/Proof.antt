@@ -1,8 +1,8 @@
 -- Field by field.
-use Rattle.sound_sweep.specs.Tests.{alike}
+use Rattle.sweep_cursors.specs.Tests.{alike}
 use borrow.Author.Needs.{needs}
-use Rattle.sound_sweep.proofs.counts.same.Statement.{statement}
-use Rattle.sound_sweep.proofs.counts.same.Tie as tie
+use Rattle.sweep_cursors.proofs.counts.same.Statement.{statement}
+use Rattle.sweep_cursors.proofs.counts.same.Tie as tie
 
 both-requires : tie.Need-both-requires
 both-requires c κs = search needs

@@ -1,8 +1,8 @@
 -- No sums, and all events ahead.
-use Rattle.sound_sweep.specs.Moves.{first}
+use Rattle.sweep_cursors.specs.Moves.{first}
 use borrow.Author.Needs.{needs}
-use Rattle.sound_sweep.proofs.events.start.Statement.{statement}
-use Rattle.sound_sweep.proofs.events.start.Tie as tie
+use Rattle.sweep_cursors.proofs.events.start.Statement.{statement}
+use Rattle.sweep_cursors.proofs.events.start.Tie as tie
 
 no-sums-requires : tie.Need-no-sums-requires
 no-sums-requires c κs = search needs

@@ -1,8 +1,8 @@
 -- Field by field.
-use Rattle.sound_sweep.specs.Tests.{agreed}
+use Rattle.sweep_cursors.specs.Tests.{agreed}
 use borrow.Author.Needs.{needs}
-use Rattle.sound_sweep.proofs.counts.agrees.Statement.{statement}
-use Rattle.sound_sweep.proofs.counts.agrees.Tie as tie
+use Rattle.sweep_cursors.proofs.counts.agrees.Statement.{statement}
+use Rattle.sweep_cursors.proofs.counts.agrees.Tie as tie
 
 exceeds-requires : tie.Need-exceeds-requires
 exceeds-requires c κs = search needs

@@ -1,8 +1,8 @@
 -- By the difference, which is there where m is not above p.
 use borrow.Author.Tests.{le-leb, lt-leb}
 use Rattle.sweep.specs.Loops.{by-difference}
-use Rattle.sound_sweep.proofs.counts.exceeds.Statement.{statement}
-use Rattle.sound_sweep.proofs.counts.exceeds.Tie as tie
+use Rattle.sweep_cursors.proofs.counts.exceeds.Statement.{statement}
+use Rattle.sweep_cursors.proofs.counts.exceeds.Tie as tie
 
 returns : tie.Need-returns
 returns c = rw (le-leb (c .before .args .m) (c .before .args .p) (c .if1 .taken)) at (by-difference (c .before .args .p) (c .before .args .m) (c .before .args .k))

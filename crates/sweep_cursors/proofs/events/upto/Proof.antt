@@ -1,10 +1,10 @@
 -- What is left of the move from here is all of it.
 use Prim.Native.Nat.{_-_}
 use native.Mathlib.Omega.{arith}
-use Rattle.sound_sweep.specs.Sums.{low-most}
-use Rattle.sound_sweep.specs.Moves.{Moving, move-start, move-go, move-stop, move-end}
-use Rattle.sound_sweep.proofs.events.upto.Statement.{statement}
-use Rattle.sound_sweep.proofs.events.upto.Tie as tie
+use Rattle.sweep_cursors.specs.Sums.{low-most}
+use Rattle.sweep_cursors.specs.Moves.{Moving, move-start, move-go, move-stop, move-end}
+use Rattle.sweep_cursors.proofs.events.upto.Statement.{statement}
+use Rattle.sweep_cursors.proofs.events.upto.Tie as tie
 
 abbrev Inv-loop : tie.InvT-loop
 Inv-loop s x n i₀ k₀ i k = Moving s x (record { place = i₀; sums = k₀ }) i k

@@ -2,18 +2,17 @@
 use mathlib.Core.Path.{_≡_, refl, ap, _∙_}
 use mathlib.Core.Bool.{Bool, true, false, _&&_}
 use Prim.Native.Nat.{_+_}
-use lib.Dec.{eqb, ltb, leb}
+use lib.Dec.{eqb}
 use Rattle.base.specs.Tests.{both}
 use Rattle.model.specs.Lists.{every}
 use Rattle.model.specs.Fields.{Field, fields, get}
 use Rattle.model.specs.Tracker.{sameCounts}
 use Rattle.tables.specs.declared.Region.{Region}
-use Rattle.sweep.specs.Sweep.{agrees, formed}
-use Rattle.sound_sweep.specs.declared.Sums.{Sums}
-use Rattle.sound_sweep.specs.Records.{countsFrom, recordFrom}
-use Rattle.sound_sweep.specs.Sums.{countsOf}
+use Rattle.sweep.specs.Sweep.{agrees}
+use Rattle.sweep_cursors.specs.declared.Sums.{Sums}
+use Rattle.sweep_cursors.specs.Sums.{countsOf, countsFrom}
 
-three : (a b c : Bool) → both (both a b) c ≡ a && b && c
+pub three : (a b c : Bool) → both (both a b) c ≡ a && b && c
 three false b c = refl
 three true false c = refl
 three true true c = refl
@@ -45,6 +44,3 @@ alike b q =
     let t : Field → Bool = λ f. eqb (get f (countsFrom b)) (get f (countsFrom q)) in
     let u = eqb (b .«uncache_count») (q .«uncache_count») in
     two (inOrder t) u ∙ ap (λ z. z && u) (in-order t)
-
-pub has-form : (q : Region) → both (both (ltb (q .start) (q .end)) (ltb 0 (q .«ref_count»))) (leb (q .«uncache_count») 1) ≡ formed (recordFrom 0 q)
-has-form q = three (ltb (q .start) (q .end)) (ltb 0 (q .«ref_count»)) (leb (q .«uncache_count») 1)

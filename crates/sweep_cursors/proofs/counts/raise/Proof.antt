@@ -2,10 +2,10 @@
 use Prim.Native.Nat.{_%_}
 use native.Mathlib.Omega.{arith}
 use Rattle.model.specs.Fields.{Field}
-use Rattle.sound_sweep.specs.Sums.{raised, ones}
+use Rattle.sweep_cursors.specs.Sums.{raised, ones}
 use borrow.Author.Needs.{needs}
-use Rattle.sound_sweep.proofs.counts.raise.Statement.{statement}
-use Rattle.sound_sweep.proofs.counts.raise.Tie as tie
+use Rattle.sweep_cursors.proofs.counts.raise.Statement.{statement}
+use Rattle.sweep_cursors.proofs.counts.raise.Tie as tie
 
 cast-t5 : tie.Need-cast-t5
 cast-t5 c = search needs
