@@ -1,8 +1,8 @@
 -- The first two words of the pool.
-use Rattle.sound_lists.specs.Reads.{pool-top}
+use Rattle.list_links.specs.Reads.{pool-top}
 use borrow.Author.Needs.{needs}
-use Rattle.sound_lists.proofs.links.top_in.Statement.{statement}
-use Rattle.sound_lists.proofs.links.top_in.Tie as tie
+use Rattle.list_links.proofs.top_in.Statement.{statement}
+use Rattle.list_links.proofs.top_in.Tie as tie
 
 span-of-requires : tie.Need-span-of-requires
 span-of-requires c κs = search needs

@@ -6,7 +6,7 @@ use Prim.Native.Nat.{ℕ, zero, suc, _+_, _-_}
 use lib.Dec.{ltb, leb}
 use lib.ListN.{length, getD, set}
 use Rattle.base.specs.Tests.{both, allFrom}
-use Rattle.sound_lists.specs.Walk.{linkTo, met, covered, covers}
+use Rattle.list_links.specs.Walk.{linkTo, met, covered, covers}
 
 -- the links l, h the slot that is given next, c slots in use
 free : List ℕ → ℕ → Bool

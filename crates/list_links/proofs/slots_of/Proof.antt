@@ -2,8 +2,8 @@
 use Rattle.tables.specs.View.{view, ofParts}
 use Rattle.sizes.specs.Sizes.{sizesOf}
 use borrow.Author.Needs.{needs}
-use Rattle.sound_lists.proofs.links.slots_of.Statement.{statement}
-use Rattle.sound_lists.proofs.links.slots_of.Tie as tie
+use Rattle.list_links.proofs.slots_of.Statement.{statement}
+use Rattle.list_links.proofs.slots_of.Tie as tie
 
 enum-told : tie.Need-enum-told
 enum-told c = search needs

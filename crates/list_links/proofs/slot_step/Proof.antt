@@ -3,11 +3,11 @@ use mathlib.Core.Path.{_∙_}
 use lib.Dec.{ltb, eqb}
 use Rattle.base.specs.Tests.{both}
 use Rattle.tables.specs.Kinds.{FREE}
-use Rattle.sound_lists.specs.Walk.{linkTo}
-use Rattle.sound_lists.specs.Reads.{slotStep}
+use Rattle.list_links.specs.Walk.{linkTo}
+use Rattle.list_links.specs.Reads.{slotStep}
 use borrow.Author.Needs.{needs}
-use Rattle.sound_lists.proofs.links.slot_step.Statement.{statement}
-use Rattle.sound_lists.proofs.links.slot_step.Tie as tie
+use Rattle.list_links.proofs.slot_step.Statement.{statement}
+use Rattle.list_links.proofs.slot_step.Tie as tie
 
 slot-in-requires : tie.Need-slot-in-requires
 slot-in-requires c κs = search needs

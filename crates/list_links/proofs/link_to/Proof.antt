@@ -2,8 +2,8 @@
 use borrow.Author.Tests.{lt-ltb, le-ltb}
 use native.Mathlib.Omega.{arith}
 use borrow.Author.Needs.{needs}
-use Rattle.sound_lists.proofs.links.link_to.Statement.{statement}
-use Rattle.sound_lists.proofs.links.link_to.Tie as tie
+use Rattle.list_links.proofs.link_to.Statement.{statement}
+use Rattle.list_links.proofs.link_to.Tie as tie
 
 add-result : tie.Need-add-result
 add-result c = search needs

@@ -1,8 +1,8 @@
 -- Each list by its own step.
-use Rattle.sound_lists.specs.Reads.{stepIn}
+use Rattle.list_links.specs.Reads.{stepIn}
 use borrow.Author.Needs.{needs}
-use Rattle.sound_lists.proofs.links.step_at.Statement.{statement}
-use Rattle.sound_lists.proofs.links.step_at.Tie as tie
+use Rattle.list_links.proofs.step_at.Statement.{statement}
+use Rattle.list_links.proofs.step_at.Tie as tie
 
 enum-told : tie.Need-enum-told
 enum-told c = search needs

@@ -1,7 +1,7 @@
 -- Each list by its own words.
 use borrow.Author.Needs.{needs}
-use Rattle.sound_lists.proofs.links.words_of.Statement.{statement}
-use Rattle.sound_lists.proofs.links.words_of.Tie as tie
+use Rattle.list_links.proofs.words_of.Statement.{statement}
+use Rattle.list_links.proofs.words_of.Tie as tie
 
 enum-told : tie.Need-enum-told
 enum-told c = search needs

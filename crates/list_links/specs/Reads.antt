@@ -16,12 +16,12 @@ use Rattle.pools.specs.declared.Pool.{Pool}
 use Rattle.pools.specs.declared.Span.{Span}
 use Rattle.pools.specs.Pools.{poolOf, PoolAt, pool-read}
 use Rattle.sections.specs.Rows.{slotIn, recordIn}
-use Rattle.sound_lists.specs.declared.links.Stack.{Stack}
-use Rattle.sound_lists.specs.declared.links.Stack.the-variants.{Domains, Regions, Records, Slots, Trackers}
-use Rattle.sound_lists.specs.declared.links.Top.{Top}
-use Rattle.sound_lists.specs.declared.links.Step.{Step}
-use Rattle.sound_lists.specs.Walk.{linkTo}
-use Rattle.sound_lists.specs.Stacks.{slotsOf, eligible, mayMeet, nextOf}
+use Rattle.list_links.specs.declared.Stack.{Stack}
+use Rattle.list_links.specs.declared.Stack.the-variants.{Domains, Regions, Records, Slots, Trackers}
+use Rattle.list_links.specs.declared.Top.{Top}
+use Rattle.list_links.specs.declared.Step.{Step}
+use Rattle.list_links.specs.Walk.{linkTo}
+use Rattle.list_links.specs.Stacks.{slotsOf, eligible, mayMeet, nextOf}
 
 -- ---- a pool's head and count
 

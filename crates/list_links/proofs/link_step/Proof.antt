@@ -2,10 +2,10 @@
 use mathlib.Core.Path.{_∙_}
 use lib.Dec.{ltb}
 use Rattle.base.specs.Tests.{both}
-use Rattle.sound_lists.specs.Reads.{linkStep}
+use Rattle.list_links.specs.Reads.{linkStep}
 use borrow.Author.Needs.{needs}
-use Rattle.sound_lists.proofs.links.link_step.Statement.{statement}
-use Rattle.sound_lists.proofs.links.link_step.Tie as tie
+use Rattle.list_links.proofs.link_step.Statement.{statement}
+use Rattle.list_links.proofs.link_step.Tie as tie
 
 word-requires : tie.Need-word-requires
 word-requires c κs = search needs

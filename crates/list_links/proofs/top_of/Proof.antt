@@ -1,10 +1,10 @@
 -- Each stack by its own words.
 use mathlib.Core.Path.{ap}
 use Rattle.tables.specs.declared.DomainHead.{DomainHead}
-use Rattle.sound_lists.specs.Stacks.{topOf}
+use Rattle.list_links.specs.Stacks.{topOf}
 use borrow.Author.Needs.{needs}
-use Rattle.sound_lists.proofs.links.top_of.Statement.{statement}
-use Rattle.sound_lists.proofs.links.top_of.Tie as tie
+use Rattle.list_links.proofs.top_of.Statement.{statement}
+use Rattle.list_links.proofs.top_of.Tie as tie
 
 enum-told : tie.Need-enum-told
 enum-told c = search needs

@@ -8,10 +8,10 @@ use lib.ListN.{getD}
 use Rattle.base.specs.Tests.{both}
 use Rattle.tables.specs.Kinds.{FREE}
 use Rattle.tables.specs.Tables.{Tables, headAt, slotAt, recordAt}
-use Rattle.sound_lists.specs.declared.links.Stack.{Stack}
-use Rattle.sound_lists.specs.declared.links.Stack.the-variants.{Domains, Regions, Records, Slots, Trackers}
-use Rattle.sound_lists.specs.declared.links.Top.{Top}
-use Rattle.sound_lists.specs.Walk.{linkTo, met, covered}
+use Rattle.list_links.specs.declared.Stack.{Stack}
+use Rattle.list_links.specs.declared.Stack.the-variants.{Domains, Regions, Records, Slots, Trackers}
+use Rattle.list_links.specs.declared.Top.{Top}
+use Rattle.list_links.specs.Walk.{linkTo, met, covered}
 
 -- ---- the free stacks of the three pools and of each domain's list; `Trackers` are the records in use, along all trackers
 

@@ -1,11 +1,11 @@
 -- The slot as the walk reads it.
 use mathlib.Core.Path.{ap}
-use Rattle.sound_lists.specs.declared.links.Step.{Step}
-use Rattle.sound_lists.specs.Reads.{step-is}
+use Rattle.list_links.specs.declared.Step.{Step}
+use Rattle.list_links.specs.Reads.{step-is}
 use Rattle.tables.specs.View.{view}
 use borrow.Author.Needs.{needs}
-use Rattle.sound_lists.proofs.links.may_meet.Statement.{statement}
-use Rattle.sound_lists.proofs.links.may_meet.Tie as tie
+use Rattle.list_links.proofs.may_meet.Statement.{statement}
+use Rattle.list_links.proofs.may_meet.Tie as tie
 
 words-of-requires : tie.Need-words-of-requires
 words-of-requires c κs = search needs

@@ -1,9 +1,10 @@
-// Free stacks and trackers by their links. The words that a list stands in are taken once; a slot is read from them by its number.
+// What is read of a list in lent tables: free stacks and trackers by their links. The words that a list stands in are
+// taken once; a slot is read from them by its number.
 ghost use mathlib.Core.Path.{_≡_};
 ghost use Rattle.tables.specs.View.{view, Sized};
-ghost use Rattle.sound_lists.specs.Walk.{linkTo, mark};
-ghost use Rattle.sound_lists.specs.Stacks.{slotsOf, mayMeet, topOf};
-ghost use Rattle.sound_lists.specs.Reads.{topIn, Lent, linkStep, slotStep, recordStep, stepIn};
+ghost use Rattle.list_links.specs.Walk.{linkTo, mark};
+ghost use Rattle.list_links.specs.Stacks.{slotsOf, mayMeet, topOf};
+ghost use Rattle.list_links.specs.Reads.{topIn, Lent, linkStep, slotStep, recordStep, stepIn};
 use pools::Pool;
 use tables::Slot;
 

@@ -2,10 +2,10 @@
 use mathlib.Core.Path.{_∙_}
 use lib.Dec.{ltb, eqb}
 use Rattle.base.specs.Tests.{both}
-use Rattle.sound_lists.specs.Reads.{recordStep}
+use Rattle.list_links.specs.Reads.{recordStep}
 use borrow.Author.Needs.{needs}
-use Rattle.sound_lists.proofs.links.record_step.Statement.{statement}
-use Rattle.sound_lists.proofs.links.record_step.Tie as tie
+use Rattle.list_links.proofs.record_step.Statement.{statement}
+use Rattle.list_links.proofs.record_step.Tie as tie
 
 word-requires : tie.Need-word-requires
 word-requires c κs = search needs
