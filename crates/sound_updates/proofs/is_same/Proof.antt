@@ -1,8 +1,8 @@
 -- Kinds, slots and generations.
-use Rattle.sound_queue.specs.Ring.{sameDomain}
+use Rattle.sound_updates.specs.Updates.{sameDomain}
 use borrow.Author.Needs.{needs}
-use Rattle.sound_queue.proofs.updates.is_same.Statement.{statement}
-use Rattle.sound_queue.proofs.updates.is_same.Tie as tie
+use Rattle.sound_updates.proofs.is_same.Statement.{statement}
+use Rattle.sound_updates.proofs.is_same.Tie as tie
 
 both-requires : tie.Need-both-requires
 both-requires c κs = search needs

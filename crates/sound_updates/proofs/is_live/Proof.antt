@@ -1,8 +1,8 @@
 -- By the kind.
 use borrow.Author.Tests.{eq-eqb, ne-eqb}
 use borrow.Author.Needs.{needs}
-use Rattle.sound_queue.proofs.updates.is_live.Statement.{statement}
-use Rattle.sound_queue.proofs.updates.is_live.Tie as tie
+use Rattle.sound_updates.proofs.is_live.Statement.{statement}
+use Rattle.sound_updates.proofs.is_live.Tie as tie
 
 domain-is-live-requires : tie.Need-domain-is-live-requires
 domain-is-live-requires c κs = search needs

@@ -1,8 +1,8 @@
 -- By whether it is queued.
-use Rattle.sound_queue.specs.Ring.{updateFits}
+use Rattle.sound_updates.specs.Updates.{updateFits}
 use borrow.Author.Needs.{needs}
-use Rattle.sound_queue.proofs.updates.update_fits.Statement.{statement}
-use Rattle.sound_queue.proofs.updates.update_fits.Tie as tie
+use Rattle.sound_updates.proofs.update_fits.Statement.{statement}
+use Rattle.sound_updates.proofs.update_fits.Tie as tie
 
 is-well-formed-requires : tie.Need-is-well-formed-requires
 is-well-formed-requires c κs = search needs

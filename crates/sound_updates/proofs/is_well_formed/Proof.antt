@@ -1,8 +1,8 @@
 -- By the kind.
 use borrow.Author.Tests.{eq-eqb, ne-eqb}
 use borrow.Author.Needs.{needs}
-use Rattle.sound_queue.proofs.updates.is_well_formed.Statement.{statement}
-use Rattle.sound_queue.proofs.updates.is_well_formed.Tie as tie
+use Rattle.sound_updates.proofs.is_well_formed.Statement.{statement}
+use Rattle.sound_updates.proofs.is_well_formed.Tie as tie
 
 returns : tie.Need-returns
 returns c = rw (eq-eqb _ _ (c .if1 .taken))

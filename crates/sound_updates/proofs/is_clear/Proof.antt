@@ -1,7 +1,7 @@
 -- Each word is 0.
 use borrow.Author.Needs.{needs}
-use Rattle.sound_queue.proofs.updates.is_clear.Statement.{statement}
-use Rattle.sound_queue.proofs.updates.is_clear.Tie as tie
+use Rattle.sound_updates.proofs.is_clear.Statement.{statement}
+use Rattle.sound_updates.proofs.is_clear.Tie as tie
 
 both-requires : tie.Need-both-requires
 both-requires c κs = search needs

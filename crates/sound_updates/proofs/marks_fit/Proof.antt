@@ -1,8 +1,8 @@
 -- By the kind.
 use borrow.Author.Tests.{eq-eqb, ne-eqb}
-use Rattle.sound_queue.specs.Ring.{marksFit}
-use Rattle.sound_queue.proofs.updates.marks_fit.Statement.{statement}
-use Rattle.sound_queue.proofs.updates.marks_fit.Tie as tie
+use Rattle.sound_updates.specs.Updates.{marksFit}
+use Rattle.sound_updates.proofs.marks_fit.Statement.{statement}
+use Rattle.sound_updates.proofs.marks_fit.Tie as tie
 
 returns : tie.Need-returns
 unfolding marksFit

@@ -1,7 +1,8 @@
-// One update of the ring, and two.
+// The test of one update of the ring and of the marks beside it, and whether two updates are of the same domain. The
+// ring itself is tested by crate `sound_queue`.
 ghost use mathlib.Core.Path.{_≡_};
 ghost use Rattle.tables.specs.View.{view, Sized};
-ghost use Rattle.sound_queue.specs.Ring.{clearB, wellFormedB, liveIn, updateFits, marksFit, sameDomain};
+ghost use Rattle.sound_updates.specs.Updates.{clearB, wellFormedB, liveIn, updateFits, marksFit, sameDomain};
 use tables::Handle;
 use tables::Update;
 
