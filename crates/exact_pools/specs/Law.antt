@@ -17,8 +17,8 @@ use Rattle.decoded.specs.Shape.{Shaped}
 use Rattle.decoded.specs.Decode.Read.{taken, freeFrom, heldIn, domainRead, regionRead, domainsFrom, regionsFrom, poolFrom, stateOf}
 use Rattle.decoded.specs.Canonical.WellFormed.{OutsideWellFormed, TrackersWellFormed, DomainWellFormed, domainRow, regionRow, recordRow}
 use Rattle.decoded.specs.Canonical.Pools.{table-used, table-in}
-use Rattle.sound_lists.specs.declared.links.Stack.the-variants.{Domains, Regions, Records, Trackers}
-use Rattle.sound_lists.specs.Stacks.{mayMeet, stackHolds}
+use Rattle.list_links.specs.declared.Stack.the-variants.{Domains, Regions, Records, Trackers}
+use Rattle.list_links.specs.Stacks.{mayMeet, stackHolds}
 use Rattle.sound_pools.specs.Hold.{domainHolds, rowsHold, trackersHold, poolHolds, outsidePoolsHold, recordPoolHolds}
 use Rattle.exact_pools.specs.Clauses.{PoolsClauses, RecordClauses}
 use Rattle.exact_pools.specs.Pools.{PoolGood, pool-good, good-pool, good-well-formed, good-marked, good-beyond, good-used, good-free, good-once, once-good, marked-good, list-once, once-list}

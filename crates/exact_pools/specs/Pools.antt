@@ -21,7 +21,7 @@ use Rattle.decoded.specs.Decode.Read.{afterFree, freeFrom, taken, tableFrom, ca
 use Rattle.decoded.specs.Canonical.WellFormed.{PoolWellFormed, Marked}
 use Rattle.decoded.specs.Canonical.Pools.{taken-link, free-link, not-on, on, table-used, table-free}
 use Rattle.decoded.specs.Canonical.Domains.{held-at}
-use Rattle.sound_lists.specs.Walk.{linkTo}
+use Rattle.list_links.specs.Walk.{linkTo}
 use Rattle.exact_pools.specs.Stacks.{StackGood, testOf, stack-good, good-stack}
 
 -- a test that is both inside and something else

@@ -15,7 +15,7 @@ use Rattle.model.specs.Lists.{oneIf, countIf}
 use Rattle.laws.specs.Stack.{one, one-at-most}
 use Rattle.decoded.specs.Decode.Read.{stackFrom, chainFrom}
 use Rattle.decoded.specs.Canonical.Ends.{stackEnd, chainEnd, end-none}
-use Rattle.sound_lists.specs.Walk.{linkTo, met, covered, covers}
+use Rattle.list_links.specs.Walk.{linkTo, met, covered, covers}
 use Rattle.sound_lists.specs.Counting.{covers-at, at-covers}
 use Rattle.exact_pools.specs.Walks.{marked-once, once-marked, met-is, is-met}
 

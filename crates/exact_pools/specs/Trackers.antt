@@ -19,9 +19,9 @@ use Rattle.tables.specs.declared.Region.{Region}
 use Rattle.tables.specs.Tables.{Tables, noDomain, noRecord, headAt, recordAt}
 use Rattle.decoded.specs.Decode.Read.{chainFrom, taken, recordFrom, domainRead}
 use Rattle.decoded.specs.Canonical.Ends.{chainEnd}
-use Rattle.sound_lists.specs.declared.links.Stack.the-variants.{Trackers}
-use Rattle.sound_lists.specs.Walk.{covered, met}
-use Rattle.sound_lists.specs.Stacks.{mayMeet, eligible, nextOf}
+use Rattle.list_links.specs.declared.Stack.the-variants.{Trackers}
+use Rattle.list_links.specs.Walk.{covered, met}
+use Rattle.list_links.specs.Stacks.{mayMeet, eligible, nextOf}
 use Rattle.sound_lists.specs.Counting.{covers-at, at-covers}
 use Rattle.sound_pools.specs.Hold.{onward, trackersMet, trackersHold}
 use Rattle.exact_pools.specs.Walks.{marked-once, once-marked, Met, met-is, Goes, is-met}

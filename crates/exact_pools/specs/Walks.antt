@@ -17,7 +17,7 @@ use Rattle.model.specs.Lists.{oneIf, countIf}
 use Rattle.laws.specs.Stack.{one}
 use Rattle.decoded.specs.Decode.Read.{chainFrom}
 use Rattle.decoded.specs.Canonical.Ends.{chainEnd}
-use Rattle.sound_lists.specs.Walk.{seen, fresh, met, ended}
+use Rattle.list_links.specs.Walk.{seen, fresh, met, ended}
 
 -- ---- what was met, counted
 

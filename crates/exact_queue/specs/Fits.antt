@@ -12,7 +12,7 @@ use Rattle.base.specs.Tests.{both, both-true}
 use Rattle.tables.specs.declared.Update.{Update}
 use Rattle.tables.specs.Tables.{noUpdate}
 use Rattle.decoded.specs.Canonical.WellFormed.{UpdateWellFormed}
-use Rattle.sound_queue.specs.Ring.{clearB, wellFormedB, marksFit, sameDomain}
+use Rattle.sound_updates.specs.Updates.{clearB, wellFormedB, marksFit, sameDomain}
 
 pub zero-is : (u : Update) → clearB u ≡ true → u ≡ noUpdate
 zero-is u t =

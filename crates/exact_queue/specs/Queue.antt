@@ -26,7 +26,8 @@ use Rattle.decoded.specs.Decode.Places.{along, items-are}
 use Rattle.decoded.specs.Canonical.WellFormed.{QueueWellFormed, UpdateWellFormed, place, placeMark, behind}
 use Rattle.decoded.specs.Canonical.Ring.{along-back}
 use Rattle.decoded.specs.Canonical.Sound.{queue-walked}
-use Rattle.sound_queue.specs.Ring.{clearB, wellFormedB, handleAt, liveIn, updateFits, marksFit, sameDomain, allIn, numbered, markNumbered, numbersHold, noneSame, singly, queueHolds}
+use Rattle.sound_updates.specs.Updates.{clearB, wellFormedB, handleAt, liveIn, updateFits, marksFit, sameDomain}
+use Rattle.sound_queue.specs.Ring.{allIn, numbered, markNumbered, numbersHold, noneSame, singly, queueHolds}
 use Rattle.exact_capas.specs.Reads.{live-read}
 use Rattle.exact_queue.specs.Clauses.{Stored, QueueClauses}
 use Rattle.exact_queue.specs.Fits.{zero-is, fit-small, fit-none, marks-fit, well-formed-is, is-cleanup, is-well-formed, is-same, same-is}

@@ -14,11 +14,11 @@ use Rattle.marks.specs.Marks.{wordsFor, unmarked}
 use Rattle.marks.specs.Laws.{unmarked-zero}
 use Rattle.tables.specs.Tables.{Tables}
 use Rattle.tables.specs.View.{view}
-use Rattle.sound_lists.specs.declared.links.Stack.{Stack}
-use Rattle.sound_lists.specs.declared.links.Top.{Top}
+use Rattle.list_links.specs.declared.Stack.{Stack}
+use Rattle.list_links.specs.declared.Top.{Top}
+use Rattle.list_links.specs.Walk.{linkTo}
+use Rattle.list_links.specs.Stacks.{slotsOf, topOf, mayMeet, metIn, coveredIn, stackHolds}
 use Rattle.sound_lists.specs.declared.walks.Followed.{Followed}
-use Rattle.sound_lists.specs.Walk.{linkTo}
-use Rattle.sound_lists.specs.Stacks.{slotsOf, topOf, mayMeet, metIn, coveredIn, stackHolds}
 use Rattle.sound_lists.specs.Counting.{tally, covers-counted}
 use Rattle.sound_lists.specs.Marks.{Clean, marks-none}
 use Rattle.sound_lists.specs.Loops.{Gone, Beyond, Marked, Settled, may-inside}

@@ -10,7 +10,7 @@ use lib.Dec.{eqb}
 use lib.ListN.{length}
 use Rattle.base.specs.Cases.{holds, fails, test}
 use Rattle.base.specs.Tests.{both-true, all-at, at-all, true-false}
-use Rattle.sound_lists.specs.Walk.{seen, fresh, mark, covers}
+use Rattle.list_links.specs.Walk.{seen, fresh, mark, covers}
 
 -- how many of n slots pass
 abbrev pub tally : (ℕ → Bool) → ℕ → ℕ

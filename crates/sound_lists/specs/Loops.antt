@@ -14,13 +14,13 @@ use Rattle.base.specs.Tests.{both, both-true, both-i, true-false}
 use Rattle.marks.specs.Marks.{marked, withMark, wordsFor}
 use Rattle.marks.specs.Laws.{mark-past}
 use Rattle.tables.specs.Tables.{Tables}
-use Rattle.sound_lists.specs.declared.links.Stack.{Stack}
-use Rattle.sound_lists.specs.declared.links.Step.{Step}
+use Rattle.list_links.specs.declared.Stack.{Stack}
+use Rattle.list_links.specs.declared.Step.{Step}
+use Rattle.list_links.specs.Walk.{fresh, met, ended}
+use Rattle.list_links.specs.Stacks.{slotsOf, mayMeet, nextOf, metIn, coveredIn}
+use Rattle.list_links.specs.Reads.{stepOf}
 use Rattle.sound_lists.specs.declared.walks.Followed.{Followed}
-use Rattle.sound_lists.specs.Walk.{fresh, met, ended}
-use Rattle.sound_lists.specs.Stacks.{slotsOf, mayMeet, nextOf, metIn, coveredIn}
 use Rattle.sound_lists.specs.Marks.{Marks, fresh-is, marks-more}
-use Rattle.sound_lists.specs.Reads.{stepOf}
 
 abbrev pub found : Option (List ℕ) → Bool
 found none = false

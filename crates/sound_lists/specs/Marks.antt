@@ -9,7 +9,7 @@ use lib.ListN.{length, replicate}
 use Rattle.base.specs.Tests.{both}
 use Rattle.marks.specs.Marks.{marked, withMark}
 use Rattle.marks.specs.Laws.{mark-same, mark-other, none-marked}
-use Rattle.sound_lists.specs.Walk.{seen, fresh}
+use Rattle.list_links.specs.Walk.{seen, fresh}
 use Rattle.sound_lists.specs.Counting.{Once}
 
 -- what the work area is before and after: as long as the tables, and all zero

@@ -1,3 +1,2 @@
-// A list in lent tables, by its links: what is read of a slot, and the walk that marks each slot it meets in the work area.
-pub mod links;
+// A list in lent tables walked along its links: each slot that is met is marked in the work area, and what was met is counted.
 pub mod walks;

@@ -2,12 +2,11 @@
 ghost use mathlib.Core.Path.{_≡_};
 ghost use lib.ListN.{length};
 ghost use Rattle.tables.specs.View.{view, Sized};
-ghost use Rattle.sound_lists.specs.Stacks.{slotsOf, mayMeet, stackHolds};
+ghost use Rattle.list_links.specs.Stacks.{slotsOf, mayMeet, stackHolds};
 ghost use Rattle.sound_lists.specs.Counting.{tally};
 ghost use Rattle.sound_lists.specs.Marks.{Clean};
 ghost use Rattle.sound_lists.specs.Loops.{Marked, Settled};
-use crate::links;
-use crate::links::Stack;
+use list_links::Stack;
 
 // How many links were followed, and whether the walk ended where it should and met what it may, nothing twice.
 pub struct Followed {
@@ -21,14 +20,14 @@ pub fn follow(t: &[u64], s: Stack, e: u64, most: usize, l: u64, w: &mut [u64]) -
     requires { ⌜ length (now w) ≡ length (now t) ⌝ }
     ensures { λ r. ⌜ Marked (view (now (t .entry))) s e most l (now (w .entry)) r (now (w .exit)) ⌝ }
 {
-    let n = links::slots_of(t, s);
-    let p = links::words_of(t, s);
+    let n = list_links::slots_of(t, s);
+    let p = list_links::words_of(t, s);
     let records = sections::records_of(t);
     let mut followed = 0;
     let mut l = l;
     while words::both(followed < most, 0 < l) {
         let i = (l - 1) as usize;
-        let x = links::step_at(s, p, records, n, i);
+        let x = list_links::step_at(s, p, records, n, i);
         let new = words::both(x.may, !marks::is_marked(w, i));
         if !new {
             return Followed {
@@ -51,14 +50,14 @@ fn count(t: &[u64], s: Stack) -> usize
     requires { ⌜ Sized (now t) ⌝ }
     ensures { λ r. ⌜ r ≡ tally (mayMeet (view (now (t .entry))) s) (slotsOf (view (now (t .entry))) s) ⌝ }
 {
-    let n = links::slots_of(t, s);
-    let p = links::words_of(t, s);
+    let n = list_links::slots_of(t, s);
+    let p = list_links::words_of(t, s);
     let records = sections::records_of(t);
     let mut k = 0;
     let mut i = 0;
     while i < n {
-        let x = links::step_at(s, p, records, n, i);
-        k += links::one_if(x.may);
+        let x = list_links::step_at(s, p, records, n, i);
+        k += list_links::one_if(x.may);
         i += 1;
     }
     k
@@ -71,7 +70,7 @@ pub fn settle(t: &[u64], s: Stack, x: Followed, w: &mut [u64]) -> bool
     ensures { λ r. ⌜ Settled (view (now (t .entry))) s x (now (w .entry)) r (now (w .exit)) ⌝ }
 {
     let all = count(t, s);
-    let n = links::slots_of(t, s);
+    let n = list_links::slots_of(t, s);
     marks::clear(w, n);
     words::both(x.ended, x.links == all)
 }
@@ -83,11 +82,11 @@ pub fn stack_holds(t: &[u64], s: Stack, w: &mut [u64]) -> bool
     ensures { λ r. ⌜ r ≡ stackHolds (view (now (t .entry))) s ⌝ }
     ensures { λ _. ⌜ now (w .exit) ≡ now (w .entry) ⌝ }
 {
-    let n = links::slots_of(t, s);
-    let top = links::top_of(t, s);
+    let n = list_links::slots_of(t, s);
+    let top = list_links::top_of(t, s);
     let used = top.count as usize;
     if used <= n {
-        let x = follow(t, s, 1, n - used, links::link_to(n, top.head), w);
+        let x = follow(t, s, 1, n - used, list_links::link_to(n, top.head), w);
         return settle(t, s, x, w);
     }
     false

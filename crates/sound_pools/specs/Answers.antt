@@ -12,9 +12,9 @@ use Rattle.tables.specs.declared.DomainHead.{DomainHead}
 use Rattle.tables.specs.Tables.{Tables, headAt}
 use Rattle.tables.specs.View.{view, ofParts}
 use Rattle.sizes.specs.Sizes.{sizesOf}
-use Rattle.sound_lists.specs.declared.links.Stack.the-variants.{Domains, Slots, Trackers}
+use Rattle.list_links.specs.declared.Stack.the-variants.{Domains, Slots, Trackers}
+use Rattle.list_links.specs.Stacks.{mayMeet, stackHolds}
 use Rattle.sound_lists.specs.declared.walks.Followed.{Followed}
-use Rattle.sound_lists.specs.Stacks.{mayMeet, stackHolds}
 use Rattle.sound_lists.specs.Marks.{Clean, Marks, marks-none}
 use Rattle.sound_lists.specs.Loops.{Marked, Settled}
 use Rattle.sound_lists.specs.Answers.{back}

@@ -13,9 +13,9 @@ use Rattle.tables.specs.declared.RegionCapa.{RegionCapa}
 use Rattle.tables.specs.declared.Region.{Region}
 use Rattle.tables.specs.Kinds.{NONE, FREE, CHANNEL}
 use Rattle.tables.specs.Tables.{Tables, headAt, slotAt, regionAt, recordAt}
-use Rattle.sound_lists.specs.declared.links.Stack.{Stack}
-use Rattle.sound_lists.specs.declared.links.Stack.the-variants.{Domains, Regions, Records, Slots, Trackers}
-use Rattle.sound_lists.specs.Stacks.{slotsOf, mayMeet, metIn, coveredIn, stackHolds}
+use Rattle.list_links.specs.declared.Stack.{Stack}
+use Rattle.list_links.specs.declared.Stack.the-variants.{Domains, Regions, Records, Slots, Trackers}
+use Rattle.list_links.specs.Stacks.{slotsOf, mayMeet, metIn, coveredIn, stackHolds}
 
 -- ---- "each tracker record is on one list"
 

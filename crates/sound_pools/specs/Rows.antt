@@ -9,8 +9,8 @@ use lib.ListN.{getD}
 use Rattle.base.specs.Cases.{pick}
 use Rattle.tables.specs.Tables.{Tables, regionAt, recordAt}
 use Rattle.sections.specs.Rows.{regionIn, recordIn}
-use Rattle.sound_lists.specs.declared.links.Stack.the-variants.{Regions, Records}
-use Rattle.sound_lists.specs.Stacks.{eligible, mayMeet}
+use Rattle.list_links.specs.declared.Stack.the-variants.{Regions, Records}
+use Rattle.list_links.specs.Stacks.{eligible, mayMeet}
 use Rattle.sound_pools.specs.Hold.{regionClear, recordClear, rowHolds}
 
 -- a row whose link is not 0 is free, and clear

@@ -10,9 +10,9 @@ use lib.ListN.{length}
 use Rattle.base.specs.Cases.{pick}
 use Rattle.base.specs.Tests.{true-false}
 use Rattle.tables.specs.Tables.{Tables, headAt}
-use Rattle.sound_lists.specs.declared.links.Stack.the-variants.{Domains, Trackers}
+use Rattle.list_links.specs.declared.Stack.the-variants.{Domains, Trackers}
+use Rattle.list_links.specs.Stacks.{mayMeet, metIn}
 use Rattle.sound_lists.specs.declared.walks.Followed.{Followed}
-use Rattle.sound_lists.specs.Stacks.{mayMeet, metIn}
 use Rattle.sound_lists.specs.Counting.{once-few}
 use Rattle.sound_lists.specs.Marks.{Marks}
 use Rattle.sound_lists.specs.Loops.{found, Gone, Beyond, Marked, Rest, none-gone, some-gone, may-inside}

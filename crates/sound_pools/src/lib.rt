@@ -4,7 +4,7 @@ ghost use mathlib.Core.Path.{_≡_};
 ghost use lib.ListN.{length, replicate};
 ghost use Rattle.tables.specs.View.{view, Sized};
 ghost use Rattle.sound_pools.specs.Hold.{outsidePoolsHold, recordPoolHolds};
-use sound_lists::links::Stack;
+use list_links::Stack;
 use sound_lists::walks;
 
 pub mod rows;

@@ -4,9 +4,8 @@ ghost use Rattle.tables.specs.View.{view, Sized};
 ghost use Rattle.sound_lists.specs.Marks.{Clean};
 ghost use Rattle.sound_pools.specs.Hold.{headClear, slotClear, slotWellFormed, slotFits, regionClear, recordClear, slotsHold, domainHolds, rowsHold};
 ghost use Rattle.sound_pools.specs.Rows.{regionFits, recordFits};
+use list_links::Stack;
 use pools::Pool;
-use sound_lists::links;
-use sound_lists::links::Stack;
 use sound_lists::walks;
 use tables::DomainHead;
 use tables::Region;
@@ -109,7 +108,7 @@ fn domain_holds(t: &[u64], d: usize, w: &mut [u64]) -> bool
     ensures { λ r. ⌜ r ≡ domainHolds (view (now (t .entry))) d ⌝ }
     ensures { λ _. ⌜ now (w .exit) ≡ now (w .entry) ⌝ }
 {
-    let free = links::may_meet(t, Stack::Domains, d);
+    let free = list_links::may_meet(t, Stack::Domains, d);
     let slots = slots_hold(t, d, free);
     if free {
         let head = head_clear(domain_rows::load_head(t, d));
@@ -126,7 +125,7 @@ pub fn domains_hold(t: &[u64], w: &mut [u64]) -> bool
     ensures { λ r. ⌜ r ≡ rowsHold (view (now (t .entry))) Stack.Domains ⌝ }
     ensures { λ _. ⌜ now (w .exit) ≡ now (w .entry) ⌝ }
 {
-    let n = links::slots_of(t, Stack::Domains);
+    let n = list_links::slots_of(t, Stack::Domains);
     let mut d = 0;
     while d < n {
         let holds = domain_holds(t, d, w);
@@ -164,7 +163,7 @@ pub fn regions_hold(t: &[u64]) -> bool
     requires { ⌜ Sized (now t) ⌝ }
     ensures { λ r. ⌜ r ≡ rowsHold (view (now (t .entry))) Stack.Regions ⌝ }
 {
-    let n = links::slots_of(t, Stack::Regions);
+    let n = list_links::slots_of(t, Stack::Regions);
     let free = sections::links_of(t, Pool::Regions);
     let rows = sections::regions_of(t);
     let mut i = 0;
@@ -182,7 +181,7 @@ pub fn records_hold(t: &[u64]) -> bool
     requires { ⌜ Sized (now t) ⌝ }
     ensures { λ r. ⌜ r ≡ rowsHold (view (now (t .entry))) Stack.Records ⌝ }
 {
-    let n = links::slots_of(t, Stack::Records);
+    let n = list_links::slots_of(t, Stack::Records);
     let free = sections::links_of(t, Pool::Records);
     let rows = sections::records_of(t);
     let mut i = 0;

@@ -4,8 +4,7 @@ ghost use Rattle.tables.specs.View.{view, Sized};
 ghost use Rattle.sound_lists.specs.Marks.{Clean};
 ghost use Rattle.sound_pools.specs.Hold.{trackersHold};
 ghost use Rattle.sound_pools.specs.Trackers.{TrackersMarked};
-use sound_lists::links;
-use sound_lists::links::Stack;
+use list_links::Stack;
 use sound_lists::walks;
 use sound_lists::walks::Followed;
 
@@ -20,7 +19,7 @@ fn follow_trackers(t: &[u64], w: &mut [u64]) -> Followed
     let mut followed = 0;
     let mut d = 0;
     while d < n {
-        if !links::may_meet(t, Stack::Domains, d) {
+        if !list_links::may_meet(t, Stack::Domains, d) {
             let first = domain_rows::load_head(t, d).tracker;
             let x = walks::follow(t, Stack::Trackers, 0, records, first, w);
             if !x.ended {

@@ -13,7 +13,8 @@ use Rattle.tables.specs.declared.Update.{Update}
 use Rattle.tables.specs.Tables.{Tables}
 use Rattle.tables.specs.View.{view, ofParts}
 use Rattle.sizes.specs.Sizes.{sizesOf}
-use Rattle.sound_queue.specs.Ring.{updateFits, marksFit, allIn, numbered, markNumbered, numbersHold, singly, queuedIn, ringHolds, queueHolds}
+use Rattle.sound_updates.specs.Updates.{updateFits, marksFit}
+use Rattle.sound_queue.specs.Ring.{allIn, numbered, markNumbered, numbersHold, singly, queuedIn, ringHolds, queueHolds}
 
 pub updates-seen : (t : List ℕ) → getD t 4 0 ≡ view t .sizes .updates
 unfolding view ofParts sizesOf

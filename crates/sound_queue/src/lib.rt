@@ -3,9 +3,6 @@ ghost use mathlib.Core.Path.{_≡_};
 ghost use Prim.Native.Nat.{_+_, _<_, _≤_};
 ghost use Rattle.tables.specs.View.{view, Sized};
 ghost use Rattle.sound_queue.specs.Ring.{numbered, markNumbered, numbersHold, noneSame, singly, queueHolds};
-
-pub mod updates;
-
 use tables::Update;
 
 // Update number j of n places.
@@ -38,8 +35,8 @@ fn numbers_hold(t: &[u64], n: usize, read: usize, m: usize) -> bool
     while j < n {
         let u = update_numbered(t, n, read, j);
         let marks = marks_numbered(t, n, read, j);
-        let fits = updates::update_fits(t, u, j < m);
-        let marked = updates::marks_fit(u, marks);
+        let fits = sound_updates::update_fits(t, u, j < m);
+        let marked = sound_updates::marks_fit(u, marks);
         if !words::both(fits, marked) {
             return false;
         }
@@ -58,7 +55,7 @@ fn none_same(t: &[u64], n: usize, read: usize, m: usize, u: Update, from: usize)
     let mut i = from;
     while i < m {
         let x = update_numbered(t, n, read, i);
-        let same = updates::is_same(u, x);
+        let same = sound_updates::is_same(u, x);
         if same {
             return false;
         }

@@ -1,12 +1,9 @@
 -- The records along a tracker's links, as the model has them.
 use mathlib.Core.List.{List, [], _∷_}
 use Prim.Native.Nat.{ℕ, zero, suc}
-use Rattle.model.specs.State.{Counts, Record}
+use Rattle.model.specs.State.{Record}
 use Rattle.tables.specs.declared.Region.{Region}
-
-abbrev pub countsFrom : Region → Counts
-countsFrom q =
-    record { reach = q .«ref_count»; read = q .«read_count»; write = q .«write_count»; exec = q .«exec_count»; super = q .«super_count»; uncacheable = q .«uncache_count» }
+use Rattle.sweep_cursors.specs.Sums.{countsFrom}
 
 -- the record in slot i
 abbrev pub recordFrom : ℕ → Region → Record

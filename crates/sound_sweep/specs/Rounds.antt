@@ -14,11 +14,12 @@ use Rattle.sweep.specs.Sweep.{upto, next, nextOf, agrees, inside}
 use Rattle.sweep.specs.Cursor.{left, round-shorter}
 use Rattle.sweep.specs.Loops.{inside-go, inside-stop, inside-fail}
 use Rattle.sound_events.specs.Events.{eventsIn}
-use Rattle.sound_sweep.specs.declared.Cursor.{Cursor}
+use Rattle.sweep_cursors.specs.declared.Cursor.{Cursor}
+use Rattle.sweep_cursors.specs.Sums.{countsOf, countsFrom, Low}
+use Rattle.sweep_cursors.specs.Cursors.{cursorIn, At}
 use Rattle.sound_sweep.specs.declared.Both.{Both}
-use Rattle.sound_sweep.specs.Records.{countsFrom, recordFrom}
-use Rattle.sound_sweep.specs.Sums.{countsOf, Low}
-use Rattle.sound_sweep.specs.Cursors.{cursorIn, rounds, At, Left}
+use Rattle.sound_sweep.specs.Records.{recordFrom}
+use Rattle.sound_sweep.specs.Cursors.{rounds, Left}
 
 -- how many events are ahead
 abbrev pub events : List ℕ → List ℕ → Cursor → Cursor → ℕ

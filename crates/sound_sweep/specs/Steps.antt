@@ -19,13 +19,14 @@ use Rattle.sweep.specs.Sweep as sweep
 use Rattle.sweep.specs.Sweep.{upto, next, formed, gap, same, inside, sweepFrom}
 use Rattle.sound_events.specs.Events.{eventsIn}
 use Rattle.sound_events.specs.Words.{length-events}
-use Rattle.sound_sweep.specs.declared.Sums.{Sums}
-use Rattle.sound_sweep.specs.declared.Cursor.{Cursor}
+use Rattle.sweep_cursors.specs.declared.Sums.{Sums}
+use Rattle.sweep_cursors.specs.declared.Cursor.{Cursor}
+use Rattle.sweep_cursors.specs.Sums.{countsOf}
+use Rattle.sweep_cursors.specs.Tests.{three, two}
+use Rattle.sweep_cursors.specs.Cursors.{cursorIn, At}
 use Rattle.sound_sweep.specs.declared.Both.{Both}
 use Rattle.sound_sweep.specs.Records.{recordFrom}
-use Rattle.sound_sweep.specs.Sums.{countsOf}
-use Rattle.sound_sweep.specs.Tests.{two}
-use Rattle.sound_sweep.specs.Cursors.{cursorIn, summed, rounds, At, Left}
+use Rattle.sound_sweep.specs.Cursors.{summed, rounds, Left}
 
 -- May q stand behind b, at whose end the ends passed have the sums k?
 abbrev pub follows : Record → Record → sweep.Cursor → Counts → Bool
@@ -43,6 +44,9 @@ abbrev pub ending : Record → sweep.Cursor → sweep.Cursor → Bool
 ending b p m = isEmpty (p .ahead) && same p (upto (b .end) m)
 
 -- ---- a record behind another
+
+pub has-form : (q : Region) → both (both (ltb (q .start) (q .end)) (ltb 0 (q .«ref_count»))) (leb (q .«uncache_count») 1) ≡ formed (recordFrom 0 q)
+has-form q = three (ltb (q .start) (q .end)) (ltb 0 (q .«ref_count»)) (leb (q .«uncache_count») 1)
 
 pub gap-tested : (s : List ℕ) (x n : ℕ) (p : Cursor) (m : Sums) → n ≡ next (drop (p .place) (eventsIn s)) x → both (eqb (p .sums .«ref_count») (m .«ref_count»)) (leb x n) ≡ gap x (cursorIn s p) (summed (countsOf m))
 gap-tested s x n p m e = rw (← e) (two (eqb (p .sums .«ref_count») (m .«ref_count»)) (leb x n))

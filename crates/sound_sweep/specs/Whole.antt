@@ -13,11 +13,12 @@ use Rattle.tables.specs.Tables.{noRecord}
 use Rattle.sweep.specs.Sweep as sweep
 use Rattle.sweep.specs.Sweep.{sweepFrom}
 use Rattle.sound_events.specs.Events.{eventsIn}
-use Rattle.sound_sweep.specs.declared.Cursor.{Cursor}
+use Rattle.sweep_cursors.specs.declared.Cursor.{Cursor}
+use Rattle.sweep_cursors.specs.Sums.{Low}
+use Rattle.sweep_cursors.specs.Cursors.{cursorIn, First}
 use Rattle.sound_sweep.specs.declared.Both.{Both}
 use Rattle.sound_sweep.specs.Records.{recordFrom, chained}
-use Rattle.sound_sweep.specs.Sums.{Low}
-use Rattle.sound_sweep.specs.Cursors.{cursorIn, rounds, First, Left}
+use Rattle.sound_sweep.specs.Cursors.{rounds, Left}
 use Rattle.sound_sweep.specs.Steps.{turn, ending, turn-slot, last-slot, sweep-turn, sweep-end}
 
 -- ---- along the links

@@ -1,15 +1,16 @@
 // One record of the sweep, and the end behind the last.
 ghost use mathlib.Core.Path.{_≡_};
 ghost use Rattle.sweep.specs.Sweep.{formed, gap, inside};
+ghost use Rattle.sweep_cursors.specs.Sums.{Low, countsOf};
+ghost use Rattle.sweep_cursors.specs.Cursors.{cursorIn};
 ghost use Rattle.sound_sweep.specs.Records.{recordFrom};
-ghost use Rattle.sound_sweep.specs.Sums.{Low, countsOf};
-ghost use Rattle.sound_sweep.specs.Cursors.{cursorIn, summed, Left, rounds};
+ghost use Rattle.sound_sweep.specs.Cursors.{summed, Left, rounds};
 ghost use Rattle.sound_sweep.specs.Steps.{follows, turn, ending};
 use crate::Both;
-use crate::Cursor;
-use crate::Sums;
-use crate::counts;
-use crate::events;
+use sweep_cursors::Cursor;
+use sweep_cursors::Sums;
+use sweep_cursors::counts;
+use sweep_cursors::events;
 use tables::Region;
 
 // Start before end, reach above 0, uncacheable count 0 or 1.

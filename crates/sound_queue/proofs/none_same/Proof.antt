@@ -4,7 +4,8 @@ use Prim.Native.Nat.{_-_}
 use mathlib.Core.Path.{_≡_, refl, sym, ap, _∙_}
 use native.Mathlib.Omega.{arith}
 use mathlib.Core.Bool.{not}
-use Rattle.sound_queue.specs.Ring.{sameDomain, allIn, numbered, noneSame}
+use Rattle.sound_updates.specs.Updates.{sameDomain}
+use Rattle.sound_queue.specs.Ring.{allIn, numbered, noneSame}
 use Rattle.tables.specs.View.{view}
 use Rattle.sound_queue.specs.Steps.{all-end, all-go, all-stop}
 use Rattle.sound_queue.proofs.none_same.Statement.{statement}

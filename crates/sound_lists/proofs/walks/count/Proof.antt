@@ -4,11 +4,11 @@ use Prim.Native.Nat.{_-_, _≤_}
 use native.Mathlib.Omega.{arith}
 use borrow.Author.Needs.{needs}
 use Rattle.tables.specs.View.{view}
-use Rattle.sound_lists.specs.declared.links.Step.{Step}
-use Rattle.sound_lists.specs.Stacks.{mayMeet, slotsOf}
-use Rattle.sound_lists.specs.Walk.{mark}
+use Rattle.list_links.specs.declared.Step.{Step}
+use Rattle.list_links.specs.Stacks.{mayMeet, slotsOf}
+use Rattle.list_links.specs.Walk.{mark}
+use Rattle.list_links.specs.Reads.{step-is}
 use Rattle.sound_lists.specs.Counting.{tally, mark-most, tally-most, tally-next, tally-all}
-use Rattle.sound_lists.specs.Reads.{step-is}
 use Rattle.sound_lists.proofs.walks.count.Statement.{statement}
 use Rattle.sound_lists.proofs.walks.count.Tie as tie
 

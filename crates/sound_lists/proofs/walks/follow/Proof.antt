@@ -6,7 +6,7 @@ use borrow.Author.Needs.{needs}
 use borrow.Author.Tests.{not-true, not-false}
 use lib.ListN.{length}
 use Rattle.tables.specs.View.{view}
-use Rattle.sound_lists.specs.Reads.{slots-inside, step-is}
+use Rattle.list_links.specs.Reads.{slots-inside, step-is}
 use Rattle.sound_lists.specs.Loops.{Going, going-start, more-to-follow, follow-go, follow-stop, follow-end}
 use Rattle.sound_lists.proofs.walks.follow.Statement.{statement}
 use Rattle.sound_lists.proofs.walks.follow.Tie as tie

@@ -1,6 +1,6 @@
 -- What was met is counted; the marks are cleared.
 use native.Mathlib.Omega.{arith}
-use Rattle.sound_lists.specs.Reads.{slots-inside}
+use Rattle.list_links.specs.Reads.{slots-inside}
 use Rattle.sound_lists.specs.Answers.{settled}
 use borrow.Author.Needs.{needs}
 use Rattle.sound_lists.proofs.walks.settle.Statement.{statement}

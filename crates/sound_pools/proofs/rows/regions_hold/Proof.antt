@@ -6,7 +6,7 @@ use borrow.Author.Needs.{needs}
 use borrow.Author.Tests.{not-true, not-false}
 use Rattle.base.specs.Tests.{allFrom}
 use Rattle.tables.specs.View.{view}
-use Rattle.sound_lists.specs.declared.links.Stack.the-variants.{Regions}
+use Rattle.list_links.specs.declared.Stack.the-variants.{Regions}
 use Rattle.sound_pools.specs.Hold.{rowHolds, rowsHold}
 use Rattle.sound_pools.specs.Passed.{Passed, passed-start, passed-go, passed-stop, passed-end}
 use Rattle.sound_pools.specs.Rows.{region-row}

@@ -2,9 +2,9 @@
 use mathlib.Core.Path.{ap, _∙_}
 use mathlib.Core.Bool.{not}
 use borrow.Author.Tests.{not-true, not-false}
+use Rattle.sweep_cursors.specs.Sums.{countsOf}
+use Rattle.sweep_cursors.specs.Cursors.{cursorIn}
 use Rattle.sound_sweep.specs.Records.{recordFrom}
-use Rattle.sound_sweep.specs.Sums.{countsOf}
-use Rattle.sound_sweep.specs.Cursors.{cursorIn}
 use Rattle.sound_sweep.specs.Steps.{follows-no, follows-gap, follows-touch}
 use borrow.Author.Needs.{needs}
 use Rattle.sound_sweep.proofs.records.follows.Statement.{statement}

@@ -1,5 +1,5 @@
 -- The three tests.
-use Rattle.sound_sweep.specs.Tests.{has-form}
+use Rattle.sound_sweep.specs.Steps.{has-form}
 use borrow.Author.Needs.{needs}
 use Rattle.sound_sweep.proofs.records.formed.Statement.{statement}
 use Rattle.sound_sweep.proofs.records.formed.Tie as tie
