@@ -1,14 +1,14 @@
 -- What is left of the walk from here is the whole walk from the start.
-use Rattle.region.proofs.Steps.{walk-start, walk-end, walk-going, walk-over}
+use Rattle.tracker.proofs.Steps.{walk-start, walk-end, walk-going, walk-over}
 use Rattle.region.specs.Turns.{walk}
 use Rattle.sizes.specs.Sizes.{sizesOf}
 use Rattle.tables.specs.View.{view, Sized}
 use borrow.Author.Needs.{needs}
 use lib.ListN.{length}
 use mathlib.Core.Path.{_≡_, refl, _∙_}
 use native.Mathlib.Omega.{arith}
-use Rattle.region.proofs.tracker.walk.Statement.{statement}
-use Rattle.region.proofs.tracker.walk.Tie as tie
+use Rattle.tracker.proofs.walk.Statement.{statement}
+use Rattle.tracker.proofs.walk.Tie as tie
 
 abbrev Inv-loop : tie.InvT-loop
 Inv-loop t₀ d way a marks left₀ c₀ t left c = (length t ≡ length t₀) × Sized t × (walk way d a left c (view t) ≡ walk way d a left₀ c₀ (view t₀))

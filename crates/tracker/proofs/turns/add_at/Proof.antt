@@ -1,10 +1,10 @@
 -- By the tests in their order.
 use Rattle.region.specs.Turns.{addAt}
 use borrow.Author.Needs.{needs}
 use borrow.Author.Tests.{lt-ltb, le-ltb, le-leb, lt-leb}
 use Rattle.answers.specs.Then.{stays}
-use Rattle.region.proofs.turns.add_at.Statement.{statement}
-use Rattle.region.proofs.turns.add_at.Tie as tie
+use Rattle.tracker.proofs.turns.add_at.Statement.{statement}
+use Rattle.tracker.proofs.turns.add_at.Tie as tie
 
 least-requires : tie.Need-least-requires
 least-requires c κs = search needs

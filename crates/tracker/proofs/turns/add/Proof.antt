@@ -1,11 +1,11 @@
 -- The range is done; or no record, or one, is at hand.
 use Rattle.region.specs.Turns.{addTurn}
 use borrow.Author.Needs.{needs}
 use borrow.Author.Tests.{eq-eqb, ne-eqb, le-leb, lt-leb}
 use mathlib.Core.Path.{refl}
 use Rattle.answers.specs.Then.{stays}
-use Rattle.region.proofs.turns.add.Statement.{statement}
-use Rattle.region.proofs.turns.add.Tie as tie
+use Rattle.tracker.proofs.turns.add.Statement.{statement}
+use Rattle.tracker.proofs.turns.add.Tie as tie
 
 returns : tie.Need-returns
 unfolding addTurn

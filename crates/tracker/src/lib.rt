@@ -1,14 +1,16 @@
-// The tracker of domain d (`RegionTracker`).
+// The tracker of domain d (`RegionTracker`; document 01, **Tracker**): a range gained or lost, by walks over its records, turn by
+// turn. A walk's types and definitions, and what a turn does to one record, are crate `region`'s.
+pub mod turns;
+
 ghost use mathlib.Core.Path.{_≡_};
 ghost use Rattle.tables.specs.View.{view, Sized, Left};
 ghost use Rattle.region.specs.Turns.{walked, addRegion, removeRegion};
-use crate::AccessRights;
-use crate::Cursor;
-use crate::Progress;
-use crate::Way;
-use crate::turns;
 use answers::Answer;
 use refusals::Refusal;
+use region::AccessRights;
+use region::Cursor;
+use region::Progress;
+use region::Way;
 use tracker_records::links;
 
 // A walk from the first record on. The bound on its turns is met only where links go round.

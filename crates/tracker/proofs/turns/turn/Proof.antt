@@ -1,7 +1,7 @@
 -- Each way has its own turn.
 use borrow.Author.Needs.{needs}
-use Rattle.region.proofs.turns.turn.Statement.{statement}
-use Rattle.region.proofs.turns.turn.Tie as tie
+use Rattle.tracker.proofs.turns.turn.Statement.{statement}
+use Rattle.tracker.proofs.turns.turn.Tie as tie
 
 enum-told : tie.Need-enum-told
 enum-told c = search needs

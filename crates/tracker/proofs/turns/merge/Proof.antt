@@ -1,11 +1,11 @@
 -- No record is at hand, or none behind it, or both are.
 use Rattle.region.specs.Turns.{mergeTurn}
 use borrow.Author.Needs.{needs}
 use borrow.Author.Tests.{eq-eqb, ne-eqb}
 use mathlib.Core.Path.{refl}
 use Rattle.answers.specs.Then.{stays}
-use Rattle.region.proofs.turns.merge.Statement.{statement}
-use Rattle.region.proofs.turns.merge.Tie as tie
+use Rattle.tracker.proofs.turns.merge.Statement.{statement}
+use Rattle.tracker.proofs.turns.merge.Tie as tie
 
 returns : tie.Need-returns
 unfolding mergeTurn

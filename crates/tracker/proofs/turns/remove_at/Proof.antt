@@ -1,11 +1,11 @@
 -- By the tests in their order.
 use Rattle.region.specs.Turns.{removeAt}
 use borrow.Author.Needs.{needs}
 use borrow.Author.Tests.{lt-ltb, le-ltb, le-leb, lt-leb}
 use mathlib.Core.Path.{refl}
 use Rattle.answers.specs.Then.{stays}
-use Rattle.region.proofs.turns.remove_at.Statement.{statement}
-use Rattle.region.proofs.turns.remove_at.Tie as tie
+use Rattle.tracker.proofs.turns.remove_at.Statement.{statement}
+use Rattle.tracker.proofs.turns.remove_at.Tie as tie
 
 returns : tie.Need-returns
 unfolding removeAt

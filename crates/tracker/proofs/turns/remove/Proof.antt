@@ -1,11 +1,11 @@
 -- No record is at hand, or one.
 use Rattle.region.specs.Turns.{removeTurn}
 use borrow.Author.Needs.{needs}
 use borrow.Author.Tests.{eq-eqb, ne-eqb}
 use mathlib.Core.Path.{refl}
 use Rattle.answers.specs.Then.{stays}
-use Rattle.region.proofs.turns.remove.Statement.{statement}
-use Rattle.region.proofs.turns.remove.Tie as tie
+use Rattle.tracker.proofs.turns.remove.Statement.{statement}
+use Rattle.tracker.proofs.turns.remove.Tie as tie
 
 returns : tie.Need-returns
 unfolding removeTurn
