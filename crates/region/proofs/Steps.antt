@@ -13,7 +13,7 @@ use Rattle.answers.specs.Answers.{Effect}
 use Rattle.region.specs.declared.AccessRights.{AccessRights}
 use Rattle.region.specs.declared.Cursor.{Cursor}
 use Rattle.region.specs.declared.Progress.the-variants.{Going, Over}
-use Rattle.tracker_records.specs.Counts.{lowered, crossingsOf}
+use Rattle.counts.specs.Counts.{lowered, crossingsOf}
 use Rattle.tables.specs.Links.{slotTo}
 use Rattle.tracker_records.specs.Links.{withNext, freedRecord}
 use Rattle.region.specs.Turns.{onward, nextOf, droppedOf, lowerTurn}

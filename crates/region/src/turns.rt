@@ -1,4 +1,4 @@
-// What one turn of a walk does to the record at hand, or before it: each step changes one record, or goes on to the next.
+// What a turn of a walk does to the record at hand, or before it: a step changes one record, or goes on to the next.
 ghost use mathlib.Core.Path.{_≡_};
 ghost use Rattle.tables.specs.View.{view, Sized, Left};
 ghost use Rattle.region.specs.declared.Progress.the-variants.{Going};
@@ -8,7 +8,6 @@ use crate::Cursor;
 use crate::Progress;
 use answers::Answer;
 use tables::Region;
-use tracker_records::counts;
 use tracker_records::links;
 
 // On to the record behind the one at hand, with the range done up to `start`.

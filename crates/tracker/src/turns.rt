@@ -1,4 +1,4 @@
-// One turn of a walk over a domain's records: by where the range and the record at hand lie, one step of crate `region`.
+// One turn of a walk over a domain's records: a step of crate `region`, by where the range and the record at hand lie.
 ghost use mathlib.Core.Path.{_≡_};
 ghost use Rattle.tables.specs.View.{view, Sized, Left};
 ghost use Rattle.region.specs.Turns.{addAt, addTurn, removeAt, removeTurn, mergeTurn, turn};
@@ -8,7 +8,6 @@ use region::Cursor;
 use region::Progress;
 use region::Way;
 use tables::Region;
-use tracker_records::counts;
 
 // `add_region`, with record q at hand: a gap before it is filled, the range's edges cut it, and in the range it is raised.
 fn add_at(t: &mut [u64], d: usize, a: AccessRights, c: Cursor, q: Region) -> Progress

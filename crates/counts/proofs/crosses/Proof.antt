@@ -1,7 +1,7 @@
 -- By the first count.
 use borrow.Author.Tests.{eq-eqb, ne-eqb}
-use Rattle.tracker_records.proofs.counts.crosses.Statement.{statement}
-use Rattle.tracker_records.proofs.counts.crosses.Tie as tie
+use Rattle.counts.proofs.crosses.Statement.{statement}
+use Rattle.counts.proofs.crosses.Tie as tie
 
 returns : tie.Need-returns
 returns c = rw (eq-eqb _ _ (c .if1 .taken))

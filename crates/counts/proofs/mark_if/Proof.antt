@@ -1,7 +1,7 @@
 -- By the test.
 use borrow.Author.Needs.{needs}
-use Rattle.tracker_records.proofs.counts.mark_if.Statement.{statement}
-use Rattle.tracker_records.proofs.counts.mark_if.Tie as tie
+use Rattle.counts.proofs.mark_if.Statement.{statement}
+use Rattle.counts.proofs.mark_if.Tie as tie
 
 crosses-requires : tie.Need-crosses-requires
 crosses-requires c κs = search needs

@@ -1,8 +1,8 @@
 -- The seven tests, joined in the order of the code.
-use Rattle.tracker_records.specs.Counts.{mergeableB}
+use Rattle.counts.specs.Counts.{mergeableB}
 use borrow.Author.Needs.{needs}
-use Rattle.tracker_records.proofs.counts.mergeable.Statement.{statement}
-use Rattle.tracker_records.proofs.counts.mergeable.Tie as tie
+use Rattle.counts.proofs.mergeable.Statement.{statement}
+use Rattle.counts.proofs.mergeable.Tie as tie
 
 both-requires : tie.Need-both-requires
 both-requires c κs = search needs

@@ -1,9 +1,9 @@
 -- By the test.
-use Rattle.tracker_records.specs.Counts.{up}
+use Rattle.counts.specs.Counts.{up}
 use borrow.Author.Needs.{needs}
 use borrow.Author.Tests.{le-leb, lt-leb}
-use Rattle.tracker_records.proofs.counts.plus.Statement.{statement}
-use Rattle.tracker_records.proofs.counts.plus.Tie as tie
+use Rattle.counts.proofs.plus.Statement.{statement}
+use Rattle.counts.proofs.plus.Tie as tie
 
 sub-if1 : tie.Need-sub-if1
 sub-if1 c = search needs

@@ -1,8 +1,9 @@
-// A record's six counts. Numbers that no sound tables hold stay within 64 bits.
+// The six counts of a tracker's record, by value (region.rs; document 01, **Tracker**). Numbers that no sound tables
+// hold stay within 64 bits.
 ghost use mathlib.Core.Path.{_≡_};
 ghost use lib.Dec.{ltb};
 ghost use Rattle.base.specs.Cases.{pick};
-ghost use Rattle.tracker_records.specs.Counts.{up, down, raised, lowered, crossesB, markIf, crossingsOf, mergeableB, made};
+ghost use Rattle.counts.specs.Counts.{up, down, raised, lowered, crossesB, markIf, crossingsOf, mergeableB, made};
 use rights::Rights;
 use tables::Region;
 

@@ -1,7 +1,7 @@
 -- The counters are those of the rights.
 use borrow.Author.Needs.{needs}
-use Rattle.tracker_records.proofs.counts.new.Statement.{statement}
-use Rattle.tracker_records.proofs.counts.new.Tie as tie
+use Rattle.counts.proofs.new.Statement.{statement}
+use Rattle.counts.proofs.new.Tie as tie
 
 counters-requires : tie.Need-counters-requires
 counters-requires c κs = search needs

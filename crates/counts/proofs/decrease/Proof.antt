@@ -1,7 +1,7 @@
 -- Count by count.
 use borrow.Author.Needs.{needs}
-use Rattle.tracker_records.proofs.counts.decrease.Statement.{statement}
-use Rattle.tracker_records.proofs.counts.decrease.Tie as tie
+use Rattle.counts.proofs.decrease.Statement.{statement}
+use Rattle.counts.proofs.decrease.Tie as tie
 
 counters-requires : tie.Need-counters-requires
 counters-requires c κs = search needs

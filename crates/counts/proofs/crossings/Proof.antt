@@ -4,10 +4,10 @@ use Prim.Native.Nat.{ℕ, _≤_}
 use native.Mathlib.Omega.{arith}
 use Rattle.base.specs.Cases.{pick}
 use Rattle.tables.specs.declared.Region.{Region}
-use Rattle.tracker_records.specs.Counts.{crossesB, crossingsOf}
+use Rattle.counts.specs.Counts.{crossesB, crossingsOf}
 use borrow.Author.Needs.{needs}
-use Rattle.tracker_records.proofs.counts.crossings.Statement.{statement}
-use Rattle.tracker_records.proofs.counts.crossings.Tie as tie
+use Rattle.counts.proofs.crossings.Statement.{statement}
+use Rattle.counts.proofs.crossings.Tie as tie
 
 most : (b : Bool) (m : ℕ) → pick b m 0 ≤ m
 most true m = omega arith

@@ -1,7 +1,7 @@
 -- Count by count.
 use borrow.Author.Needs.{needs}
-use Rattle.tracker_records.proofs.counts.increase.Statement.{statement}
-use Rattle.tracker_records.proofs.counts.increase.Tie as tie
+use Rattle.counts.proofs.increase.Statement.{statement}
+use Rattle.counts.proofs.increase.Tie as tie
 
 counters-requires : tie.Need-counters-requires
 counters-requires c κs = search needs

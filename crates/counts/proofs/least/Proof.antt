@@ -1,7 +1,7 @@
 -- By the test.
 use borrow.Author.Tests.{lt-ltb, le-ltb}
-use Rattle.tracker_records.proofs.counts.least.Statement.{statement}
-use Rattle.tracker_records.proofs.counts.least.Tie as tie
+use Rattle.counts.proofs.least.Statement.{statement}
+use Rattle.counts.proofs.least.Tie as tie
 
 returns : tie.Need-returns
 returns c = rw (lt-ltb _ _ (c .if1 .taken))
