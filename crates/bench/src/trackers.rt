@@ -32,7 +32,7 @@ pub extern "C" fn bench_gain(t: &mut [u64], d: usize, start: u64, end: u64, righ
 {
     if sizes::is_sized(t) {
         let ops = Rights(rights);
-        return change(region::add_region(t, d, AccessRights { start, end, ops }));
+        return change(tracker::add_region(t, d, AccessRights { start, end, ops }));
     }
     NOTHING
 }
@@ -44,7 +44,7 @@ pub extern "C" fn bench_loss(t: &mut [u64], d: usize, start: u64, end: u64, righ
 {
     if sizes::is_sized(t) {
         let ops = Rights(rights);
-        return change(region::remove_region(t, d, AccessRights { start, end, ops }));
+        return change(tracker::remove_region(t, d, AccessRights { start, end, ops }));
     }
     NOTHING
 }

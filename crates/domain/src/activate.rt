@@ -83,7 +83,7 @@ pub fn activate_region(t: &mut [u64], d: usize, a: AccessRights) -> Answer
     ensures { λ r. ⌜ r ≡ activate d a (view (now (t .entry))) .answer ⌝ }
     ensures { λ _. ⌜ Left (now (t .exit)) (activate d a (view (now (t .entry))) .tables) ⌝ }
 {
-    match region::add_region(t, d, a) {
+    match tracker::add_region(t, d, a) {
         Answer::Done(marks) => notify_if(t, d, marks),
         Answer::Refused(r) => Answer::Refused(r),
     }
@@ -94,7 +94,7 @@ pub fn deactivate_region(t: &mut [u64], d: usize, a: AccessRights) -> Answer
     ensures { λ r. ⌜ r ≡ deactivate d a (view (now (t .entry))) .answer ⌝ }
     ensures { λ _. ⌜ Left (now (t .exit)) (deactivate d a (view (now (t .entry))) .tables) ⌝ }
 {
-    match region::remove_region(t, d, a) {
+    match tracker::remove_region(t, d, a) {
         Answer::Done(marks) => notify_if(t, d, marks),
         Answer::Refused(r) => Answer::Refused(r),
     }

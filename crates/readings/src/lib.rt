@@ -8,7 +8,6 @@ ghost use Rattle.arena.specs.Arena.{isFreeB};
 ghost use Rattle.readings.specs.Readings.{recordsOf, flagIf, rightsOf, meets, largestReach, permissionList, foundAt, planOf, isHolder, holdersOf, fillRun};
 use rights::Rights;
 use tables::Region;
-use tracker_records::counts;
 use tracker_records::links;
 
 // A record of the permission list. Its three words leave no byte unsettled.

@@ -15,7 +15,7 @@ use Rattle.region.specs.declared.Progress.{Progress}
 use Rattle.region.specs.declared.Progress.the-variants.{Going, Over}
 use Rattle.region.specs.declared.Way.{Way}
 use Rattle.region.specs.declared.Way.the-variants.{Add, Remove, Merge}
-use Rattle.tracker_records.specs.Counts.{made, raised, lowered, crossingsOf, mergeableB}
+use Rattle.counts.specs.Counts.{made, raised, lowered, crossingsOf, mergeableB}
 use Rattle.tables.specs.Links.{slotTo}
 use Rattle.tracker_records.specs.Links.{withEnd, withNext, firstLink, inserted, split, freedRecord}
 

@@ -1,12 +1,10 @@
 // The tracker (region.rs; document 01, **Tracker**): a domain's records, linked in rising order.
 // A link is a record's slot + 1, or 0 for none; the record before the first one is the domain itself, link 0.
-pub mod tracker;
+// Here are a walk's types and definitions, and what a turn does to one record; the walks are crate `tracker`'s.
 pub mod turns;
 
 use answers::Answer;
 use rights::Rights;
-pub use tracker::add_region;
-pub use tracker::remove_region;
 
 // A range with rights (`AccessRights` of the source).
 pub struct AccessRights {

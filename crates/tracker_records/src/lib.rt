@@ -1,3 +1,3 @@
-// The tracker's records (region.rs; document 01, **Tracker**): the counts of one, and the links from one to the next.
-pub mod counts;
+// The tracker's records (region.rs; document 01, **Tracker**): the links from one to the next. A record's counts are
+// crate `counts`'s.
 pub mod links;

@@ -19,7 +19,7 @@ use Rattle.region.specs.declared.Progress.the-variants.{Going}
 use Rattle.region.specs.declared.Way.the-variants.{Add}
 use Rattle.tables.specs.Links.{slotTo}
 use Rattle.tracker_records.specs.Links.{inserted, split}
-use Rattle.tracker_records.specs.Counts.{crossingsOf}
+use Rattle.counts.specs.Counts.{crossingsOf}
 use Rattle.region.specs.Turns.{Turn, to, over, onward, nextOf, fillTurn, cutStart, cutEnd, raiseTurn, addAt, addTurn, turn}
 use Rattle.decoded.specs.Tables.{recordFor, tablesOf}
 use Rattle.refine.specs.Tracker.Linked.{slot-of, lastLink}

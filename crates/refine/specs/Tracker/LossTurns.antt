@@ -22,7 +22,7 @@ use Rattle.region.specs.declared.Progress.the-variants.{Going}
 use Rattle.region.specs.declared.Way.the-variants.{Remove}
 use Rattle.tables.specs.Links.{slotTo}
 use Rattle.tracker_records.specs.Links.{withNext, split, freedRecord}
-use Rattle.tracker_records.specs.Counts.{crossingsOf}
+use Rattle.counts.specs.Counts.{crossingsOf}
 use Rattle.region.specs.Turns.{Turn, to, over, onward, nextOf, droppedOf, cutStart, cutEnd, lowerTurn, removeAt, removeTurn, turn}
 use Rattle.decoded.specs.Tables.{recordFor, tablesOf}
 use Rattle.refine.specs.Tracker.Linked.{slot-of, lastLink}

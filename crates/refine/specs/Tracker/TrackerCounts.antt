@@ -20,7 +20,7 @@ use Rattle.model.specs.Tracker.{lower, noCounts, crosses, crossings, mergeable,
 use Rattle.laws.specs.Stack.{one-at-most}
 use Rattle.tables.specs.declared.Region.{Region}
 use Rattle.tables.specs.Tables.{noRecord}
-use Rattle.tracker_records.specs.Counts.{up, made, raised, lowered, crossesB, markIf, crossingsOf, mergeableB}
+use Rattle.counts.specs.Counts.{up, made, raised, lowered, crossesB, markIf, crossingsOf, mergeableB}
 use Rattle.decoded.specs.Tables.{recordFor}
 use Rattle.refine.specs.Tracker.GainSteps.{newRecord, raisedRecord, fills}
 
