@@ -32,8 +32,8 @@ use Rattle.frame.specs.Finish.{admitted}
 use Rattle.frame.specs.Law.{lent}
 use Rattle.converted.specs.Former.{sizesIn, ringAt, markedRow, markedRows, rebuilt, former-length, rebuilt-marked}
 use Rattle.converted.specs.Unique.{convertible-words}
-use Rattle.converting.specs.Built.{fitsB, updates-are, front-at}
-use Rattle.converting.specs.Fits.{Fitted, fits-true, stored-front, stored-long}
+use Rattle.converted_words.specs.Built.{fitsB, updates-are, front-at}
+use Rattle.converted_words.specs.Fits.{Fitted, fits-true, stored-front, stored-long}
 
 -- the new tables and v are as long, the old words fit, and the new ones pass
 unfoldable pub convertsB : List ℕ → List ℕ → List ℕ → List ℕ → Bool

@@ -1,58 +1,11 @@
 // The converter (document 02, request 2): the last delivery's tables become this delivery's.
 ghost use mathlib.Core.Path.{_≡_};
 ghost use mathlib.Core.Bool.{true};
-ghost use Rattle.tables.specs.View.{view, Sized, Left};
 ghost use Rattle.converted.specs.Former.{rebuilt};
-ghost use Rattle.converting.specs.Built.{marksBeside, markedAll, fitsB};
 ghost use Rattle.converting.specs.Exact.{convertsB};
 ghost use Rattle.replies.specs.Replies.{Converts};
 use refusals::Refusal;
 use replies::Reply;
-use tables::Update;
-
-// Reach and the four rights.
-const ALL_MARKS: u64 = 31;
-
-// The marks beside an update: all five where a domain is queued, since the last delivery kept none (document 02, request 4).
-fn marks_beside(u: Update) -> u64
-    ensures { λ r. ⌜ r ≡ marksBeside u ⌝ }
-{
-    if u.kind == Update::PERMISSION {
-        return ALL_MARKS;
-    }
-    0
-}
-
-// Gives every place of the ring its marks.
-fn mark_all(v: &mut [u64])
-    requires { ⌜ Sized (now v) ⌝ }
-    ensures { λ _. ⌜ Left (now (v .exit)) (markedAll (view (now (v .entry)))) ⌝ }
-{
-    let n = words::size(v, sizes::UPDATES) + 1;
-    let mut i = 0;
-    while i < n {
-        let u = ring_rows::load_update(v, i);
-        ring_rows::store_mark(v, i, marks_beside(u));
-        i += 1;
-    }
-}
-
-// Builds the new tables in v. Whether the old ones are as many words as their sizes ask, and v as many as the new ones.
-fn build(old: &[u64], v: &mut [u64]) -> bool
-    ensures { λ r. ⌜ r ≡ fitsB (now (old .entry)) (now (v .entry)) ⌝ }
-    ensures { λ r. ⌜ (r ≡ true → now (v .exit) ≡ rebuilt (now (old .entry))) ⌝ }
-{
-    words::store(v, 0, old);
-    if !sizes::is_sized(v) {
-        return false;
-    }
-    let z = sizes::read_sizes(v);
-    if old.len() == sizes::marks_at(z) {
-        mark_all(v);
-        return true;
-    }
-    false
-}
 
 // Whether the old tables can be converted in memory of these lengths; v is then the new ones. Old tables are never tested:
 // the new ones are, by the one test of lent tables.
@@ -61,7 +14,7 @@ fn converts(old: &[u64], t: &[u64], v: &mut [u64], w: &mut [u64]) -> bool
     ensures { λ r. ⌜ (r ≡ true → now (v .exit) ≡ rebuilt (now (old .entry))) ⌝ }
 {
     if t.len() == v.len() {
-        if build(old, v) {
+        if converted_words::build(old, v) {
             return frame::admits(v, w);
         }
     }

@@ -4,15 +4,6 @@ ghost use Rattle.ring.specs.Ring.{noEntry, permissionOf, cleanupOf, afte
 use sizes::MOST_UPDATES;
 use tables::Update;
 
-pub mod lent;
-
-pub use lent::pop;
-pub use lent::pop_lent;
-pub use lent::push;
-pub use lent::push_lent;
-pub use lent::queue;
-pub use lent::queue_lent;
-
 // The places of the largest ring.
 pub const PLACES: usize = MOST_UPDATES + 1;
 

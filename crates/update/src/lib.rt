@@ -126,7 +126,7 @@ pub fn queue_domain(t: &mut [u64], slot: u64, generation: u64, cores: u64, marks
 {
     let ring = load_ring(t);
     let at = ring::place_of(ring, slot, generation);
-    let p = ring::queue_lent(ring, slot, generation, cores, marks);
+    let p = lent_ring::queue_lent(ring, slot, generation, cores, marks);
     store_place(t, at, p.ring);
     p.ok
 }
@@ -139,7 +139,7 @@ pub fn push_cleanup(t: &mut [u64], start: u64, end: u64) -> bool
 {
     let ring = load_ring(t);
     let at = ring.write;
-    let p = ring::push_lent(ring, cleanup(start, end));
+    let p = lent_ring::push_lent(ring, cleanup(start, end));
     store_place(t, at, p.ring);
     p.ok
 }
@@ -152,7 +152,7 @@ pub fn pop_update(t: &mut [u64]) -> Item
 {
     let ring = load_ring(t);
     let at = ring.read;
-    let p = ring::pop_lent(ring);
+    let p = lent_ring::pop_lent(ring);
     store_place(t, at, p.ring);
     p.item
 }

@@ -5,9 +5,9 @@ use native.Mathlib.Omega.{arith}
 use lib.ListN.{length}
 use borrow.Author.Needs.{needs}
 use Rattle.tables.specs.View.{view, Left}
-use Rattle.converting.specs.Built.{markedTo, updates-few, marked-none, marked-more, marked-end}
-use Rattle.converting.proofs.mark_all.Statement.{statement}
-use Rattle.converting.proofs.mark_all.Tie as tie
+use Rattle.converted_words.specs.Built.{markedTo, updates-few, marked-none, marked-more, marked-end}
+use Rattle.converted_words.proofs.mark_all.Statement.{statement}
+use Rattle.converted_words.proofs.mark_all.Tie as tie
 
 abbrev Inv-loop : tie.InvT-loop
 Inv-loop v₀ n i₀ v i = (i ≤ n) × Left v (markedTo i (view v₀)) × (length v ≡ length v₀)

@@ -19,7 +19,7 @@ use Rattle.sizes.specs.Tests.{sizedB}
 use Rattle.tables.specs.View.{view, Sized, Left}
 use Rattle.tables.specs.Tests.{sized-true}
 use Rattle.converted.specs.Former.{rebuilt}
-use Rattle.converting.specs.Built.{markedAll, fitsB, built-words}
+use Rattle.converted_words.specs.Built.{markedAll, fitsB, built-words}
 
 pub stored-long : (o v : List ℕ) → length (stored v 0 o) ≡ length v
 stored-long o v = elim (cmp (length v) (0 + length o)) [

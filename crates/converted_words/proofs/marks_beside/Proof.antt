@@ -1,8 +1,8 @@
 -- Only a queued domain has marks.
 use borrow.Author.Tests.{eq-eqb, ne-eqb}
-use Rattle.converting.specs.Built.{marksBeside}
-use Rattle.converting.proofs.marks_beside.Statement.{statement}
-use Rattle.converting.proofs.marks_beside.Tie as tie
+use Rattle.converted_words.specs.Built.{marksBeside}
+use Rattle.converted_words.proofs.marks_beside.Statement.{statement}
+use Rattle.converted_words.proofs.marks_beside.Tie as tie
 
 returns : tie.Need-returns
 unfolding marksBeside

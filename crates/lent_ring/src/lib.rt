@@ -1,14 +1,14 @@
 // The ring lent (document 01, "The update ring is handed to the steps and changed there").
 ghost use mathlib.Core.Path.{_≡_};
 ghost use Rattle.ring.specs.Ring.{pushOf, popOf, queueOf};
-use crate::Entry;
-use crate::Item;
-use crate::PopOut;
-use crate::PushOut;
-use crate::Ring;
-use crate::popped;
-use crate::pushed;
-use crate::queued;
+use ring::Entry;
+use ring::Item;
+use ring::PopOut;
+use ring::PushOut;
+use ring::Ring;
+use ring::popped;
+use ring::pushed;
+use ring::queued;
 
 pub fn push(ring: &mut Ring, e: Entry) -> bool
     ensures { λ r. ⌜ (r ≡ pushOf (now (ring .entry)) e .ok) × (now (ring .exit) ≡ pushOf (now (ring .entry)) e .ring) ⌝ }

@@ -36,24 +36,24 @@ use denote.Triple.Spec.{Meets, tripleOf}
 use denote.Triple.Table.{entered, cited}
 use denote.Triple.Walked.{says, Stays, stay-ref, walkOf, AllGo, goes-ref, Walks, ends-at, walked, walk-meets}
 use denote.Triple.Clauses.{ensured, lasts}
 use Rattle.ring.specs.declared.Ring.{Ring}
-use Rattle.ring.proofs.Held.{vals, mach}
+use Rattle.lent_ring.proofs.Held.{vals, mach}
 use Rattle.ring.specs.declared.PopOut.{PopOut}
 use Rattle.ring.specs.Ring.{popOf}
 use Rattle.ring.proofs.Ring as Ring-T
 use Rattle.ring.proofs.Ring.Laws as Ring-L
 use Rattle.ring.proofs.PopOut as PopOut-T
 use Rattle.ring.proofs.PopOut.Laws as PopOut-L
 use Rattle.ring.proofs.Item as Item-T
 use Rattle.ring.proofs.Item.Laws as Item-L
 use Rattle.ring.proofs.popped as callee
 use Rattle.ring.proofs.popped.Symbol as callee-def
 use Rattle.ring.proofs.popped.Symbol.{name as #callee}
 use Rattle.ring.proofs.popped.Met as callee-thm
-use Rattle.ring.proofs.lent.pop.Key.{name as #own}
-use Rattle.ring.proofs.lent.pop as own
-use Rattle.ring.proofs.lent.pop.Statement as stated
-use Rattle.ring.proofs.lent.pop.Code as code
+use Rattle.lent_ring.proofs.pop.Key.{name as #own}
+use Rattle.lent_ring.proofs.pop as own
+use Rattle.lent_ring.proofs.pop.Statement as stated
+use Rattle.lent_ring.proofs.pop.Code as code
 
 abbrev stayed : Stays (own.ended .signature .params) (own.ended .kept)
 stayed = (stay-ref (0 ∷ []) tt (plain (λ _. Ring-T.the-row)), tt)

@@ -39,22 +39,22 @@ use denote.Triple.Table.{entered, cited}
 use denote.Triple.Walked.{says, Stays, stay-ref, stay-none, walkOf, AllGo, goes-none, goes-ref, Walks, ends-at, walked, walk-meets}
 use denote.Triple.Clauses.{ensured, lasts}
 use denote.Exit.{yes}
 use Rattle.ring.specs.declared.Ring.{Ring}
-use Rattle.ring.proofs.Held.{vals, mach}
+use Rattle.lent_ring.proofs.Held.{vals, mach}
 use Rattle.ring.specs.declared.PushOut.{PushOut}
 use Rattle.ring.specs.Ring.{queueOf}
 use Rattle.ring.proofs.Ring as Ring-T
 use Rattle.ring.proofs.Ring.Laws as Ring-L
 use Rattle.ring.proofs.PushOut as PushOut-T
 use Rattle.ring.proofs.PushOut.Laws as PushOut-L
 use Rattle.ring.proofs.queued as callee
 use Rattle.ring.proofs.queued.Symbol as callee-def
 use Rattle.ring.proofs.queued.Symbol.{name as #callee}
 use Rattle.ring.proofs.queued.Met as callee-thm
-use Rattle.ring.proofs.lent.queue.Key.{name as #own}
-use Rattle.ring.proofs.lent.queue as own
-use Rattle.ring.proofs.lent.queue.Statement as stated
-use Rattle.ring.proofs.lent.queue.Code as code
+use Rattle.lent_ring.proofs.queue.Key.{name as #own}
+use Rattle.lent_ring.proofs.queue as own
+use Rattle.lent_ring.proofs.queue.Statement as stated
+use Rattle.lent_ring.proofs.queue.Code as code
 
 abbrev stayed : Stays (own.ended .signature .params) (own.ended .kept)
 stayed = (stay-ref (0 ∷ []) tt (plain (λ _. Ring-T.the-row)), (stay-none (λ _. u64) yes, (stay-none (λ _. u64) yes, (stay-none (λ _. u64) yes, (stay-none (λ _. u64) yes, tt)))))

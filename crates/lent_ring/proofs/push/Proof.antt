@@ -39,25 +39,25 @@ use denote.Triple.Table.{entered, cited}
 use denote.Triple.Walked.{says, Stays, stay-ref, stay-none, walkOf, AllGo, goes-none, goes-ref, Walks, ends-at, walked, walk-meets}
 use denote.Triple.Clauses.{ensured, lasts}
 use denote.Exit.{yes}
 use Rattle.ring.specs.declared.Ring.{Ring}
-use Rattle.ring.proofs.Held.{vals, mach}
+use Rattle.lent_ring.proofs.Held.{vals, mach}
 use Rattle.ring.specs.declared.PushOut.{PushOut}
 use Rattle.ring.specs.declared.Entry.{Entry}
 use Rattle.ring.specs.Ring.{pushOf}
 use Rattle.ring.proofs.Ring as Ring-T
 use Rattle.ring.proofs.Ring.Laws as Ring-L
 use Rattle.ring.proofs.PushOut as PushOut-T
 use Rattle.ring.proofs.PushOut.Laws as PushOut-L
 use Rattle.ring.proofs.Entry as Entry-T
 use Rattle.ring.proofs.Entry.Laws as Entry-L
 use Rattle.ring.proofs.pushed as callee
 use Rattle.ring.proofs.pushed.Symbol as callee-def
 use Rattle.ring.proofs.pushed.Symbol.{name as #callee}
 use Rattle.ring.proofs.pushed.Met as callee-thm
-use Rattle.ring.proofs.lent.push.Key.{name as #own}
-use Rattle.ring.proofs.lent.push as own
-use Rattle.ring.proofs.lent.push.Statement as stated
-use Rattle.ring.proofs.lent.push.Code as code
+use Rattle.lent_ring.proofs.push.Key.{name as #own}
+use Rattle.lent_ring.proofs.push as own
+use Rattle.lent_ring.proofs.push.Statement as stated
+use Rattle.lent_ring.proofs.push.Code as code
 
 abbrev stayed : Stays (own.ended .signature .params) (own.ended .kept)
 stayed = (stay-ref (0 ∷ []) tt (plain (λ _. Ring-T.the-row)), (stay-none (λ _. Entry-T.the-row) yes, tt))

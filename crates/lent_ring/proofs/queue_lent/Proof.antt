@@ -39,22 +39,22 @@ use denote.Triple.Table.{entered, cited}
 use denote.Triple.Walked.{says, Stays, stay-none, walkOf, AllGo, goes-none, Walks, ends-at, walked, walk-meets}
 use denote.Triple.Clauses.{ensured, lasts}
 use denote.Exit.{yes}
 use Rattle.ring.specs.declared.Ring.{Ring}
-use Rattle.ring.proofs.Held.{vals, mach, state-typed, lays, lifts}
+use Rattle.lent_ring.proofs.Held.{vals, mach, state-typed, lays, lifts}
 use Rattle.ring.specs.declared.PushOut.{PushOut}
 use Rattle.ring.specs.Ring.{queueOf}
 use Rattle.ring.proofs.Ring as Ring-T
 use Rattle.ring.proofs.Ring.Laws as Ring-L
 use Rattle.ring.proofs.PushOut as PushOut-T
 use Rattle.ring.proofs.PushOut.Laws as PushOut-L
-use Rattle.ring.proofs.lent.queue as callee
-use Rattle.ring.proofs.lent.queue.Symbol as callee-def
-use Rattle.ring.proofs.lent.queue.Symbol.{name as #callee}
-use Rattle.ring.proofs.lent.queue.Met as callee-thm
-use Rattle.ring.proofs.lent.queue_lent.Key.{name as #own}
-use Rattle.ring.proofs.lent.queue_lent as own
-use Rattle.ring.proofs.lent.queue_lent.Statement as stated
-use Rattle.ring.proofs.lent.queue_lent.Code as code
+use Rattle.lent_ring.proofs.queue as callee
+use Rattle.lent_ring.proofs.queue.Symbol as callee-def
+use Rattle.lent_ring.proofs.queue.Symbol.{name as #callee}
+use Rattle.lent_ring.proofs.queue.Met as callee-thm
+use Rattle.lent_ring.proofs.queue_lent.Key.{name as #own}
+use Rattle.lent_ring.proofs.queue_lent as own
+use Rattle.lent_ring.proofs.queue_lent.Statement as stated
+use Rattle.lent_ring.proofs.queue_lent.Code as code
 
 abbrev stayed : Stays (own.ended .signature .params) (own.ended .kept)
 stayed = (stay-none (λ _. Ring-T.the-row) yes, (stay-none (λ _. u64) yes, (stay-none (λ _. u64) yes, (stay-none (λ _. u64) yes, (stay-none (λ _. u64) yes, tt)))))
@@ -146,4 +146,4 @@ queue-lent-spec 𝓤 H 𝓜 𝓖 𝓡 =
     entered 𝓤 H (tripleOf 𝓤 H (𝓖 .A) own.signature (own.spec 𝓤 H (𝓖 .A) (𝓜 .mem) (𝓡 .run)))
     (tables 𝓤 H 𝓜 𝓡 code.env .C) (tables 𝓤 H 𝓜 𝓡 code.env .Λ) #own code.function (code.unfolded 𝓤 H 𝓜 𝓡)
     (meets 𝓤 H (𝓖 .A) (givenOf 𝓤 H 𝓜 𝓖) (𝓜 .mem) (𝓡 .run) (tablesOf 𝓤 H 𝓜 (tables 𝓤 H 𝓜 𝓡 code.env))
-    (cited 𝓤 H (Thin 𝓤 H (𝓖 .A) (𝓜 .mem) (𝓡 .run)) 𝓜 𝓡 code.env #callee callee-def.routine code.calls-ring·lent·queue (callee-thm.met 𝓤 H 𝓜 𝓖 𝓡)))
+    (cited 𝓤 H (Thin 𝓤 H (𝓖 .A) (𝓜 .mem) (𝓡 .run)) 𝓜 𝓡 code.env #callee callee-def.routine code.calls-lent-ring·queue (callee-thm.met 𝓤 H 𝓜 𝓖 𝓡)))

@@ -2,9 +2,9 @@
 use mathlib.Core.Path.{refl}
 use borrow.Author.Needs.{needs}
 use Rattle.base.specs.Tests.{true-false}
-use Rattle.converting.specs.Fits.{not-sized, is-sized, in-limits, other-length, all-built}
-use Rattle.converting.proofs.build.Statement.{statement}
-use Rattle.converting.proofs.build.Tie as tie
+use Rattle.converted_words.specs.Fits.{not-sized, is-sized, in-limits, other-length, all-built}
+use Rattle.converted_words.proofs.build.Statement.{statement}
+use Rattle.converted_words.proofs.build.Tie as tie
 
 store-requires : tie.Need-store-requires
 store-requires c κs = search needs
