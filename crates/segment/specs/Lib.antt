@@ -1,4 +1,3 @@
-pub mod Children
 pub mod Options
 pub mod Regions
 pub mod Walks

@@ -4,7 +4,6 @@ ghost use Rattle.tables.specs.Tables.{hashGiven};
 ghost use Rattle.tables.specs.View.{view, Sized, Left};
 ghost use Rattle.segment.specs.Options.{addHcv, withOptions, applyOptions};
 use crate::SendOptions;
-use crate::children;
 use rights::Rights;
 use tables::Hash;
 use tables::RegionHash;

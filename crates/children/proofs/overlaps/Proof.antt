@@ -3,11 +3,11 @@ use mathlib.Core.Logic.{⊎-elim}
 use mathlib.Core.Path.{_≡_, _∙_}
 use mathlib.Core.Bool.{true}
 use lib.Dec.{eqb}
-use Rattle.segment.specs.Children.{overlapsB}
+use Rattle.children.specs.Children.{overlapsB}
 use borrow.Author.Needs.{needs}
 use Rattle.base.specs.Cases.{pick}
-use Rattle.segment.proofs.children.overlaps.Statement.{statement}
-use Rattle.segment.proofs.children.overlaps.Tie as tie
+use Rattle.children.proofs.overlaps.Statement.{statement}
+use Rattle.children.proofs.overlaps.Tie as tie
 
 both-requires : tie.Need-both-requires
 both-requires c κs = search needs

@@ -1,9 +1,9 @@
 -- The tests that are read.
 use mathlib.Core.Path.{_∙_}
-use Rattle.segment.specs.Children.{checkChild}
+use Rattle.children.specs.Children.{checkChild}
 use borrow.Author.Needs.{needs}
-use Rattle.segment.proofs.children.check_child.Statement.{statement}
-use Rattle.segment.proofs.children.check_child.Tie as tie
+use Rattle.children.proofs.check_child.Statement.{statement}
+use Rattle.children.proofs.check_child.Tie as tie
 
 load-region-requires : tie.Need-load-region-requires
 load-region-requires c κs = search needs

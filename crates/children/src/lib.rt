@@ -1,15 +1,34 @@
-// Child lists (document 01, **Child lists**): a region's children, linked in the order of their starts.
+// Child lists (document 01, **Child lists**): a region's children, linked in the order of their starts; the checks of
+// alias and carve. A link is a region's slot + 1, or 0 for none.
 ghost use mathlib.Core.Path.{_≡_};
 ghost use mathlib.Core.Bool.{true, false};
 ghost use Prim.Native.Nat.{_%_};
 ghost use Rattle.tables.specs.View.{view, Sized, Left};
-ghost use Rattle.segment.specs.Children.{overlapsB, endsB, find, linkChild, insertChild, removeChild, fitsB, checkChild};
-use crate::Overlap;
-use crate::Place;
-use crate::Search;
+ghost use Rattle.children.specs.Children.{overlapsB, endsB, find, linkChild, insertChild, removeChild, fitsB, checkChild};
 use region::AccessRights;
 use rights::Rights;
 use tables::RegionCapa;
+
+// Where a search of a child list stands: the links of the child before and of the child at hand.
+pub struct Place {
+    pub prev: u64,
+    pub at: u64,
+}
+
+// A range, and whether only carves count.
+pub struct Overlap {
+    pub start: u64,
+    pub end: u64,
+    pub carves: bool,
+}
+
+// What ends a search of a child list: a child that starts after an address, the child with that link, a child that
+// overlaps a range.
+pub enum Search {
+    After(u64),
+    Link(u64),
+    Overlap(Overlap),
+}
 
 // ---- Searches
 

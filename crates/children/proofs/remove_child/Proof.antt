@@ -1,8 +1,8 @@
 -- What is read and stored, last to first.
-use Rattle.segment.specs.Children.{removeChild}
+use Rattle.children.specs.Children.{removeChild}
 use borrow.Author.Needs.{needs}
-use Rattle.segment.proofs.children.remove_child.Statement.{statement}
-use Rattle.segment.proofs.children.remove_child.Tie as tie
+use Rattle.children.proofs.remove_child.Statement.{statement}
+use Rattle.children.proofs.remove_child.Tie as tie
 
 load-region-requires : tie.Need-load-region-requires
 load-region-requires c κs = search needs

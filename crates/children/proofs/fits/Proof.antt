@@ -1,9 +1,9 @@
 -- The tests that are read.
 use mathlib.Core.Path.{_∙_}
-use Rattle.segment.specs.Children.{fitsB}
+use Rattle.children.specs.Children.{fitsB}
 use borrow.Author.Needs.{needs}
-use Rattle.segment.proofs.children.fits.Statement.{statement}
-use Rattle.segment.proofs.children.fits.Tie as tie
+use Rattle.children.proofs.fits.Statement.{statement}
+use Rattle.children.proofs.fits.Tie as tie
 
 both-requires : tie.Need-both-requires
 both-requires c κs = search needs

@@ -10,10 +10,10 @@ use Rattle.tables.specs.Tables.{Tables, regionAt, withRegion, withNext, withChi
 use Rattle.rights.specs.Rights.{allowed}
 use Rattle.region.specs.declared.AccessRights.{AccessRights}
 use Rattle.tables.specs.Links.{linkTo, slotTo}
-use Rattle.segment.specs.declared.Place.{Place}
-use Rattle.segment.specs.declared.Overlap.{Overlap}
-use Rattle.segment.specs.declared.Search.{Search}
-use Rattle.segment.specs.declared.Search.the-variants as search
+use Rattle.children.specs.declared.Place.{Place}
+use Rattle.children.specs.declared.Overlap.{Overlap}
+use Rattle.children.specs.declared.Search.{Search}
+use Rattle.children.specs.declared.Search.the-variants as search
 
 -- ---- searches
 

@@ -1,8 +1,8 @@
 -- By the search.
 use mathlib.Core.Path.{_∙_}
 use borrow.Author.Needs.{needs}
-use Rattle.segment.proofs.children.ends.Statement.{statement}
-use Rattle.segment.proofs.children.ends.Tie as tie
+use Rattle.children.proofs.ends.Statement.{statement}
+use Rattle.children.proofs.ends.Tie as tie
 
 enum-known-search : tie.Need-enum-known-search
 enum-known-search c = search needs

@@ -1,9 +1,9 @@
 -- The parent's first link, or the link of the child before.
 use borrow.Author.Tests.{eq-eqb, ne-eqb}
-use Rattle.segment.specs.Children.{linkChild}
+use Rattle.children.specs.Children.{linkChild}
 use borrow.Author.Needs.{needs}
-use Rattle.segment.proofs.children.link_child.Statement.{statement}
-use Rattle.segment.proofs.children.link_child.Tie as tie
+use Rattle.children.proofs.link_child.Statement.{statement}
+use Rattle.children.proofs.link_child.Tie as tie
 
 load-region-requires : tie.Need-load-region-requires
 load-region-requires c κs = search needs

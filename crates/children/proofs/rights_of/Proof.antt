@@ -1,8 +1,8 @@
 -- A remainder by 256 is a byte.
 use borrow.Author.Needs.{needs}
 use native.Mathlib.Omega.{arith}
-use Rattle.segment.proofs.children.rights_of.Statement.{statement}
-use Rattle.segment.proofs.children.rights_of.Tie as tie
+use Rattle.children.proofs.rights_of.Statement.{statement}
+use Rattle.children.proofs.rights_of.Tie as tie
 
 cast-t3 : tie.Need-cast-t3
 cast-t3 c = omega arith

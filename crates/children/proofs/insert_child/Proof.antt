@@ -1,8 +1,8 @@
 -- What is read and stored, last to first.
-use Rattle.segment.specs.Children.{insertChild}
+use Rattle.children.specs.Children.{insertChild}
 use borrow.Author.Needs.{needs}
-use Rattle.segment.proofs.children.insert_child.Statement.{statement}
-use Rattle.segment.proofs.children.insert_child.Tie as tie
+use Rattle.children.proofs.insert_child.Statement.{statement}
+use Rattle.children.proofs.insert_child.Tie as tie
 
 load-region-requires : tie.Need-load-region-requires
 load-region-requires c κs = search needs

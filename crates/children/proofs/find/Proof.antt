@@ -1,12 +1,12 @@
 -- The search from here finds what the search from the first child finds.
 use mathlib.Core.Path.{_≡_, sym, _∙_}
 use Rattle.tables.specs.View.{view}
-use Rattle.segment.specs.Children.{findFrom, find}
-use Rattle.segment.specs.Walks.{place, regions-read, find-out, find-none, find-here, find-on}
+use Rattle.children.specs.Children.{findFrom, find}
+use Rattle.children.specs.Walks.{place, regions-read, find-out, find-none, find-here, find-on}
 use borrow.Author.Needs.{needs}
 use native.Mathlib.Omega.{arith}
-use Rattle.segment.proofs.children.find.Statement.{statement}
-use Rattle.segment.proofs.children.find.Tie as tie
+use Rattle.children.proofs.find.Statement.{statement}
+use Rattle.children.proofs.find.Tie as tie
 
 abbrev Inv-loop : tie.InvT-loop
 Inv-loop t p search prev₀ at₀ left₀ prev at left = findFrom search (view t) left (place prev at) ≡ find search (view t) p
