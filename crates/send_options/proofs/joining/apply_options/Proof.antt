@@ -1,9 +1,9 @@
 -- By the options.
 use Rattle.answers.specs.Then.{stays}
-use Rattle.segment.specs.Options.{applyOptions}
+use Rattle.send_options.specs.Joining.{applyOptions}
 use borrow.Author.Needs.{needs}
-use Rattle.segment.proofs.options.apply_options.Statement.{statement}
-use Rattle.segment.proofs.options.apply_options.Tie as tie
+use Rattle.send_options.proofs.joining.apply_options.Statement.{statement}
+use Rattle.send_options.proofs.joining.apply_options.Tie as tie
 
 enum-told : tie.Need-enum-told
 enum-told c = search needs

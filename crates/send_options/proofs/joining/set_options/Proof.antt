@@ -1,8 +1,8 @@
 -- The flags join, then the row is stored.
-use Rattle.segment.specs.Options.{withOptions}
+use Rattle.send_options.specs.Joining.{withOptions}
 use borrow.Author.Needs.{needs}
-use Rattle.segment.proofs.options.set_options.Statement.{statement}
-use Rattle.segment.proofs.options.set_options.Tie as tie
+use Rattle.send_options.proofs.joining.set_options.Statement.{statement}
+use Rattle.send_options.proofs.joining.set_options.Tie as tie
 
 add-hcv-requires : tie.Need-add-hcv-requires
 add-hcv-requires c κs = search needs

@@ -1,8 +1,8 @@
 -- The region is read, its rights joined with the flags, and stored.
-use Rattle.segment.specs.Options.{addHcv}
+use Rattle.send_options.specs.Joining.{addHcv}
 use borrow.Author.Needs.{needs}
-use Rattle.segment.proofs.options.add_hcv.Statement.{statement}
-use Rattle.segment.proofs.options.add_hcv.Tie as tie
+use Rattle.send_options.proofs.joining.add_hcv.Statement.{statement}
+use Rattle.send_options.proofs.joining.add_hcv.Tie as tie
 
 load-region-requires : tie.Need-load-region-requires
 load-region-requires c κs = search needs

@@ -6,8 +6,8 @@ use Rattle.rights.specs.declared.Rights.{Rights}
 use Rattle.tables.specs.declared.RegionCapa.{RegionCapa}
 use Rattle.tables.specs.declared.RegionHash.{RegionHash}
 use Rattle.tables.specs.Tables.{Tables, noHash, hashGiven, regionAt, withRegion, withHash}
-use Rattle.segment.specs.declared.SendOptions.{SendOptions}
-use Rattle.segment.specs.declared.SendOptions.the-variants as options
+use Rattle.send_options.specs.declared.SendOptions.{SendOptions}
+use Rattle.send_options.specs.declared.SendOptions.the-variants as options
 
 abbrev pub withRights : RegionCapa → ℕ → RegionCapa
 withRights r k = record { kind = r .kind; owner = r .owner; parent = r .parent; start = r .start; end = r .end; rights = k; child = r .child; next = r .next }

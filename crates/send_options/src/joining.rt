@@ -1,8 +1,8 @@
-// What a send says besides (document 02, request 1).
+// What a send says besides joins the region that was sent (document 02, request 1).
 ghost use mathlib.Core.Path.{_≡_};
 ghost use Rattle.tables.specs.Tables.{hashGiven};
 ghost use Rattle.tables.specs.View.{view, Sized, Left};
-ghost use Rattle.segment.specs.Options.{addHcv, withOptions, applyOptions};
+ghost use Rattle.send_options.specs.Joining.{addHcv, withOptions, applyOptions};
 use crate::SendOptions;
 use rights::Rights;
 use tables::Hash;
