@@ -12,7 +12,7 @@ use Rattle.base.specs.Cases.{pick}
 use Rattle.tables.specs.declared.Slot.{Slot}
 use Rattle.tables.specs.Tables.{noSlot}
 use Rattle.slot_list.specs.Lists.{freeSlot}
-use Rattle.domain.specs.Opened.{freshFrom}
+use Rattle.new_domain.specs.Opened.{freshFrom}
 
 -- place i
 unfoldable pub freshSlot : ℕ → ℕ → Slot

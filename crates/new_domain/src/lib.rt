@@ -2,8 +2,8 @@
 // request 2).
 ghost use mathlib.Core.Path.{_≡_};
 ghost use Rattle.tables.specs.View.{view, Sized, Left};
-ghost use Rattle.domain.specs.Opened.{freshList, newDomain};
-ghost use Rattle.domain.specs.Fresh.{freshSlot};
+ghost use Rattle.new_domain.specs.Opened.{freshList, newDomain};
+ghost use Rattle.new_domain.specs.Fresh.{freshSlot};
 use answers::Answer;
 use arena::Given;
 use refusals::Refusal;

@@ -1,10 +1,10 @@
 -- By the two tests.
 use mathlib.Core.Path.{_∙_}
 use borrow.Author.Tests.{lt-ltb, le-ltb}
-use Rattle.domain.specs.Fresh.{freshSlot}
+use Rattle.new_domain.specs.Fresh.{freshSlot}
 use borrow.Author.Needs.{needs}
-use Rattle.domain.proofs.opened.fresh_slot.Statement.{statement}
-use Rattle.domain.proofs.opened.fresh_slot.Tie as tie
+use Rattle.new_domain.proofs.fresh_slot.Statement.{statement}
+use Rattle.new_domain.proofs.fresh_slot.Tie as tie
 
 add-k : tie.Need-add-k
 add-k c = search needs

@@ -1,10 +1,10 @@
 -- The slot that is given gets the head, the list and the interface.
 use mathlib.Core.Path.{refl}
-use Rattle.domain.specs.Opened.{newDomain}
+use Rattle.new_domain.specs.Opened.{newDomain}
 use borrow.Author.Needs.{needs}
 use Rattle.tables.specs.Header.{slots-read}
-use Rattle.domain.proofs.opened.new_domain.Statement.{statement}
-use Rattle.domain.proofs.opened.new_domain.Tie as tie
+use Rattle.new_domain.proofs.new_domain.Statement.{statement}
+use Rattle.new_domain.proofs.new_domain.Tie as tie
 
 size-requires : tie.Need-size-requires
 size-requires c κs = search needs

@@ -3,12 +3,12 @@ use Rattle.sizes.specs.Limits.{mostSlots}
 use Prim.Native.Nat.{_-_, _≤_}
 use lib.ListN.{replicate}
 use mathlib.Core.Path.{_≡_, sym, ap, _∙_}
-use Rattle.domain.specs.Opened.{freshList}
-use Rattle.domain.specs.Fresh.{freshTo, fresh-none, fresh-next, fresh-all}
+use Rattle.new_domain.specs.Opened.{freshList}
+use Rattle.new_domain.specs.Fresh.{freshTo, fresh-none, fresh-next, fresh-all}
 use borrow.Author.Needs.{needs}
 use native.Mathlib.Omega.{arith}
-use Rattle.domain.proofs.opened.fresh_list.Statement.{statement}
-use Rattle.domain.proofs.opened.fresh_list.Tie as tie
+use Rattle.new_domain.proofs.fresh_list.Statement.{statement}
+use Rattle.new_domain.proofs.fresh_list.Tie as tie
 
 abbrev Inv-loop : tie.InvT-loop
 Inv-loop n slots₀ i₀ slots i = (i ≤ mostSlots) × (slots ≡ freshTo n i)
