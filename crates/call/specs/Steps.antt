@@ -5,8 +5,8 @@ use Rattle.model.specs.Perform as model
 use Rattle.tables.specs.declared.Handle.{Handle}
 use Rattle.tables.specs.declared.Hash.{Hash}
 use Rattle.region.specs.declared.AccessRights.{AccessRights}
-use Rattle.segment.specs.declared.SendOptions.{SendOptions}
-use Rattle.segment.specs.declared.SendOptions.the-variants as options
+use Rattle.send_options.specs.declared.SendOptions.{SendOptions}
+use Rattle.send_options.specs.declared.SendOptions.the-variants as options
 use Rattle.call.specs.declared.Call.{Call}
 use Rattle.call.specs.declared.Call.the-variants.{Open, OpenUnder, Channel, SetCoreMap, SetInterface, FreezeInterface, Root, Alias, Carve, Send, Revoke, CreateRevokeCapa}
 

@@ -1,6 +1,6 @@
 // The calls that are one step on the tables (lib.rs), as one type.
 use region::AccessRights;
-use segment::SendOptions;
+use send_options::SendOptions;
 use tables::Handle;
 
 // A part of the region in `local`, with its range and rights.

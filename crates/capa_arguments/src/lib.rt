@@ -7,7 +7,7 @@ ghost use Rattle.call.specs.Arguments.{handle, hashIn, withFlags, withHash};
 ghost use Rattle.call.specs.Steps.{stepNamed};
 use call::Call;
 use rights::Rights;
-use segment::SendOptions;
+use send_options::SendOptions;
 use tables::Handle;
 use tables::Hash;
 

@@ -10,7 +10,7 @@ use Rattle.tables.specs.Tables.{Tables, regionAt}
 use Rattle.refusals.specs.Refusals.{beyond}
 use Rattle.answers.specs.Answers.{Effect, done, refused, andThen}
 use Rattle.region.specs.declared.AccessRights.{AccessRights}
-use Rattle.segment.specs.Children.{checkChild}
+use Rattle.children.specs.Children.{checkChild}
 use Rattle.checks.specs.Checks.{callerWith, regionHeld, roomForRegion}
 use Rattle.region_calls.specs.Calls.{addChild}
 use Rattle.carve_calls.specs.Calls.{exchangeRights, carveRegion}

@@ -32,7 +32,7 @@ fn carve(t: &mut [u64], d: usize, p: usize, a: AccessRights) -> Answer
     ensures { λ r. ⌜ r ≡ carved d p a (view (now (t .entry))) .answer ⌝ }
     ensures { λ _. ⌜ Left (now (t .exit)) (carved d p a (view (now (t .entry))) .tables) ⌝ }
 {
-    if !segment::check_carve(t, p, a) {
+    if !children::check_carve(t, p, a) {
         return Answer::Refused(Refusal::BEYOND);
     }
     let parent = region_rows::load_region(t, p);

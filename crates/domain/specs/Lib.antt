@@ -1,3 +1,1 @@
 pub mod Activate
-pub mod Opened
-pub mod Fresh

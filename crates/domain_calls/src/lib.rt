@@ -13,7 +13,7 @@ pub fn open_domain(t: &mut [u64], cores: u64) -> Answer
     ensures { λ r. ⌜ r ≡ openDomain cores (view (now (t .entry))) .answer ⌝ }
     ensures { λ _. ⌜ Left (now (t .exit)) (openDomain cores (view (now (t .entry))) .tables) ⌝ }
 {
-    domain::new_domain(t, 0, cores)
+    new_domain::new_domain(t, 0, cores)
 }
 
 // Domain m gets a Management capability for domain i, which is the answer.
@@ -48,7 +48,7 @@ pub fn open_under(t: &mut [u64], h: Handle, cores: u64) -> Answer
     ensures { λ _. ⌜ Left (now (t .exit)) (openUnder h cores (view (now (t .entry))) .tables) ⌝ }
 {
     match checks::live_domain(t, h) {
-        Answer::Done(m) => match domain::new_domain(t, tables::link_to(m), cores) {
+        Answer::Done(m) => match new_domain::new_domain(t, tables::link_to(m), cores) {
             Answer::Done(i) => manage(t, m as usize, i),
             Answer::Refused(r) => Answer::Refused(r),
         },

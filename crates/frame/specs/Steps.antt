@@ -6,7 +6,7 @@ use Rattle.tables.specs.Tables.{Tables}
 use Rattle.tables.specs.View.{Left}
 use Rattle.answers.specs.declared.Answer.{Answer}
 use Rattle.answers.specs.Answers.{Effect}
-use Rattle.segment.specs.declared.SendOptions.the-variants as options
+use Rattle.send_options.specs.declared.SendOptions.the-variants as options
 use Rattle.call.specs.declared.Call.{Call}
 use Rattle.call.specs.declared.Call.the-variants.{Open, OpenUnder, Channel, SetCoreMap, SetInterface, FreezeInterface, Root, Alias, Carve, Send, Revoke, CreateRevokeCapa}
 use Rattle.call.specs.Steps.{stepNamed}

@@ -10,7 +10,7 @@ ghost use Rattle.naming.specs.Named.{Names, accessNamed};
 use region::AccessRights;
 use rights::Rights;
 use script_records::Record;
-use segment::SendOptions;
+use send_options::SendOptions;
 use tables::Handle;
 
 // "slot 2^64 − 1 is no manager".

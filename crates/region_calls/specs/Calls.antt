@@ -11,7 +11,7 @@ use Rattle.answers.specs.Answers.{Effect, done, refused, andThen}
 use Rattle.region.specs.declared.AccessRights.{AccessRights}
 use Rattle.tables.specs.Links.{linkTo}
 use Rattle.domain.specs.Activate.{insert, activate}
-use Rattle.segment.specs.Children.{insertChild, checkChild}
+use Rattle.children.specs.Children.{insertChild, checkChild}
 use Rattle.segment.specs.Regions.{capaFor, newRegion}
 use Rattle.checks.specs.Checks.{liveDomain, callerWith, regionHeld, roomForRegion, capaOf}
 

@@ -67,7 +67,7 @@ pub fn add_child(t: &mut [u64], d: usize, p: usize, kind: u64, a: AccessRights) 
 {
     match segment::new_region(t, segment::capa_for(d, kind, tables::link_to(p as u64), a)) {
         Answer::Done(i) => {
-            segment::insert_child(t, p, i as usize);
+            children::insert_child(t, p, i as usize);
             hold(t, d, i)
         }
         Answer::Refused(r) => Answer::Refused(r),
@@ -80,7 +80,7 @@ fn alias(t: &mut [u64], d: usize, p: usize, a: AccessRights) -> Answer
     ensures { λ r. ⌜ r ≡ aliased d p a (view (now (t .entry))) .answer ⌝ }
     ensures { λ _. ⌜ Left (now (t .exit)) (aliased d p a (view (now (t .entry))) .tables) ⌝ }
 {
-    if !segment::check_alias(t, p, a) {
+    if !children::check_alias(t, p, a) {
         return Answer::Refused(Refusal::BEYOND);
     }
     match add_child(t, d, p, RegionCapa::ALIAS, a) {

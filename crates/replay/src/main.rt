@@ -6,7 +6,7 @@ use call::Call;
 use call::Child;
 use region::AccessRights;
 use rights::Rights;
-use segment::SendOptions;
+use send_options::SendOptions;
 use sizes::MOST_WORDS;
 use sizes::Sizes;
 use tables::Handle;

@@ -10,7 +10,7 @@ use Rattle.tables.specs.Tables.{Tables, regionAt}
 use Rattle.refusals.specs.Refusals.{memory}
 use Rattle.answers.specs.Answers.{Effect, done, refused, andThen}
 use Rattle.domain.specs.Activate.{activate, deactivate, cleanup}
-use Rattle.segment.specs.Children.{removeChild}
+use Rattle.children.specs.Children.{removeChild}
 use Rattle.segment.specs.Regions.{access, freedRegion}
 
 -- a root is in no list (the model's leaveParent)

@@ -16,7 +16,7 @@ fn leave_parent(t: &mut [u64], i: usize)
     if g.kind == RegionCapa::ROOT {
         return;
     }
-    segment::remove_child(t, tables::slot_to(g.parent), i);
+    children::remove_child(t, tables::slot_to(g.parent), i);
 }
 
 // What a carve held goes back to its parent's domain, with the parent's rights.
@@ -38,7 +38,7 @@ fn cleanup_if(t: &mut [u64], g: RegionCapa) -> Answer
     ensures { λ r. ⌜ r ≡ cleanupIf g (view (now (t .entry))) .answer ⌝ }
     ensures { λ _. ⌜ Left (now (t .exit)) (cleanupIf g (view (now (t .entry))) .tables) ⌝ }
 {
-    let ops = segment::children::rights_of(g.rights);
+    let ops = children::rights_of(g.rights);
     if ops.contains(Rights::CLEANUP) {
         return domain::cleanup(t, g.start, g.end);
     }

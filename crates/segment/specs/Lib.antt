@@ -1,4 +1,2 @@
-pub mod Children
-pub mod Options
 pub mod Regions
 pub mod Walks

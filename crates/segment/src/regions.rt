@@ -2,7 +2,6 @@
 ghost use mathlib.Core.Path.{_≡_};
 ghost use Rattle.tables.specs.View.{view, Sized, Left};
 ghost use Rattle.segment.specs.Regions.{access, capaFor, newRegion, freedRegion, movePiece};
-use crate::children;
 use answers::Answer;
 use arena::Freed;
 use arena::Given;

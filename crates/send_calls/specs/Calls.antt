@@ -11,9 +11,9 @@ use Rattle.refusals.specs.Refusals.{noSlot, notCarried}
 use Rattle.answers.specs.Answers.{Effect, done, refused, andThen}
 use Rattle.slots.specs.Capas.{capaAt, withoutCapa}
 use Rattle.domain.specs.Activate.{reserve, insert}
-use Rattle.segment.specs.declared.SendOptions.{SendOptions}
+use Rattle.send_options.specs.declared.SendOptions.{SendOptions}
 use Rattle.segment.specs.Regions.{sendRegion}
-use Rattle.segment.specs.Options.{applyOptions}
+use Rattle.send_options.specs.Joining.{applyOptions}
 use Rattle.checks.specs.Checks.{callerWith, liveRegion, targetHeld}
 use Rattle.send_options.specs.Options.{checkOptions}
 

@@ -7,7 +7,7 @@ use Rattle.tables.specs.Tables.{Tables}
 use Rattle.answers.specs.Answers.{Effect, andThen}
 use Rattle.slots.specs.Capas.{capaAt, withoutCapa}
 use Rattle.domain.specs.Activate.{reserve, insert}
-use Rattle.segment.specs.declared.SendOptions.{SendOptions}
+use Rattle.send_options.specs.declared.SendOptions.{SendOptions}
 use Rattle.checks.specs.Checks.{callerWith, targetHeld}
 use Rattle.send_calls.specs.Calls.{sendCapa, send}
 

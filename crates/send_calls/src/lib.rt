@@ -5,7 +5,7 @@ ghost use Rattle.send_calls.specs.Calls.{sendHeld, sendCapa, send};
 ghost use Rattle.send_calls.specs.Parts.{passed};
 use answers::Answer;
 use refusals::Refusal;
-use segment::SendOptions;
+use send_options::SendOptions;
 use tables::Handle;
 use tables::Interface;
 use tables::Slot;
@@ -20,7 +20,7 @@ fn send_held(t: &mut [u64], h: Handle, to: usize, o: SendOptions) -> Answer
         Answer::Done(i) => match send_options::check_options(o) {
             Answer::Done(u) => match segment::send_region(t, i as usize, to) {
                 Answer::Done(v) => {
-                    segment::apply_options(t, i as usize, o);
+                    send_options::apply_options(t, i as usize, o);
                     Answer::Done(0)
                 }
                 Answer::Refused(r) => Answer::Refused(r),

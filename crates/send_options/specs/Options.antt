@@ -8,8 +8,8 @@ use Rattle.refusals.specs.Refusals.{badFlag, noHash}
 use Rattle.answers.specs.declared.Answer.{Answer}
 use Rattle.answers.specs.declared.Answer.the-variants.{Done, Refused}
 use Rattle.answers.specs.Answers.{Effect}
-use Rattle.segment.specs.declared.SendOptions.{SendOptions}
-use Rattle.segment.specs.declared.SendOptions.the-variants as options
+use Rattle.send_options.specs.declared.SendOptions.{SendOptions}
+use Rattle.send_options.specs.declared.SendOptions.the-variants as options
 
 -- 18: of the flags only those may join that a child may add to no rights at all (document 02, request 1); then 19, "HASH without a hash": HASH of the
 -- flag word

@@ -1,10 +1,20 @@
-// The checks of what a send says besides (document 02, request 1).
+// What a send says besides (document 02, request 1): its checks, and how it joins the region that was sent.
+pub mod joining;
+
 ghost use mathlib.Core.Path.{_≡_};
 ghost use Rattle.send_options.specs.Options.{flagsAnswer, optionsAnswer};
 use answers::Answer;
+pub use joining::apply_options;
 use refusals::Refusal;
 use rights::Rights;
-use segment::SendOptions;
+use tables::Hash;
+
+// No flag word, one without a hash, or one with a hash.
+pub enum SendOptions {
+    None,
+    Flags(Rights),
+    Hashed(Rights, Hash),
+}
 
 // 18: a flag other than HASH, CLEANUP or VITAL (document 02, request 1), which are what a child may add to no rights;
 // 19: HASH in the flag word, and no hash.

@@ -21,7 +21,7 @@ use Rattle.tables.specs.Tables.{regionAt}
 use Rattle.answers.specs.Answers.{done}
 use Rattle.region.specs.declared.AccessRights.{AccessRights}
 use Rattle.domain.specs.Activate.{activate}
-use Rattle.segment.specs.Children.{checkChild}
+use Rattle.children.specs.Children.{checkChild}
 use Rattle.region_calls.specs.Calls.{addChild, aliasRegion}
 use Rattle.decoded.specs.Tables.{tablesOf}
 use Rattle.refine.specs.Arenas.Pools.{handleIn}

@@ -24,7 +24,7 @@ use Rattle.tables.specs.Tables.{regionAt}
 use Rattle.answers.specs.Answers.{done}
 use Rattle.region.specs.declared.AccessRights.{AccessRights}
 use Rattle.domain.specs.Activate.{activate, deactivate}
-use Rattle.segment.specs.Children.{checkChild}
+use Rattle.children.specs.Children.{checkChild}
 use Rattle.segment.specs.Regions.{access}
 use Rattle.region_calls.specs.Calls.{addChild}
 use Rattle.carve_calls.specs.Calls.{exchangeRights, carveRegion}

@@ -27,7 +27,7 @@ use Rattle.answers.specs.Answers.{Effect, andThen}
 use Rattle.region.specs.declared.AccessRights.{AccessRights}
 use Rattle.tables.specs.Links.{linkTo}
 use Rattle.domain.specs.Activate.{insert}
-use Rattle.segment.specs.Children.{insertChild}
+use Rattle.children.specs.Children.{insertChild}
 use Rattle.segment.specs.Regions.{capaFor, newRegion}
 use Rattle.checks.specs.Checks.{callerWith, regionHeld, roomForRegion, capaOf}
 use Rattle.region_calls.specs.Calls.{heldRegion, addChild}

@@ -14,7 +14,7 @@ use Rattle.laws.specs.Tree.Slots.{is-live}
 use Rattle.laws.specs.Keep.Base.{Base, sound-base}
 use Rattle.laws.specs.Keep.Open.{domain-whole}
 use Rattle.tables.specs.declared.Handle.{Handle}
-use Rattle.domain.specs.Opened.{newDomain}
+use Rattle.new_domain.specs.Opened.{newDomain}
 use Rattle.checks.specs.Checks.{liveDomain}
 use Rattle.domain_calls.specs.Calls.{openDomain, openUnder}
 use Rattle.decoded.specs.Sizes.{good-limits}

@@ -26,7 +26,7 @@ use Rattle.tables.specs.declared.Slot.{Slot}
 use Rattle.answers.specs.Answers.{Effect, done, refused, andThen}
 use Rattle.slots.specs.Capas.{capaAt}
 use Rattle.segment.specs.Regions.{sendRegion}
-use Rattle.segment.specs.Options.{applyOptions}
+use Rattle.send_options.specs.Joining.{applyOptions}
 use Rattle.send_options.specs.Options.{checkOptions}
 use Rattle.send_calls.specs.Calls.{sendHeld, sendCapa, send}
 use Rattle.decoded.specs.Tables.{capaSlot, tablesOf}

@@ -19,9 +19,9 @@ use Rattle.tables.specs.declared.RegionCapa.{RegionCapa}
 use Rattle.tables.specs.Tables.{Tables, withRegion, withHash}
 use Rattle.answers.specs.declared.Answer.the-variants.{Done, Refused}
 use Rattle.answers.specs.Answers.{Effect, andThen}
-use Rattle.segment.specs.declared.SendOptions.{SendOptions}
-use Rattle.segment.specs.declared.SendOptions.the-variants as options
-use Rattle.segment.specs.Options.{withRights, addHcv, withOptions, applyOptions}
+use Rattle.send_options.specs.declared.SendOptions.{SendOptions}
+use Rattle.send_options.specs.declared.SendOptions.the-variants as options
+use Rattle.send_options.specs.Joining.{withRights, addHcv, withOptions, applyOptions}
 use Rattle.send_options.specs.Options.{flagsAnswer, optionsAnswer, checkOptions}
 use Rattle.decoded.specs.Tables.{regionFor, hashFor, regionHashFor, tablesOf}
 use Rattle.decoded.specs.Tree.Regions.{region-read, region-put}

@@ -31,7 +31,7 @@ use Rattle.arena.specs.Arena.{given}
 use Rattle.answers.specs.declared.Answer.the-variants.{Refused}
 use Rattle.slot_list.specs.declared.SlotList.{SlotList}
 use Rattle.stored_slots.specs.Record.{putList, withList}
-use Rattle.domain.specs.Opened.{freshFrom, freshList, newHead, openInterface, taken, newDomain}
+use Rattle.new_domain.specs.Opened.{freshFrom, freshList, newHead, openInterface, taken, newDomain}
 use Rattle.decoded.specs.Rows.{map-up-length, getD-up}
 use Rattle.decoded.specs.Links.{after-top, after-under}
 use Rattle.decoded.specs.Tables.{handleFor, freeSlot, slotFor, slotsFor, domainFor, domainsFor, tablesOf}

@@ -22,11 +22,11 @@ use Rattle.laws.specs.Tree.Steps.{region-at}
 use Rattle.tables.specs.declared.RegionCapa.{RegionCapa}
 use Rattle.tables.specs.Tables.{regionAt}
 use Rattle.region.specs.declared.AccessRights.{AccessRights}
-use Rattle.segment.specs.declared.Place.{Place}
-use Rattle.segment.specs.declared.Overlap.{Overlap}
-use Rattle.segment.specs.declared.Search.{Search}
-use Rattle.segment.specs.declared.Search.the-variants as search
-use Rattle.segment.specs.Children.{overlapsB, fitsB, checkChild}
+use Rattle.children.specs.declared.Place.{Place}
+use Rattle.children.specs.declared.Overlap.{Overlap}
+use Rattle.children.specs.declared.Search.{Search}
+use Rattle.children.specs.declared.Search.the-variants as search
+use Rattle.children.specs.Children.{overlapsB, fitsB, checkChild}
 use Rattle.decoded.specs.Sizes.{and-both}
 use Rattle.decoded.specs.Tree.Regions.{region-read}
 use Rattle.refine.specs.Tree.Search.{rest, ends, Children, find-is}

@@ -27,10 +27,10 @@ use Rattle.laws.specs.Tree.Steps.{region-at, by-parent}
 use Rattle.tables.specs.declared.RegionCapa.{RegionCapa}
 use Rattle.tables.specs.Tables.{Tables, noRegion, regionAt, withRegions, withRegion, withNext, withChild}
 use Rattle.tables.specs.Links.{linkTo, slotTo}
-use Rattle.segment.specs.declared.Place.{Place}
-use Rattle.segment.specs.declared.Search.{Search}
-use Rattle.segment.specs.declared.Search.the-variants as search
-use Rattle.segment.specs.Children.{linkChild, insertChild, removeChild}
+use Rattle.children.specs.declared.Place.{Place}
+use Rattle.children.specs.declared.Search.{Search}
+use Rattle.children.specs.declared.Search.the-variants as search
+use Rattle.children.specs.Children.{linkChild, insertChild, removeChild}
 use Rattle.revocation.specs.Revoke.{leaveParent}
 use Rattle.decoded.specs.Links.{after-top, after-behind}
 use Rattle.decoded.specs.Tree.Regions.{region-read}

@@ -18,7 +18,7 @@ use Rattle.model.specs.Regions as model
 use Rattle.model.specs.Sound.{PoolSound, slotUses}
 use Rattle.laws.specs.Accepted.{All}
 use Rattle.laws.specs.Keep.Locals.{made, new-all}
-use Rattle.segment.specs.Children.{insertChild}
+use Rattle.children.specs.Children.{insertChild}
 use Rattle.refine.specs.Tree.Search.{Children}
 use Rattle.refine.specs.Tree.ChildLists.{insert-child-is}
 use Rattle.decoded.specs.Tables.{tablesOf}

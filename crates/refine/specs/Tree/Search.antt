@@ -21,9 +21,9 @@ use Rattle.laws.specs.Tree.Shares.{child}
 use Rattle.laws.specs.Tree.Facts.{Regions, listing, own, child-le, has-parent}
 use Rattle.tables.specs.declared.RegionCapa.{RegionCapa}
 use Rattle.tables.specs.Tables.{Tables, noRegion, regionAt}
-use Rattle.segment.specs.declared.Place.{Place}
-use Rattle.segment.specs.declared.Search.{Search}
-use Rattle.segment.specs.Children.{endsB, findFrom, find}
+use Rattle.children.specs.declared.Place.{Place}
+use Rattle.children.specs.declared.Search.{Search}
+use Rattle.children.specs.Children.{endsB, findFrom, find}
 use Rattle.decoded.specs.Rows.{getD-up}
 use Rattle.decoded.specs.Links.{after-top, after-under}
 use Rattle.decoded.specs.Tree.Regions.{childrenIn, region-read}

@@ -2,7 +2,7 @@
 use native.Mathlib.Numerals.{add-one}
 use Rattle.sizes.specs.Sizes.{sizesOf}
 use Rattle.segment.specs.Regions.{sendRegion}
-use Rattle.segment.specs.Walks.{regions-read}
+use Rattle.children.specs.Walks.{regions-read}
 use borrow.Author.Needs.{needs}
 use native.Mathlib.Omega.{arith}
 use Rattle.segment.proofs.send.send_region.Statement.{statement}
