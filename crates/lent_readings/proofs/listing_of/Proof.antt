@@ -9,7 +9,7 @@ use Rattle.lent_readings.proofs.listing_of.Tie as tie
 use Rattle.lent_readings.proofs.listing_of.Reads as reads
 use Rattle.lent_readings.proofs.listing_of.Lts as lts
 use Rattle.lent_readings.proofs.domain_read.Reads as domain-read-reads
-use Rattle.frame.proofs.replies.refused.Reads as refused-reads
+use Rattle.replies.proofs.refused.Reads as refused-reads
 use Rattle.readings.proofs.plan_of.Reads as plan-of-reads
 
 -- src/lib.rt:82:11

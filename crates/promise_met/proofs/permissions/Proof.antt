@@ -42,8 +42,8 @@ use Rattle.readings.proofs.Permission as T
 use Rattle.replies.specs.declared.Reply.{Reply}
 use Rattle.call.specs.Arguments.{handle}
 use Rattle.replies.specs.Replies.{ListsPermissions}
-use Rattle.frame.proofs.replies.Reply as R
-use Rattle.frame.proofs.replies.Reply.Laws as R′
+use Rattle.replies.proofs.Reply as R
+use Rattle.replies.proofs.Reply.Laws as R′
 use Rattle.engine.proofs.read.mityvurno_permissions as callee
 use Rattle.engine.proofs.read.mityvurno_permissions.Symbol as callee-def
 use Rattle.engine.proofs.read.mityvurno_permissions.Symbol.{name as #callee}

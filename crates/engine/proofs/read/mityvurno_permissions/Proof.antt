@@ -51,7 +51,7 @@ use Rattle.readings.proofs.found_at.Met as found-at-thm
 use Rattle.lent_readings.specs.declared.Listing.{Listing}
 use Rattle.call.specs.Arguments.{handle}
 use Rattle.lent_readings.specs.Permissions.{Plans}
-use Rattle.frame.proofs.replies.Reply.Laws as R′
+use Rattle.replies.proofs.Reply.Laws as R′
 use Rattle.lent_readings.proofs.Listing as P
 use Rattle.lent_readings.proofs.Listing.Laws as P′
 use Rattle.lent_readings.proofs.listing_of as listing-of

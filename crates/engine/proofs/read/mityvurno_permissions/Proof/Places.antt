@@ -11,7 +11,7 @@ use denote.Slice.{sliceTy}
 use Rattle.readings.specs.declared.Permission.{Permission}
 use Rattle.readings.proofs.Permission as T
 use Rattle.readings.proofs.Found.Laws as F′
-use Rattle.frame.proofs.replies.Reply.Laws as R′
+use Rattle.replies.proofs.Reply.Laws as R′
 use Rattle.lent_readings.proofs.Listing.Laws as P′
 
 -- the types of the locals that are no declared type

@@ -55,8 +55,8 @@ use Rattle.readings.proofs.found_at.Symbol.{name as #found-at}
 use Rattle.lent_readings.specs.declared.Listing.{Listing}
 use Rattle.call.specs.Arguments.{handle}
 use Rattle.lent_readings.specs.Permissions.{Plans}
-use Rattle.frame.proofs.replies.Reply as R
-use Rattle.frame.proofs.replies.Reply.Laws as R′
+use Rattle.replies.proofs.Reply as R
+use Rattle.replies.proofs.Reply.Laws as R′
 use Rattle.lent_readings.proofs.Listing as P
 use Rattle.lent_readings.proofs.Listing.Laws as P′
 use Rattle.engine.proofs.read.mityvurno_permissions as permissions
