@@ -10,7 +10,7 @@ use Rattle.model.specs.Lists.{countIf, Each}
 use Rattle.model.specs.State.{Handle, Pool, Domain, Update, permission, cleanup, Queue, State, withQueue}
 use Rattle.model.specs.Fields.{allMarks}
 use Rattle.model.specs.Updates.{isPermissionOf}
-use Rattle.model.specs.Sound.{QueuedLive, Singly, UpdateWords, QueueSound, Sound}
+use Rattle.model.specs.Sound.{QueuedFit, Singly, UpdateWords, QueueSound, Sound}
 use Rattle.model.specs.Converting.{HasAllMarks, AllMarked}
 use Rattle.laws.specs.Lists.{each-map}
 use Rattle.book.specs.Book.{Book}
@@ -43,7 +43,7 @@ marked-singly [] k = tt
 marked-singly (permission h cores marks ∷ us) k = (marked-count h us ∙ k .0, marked-singly us (k .1))
 marked-singly (cleanup a b ∷ us) k = marked-singly us k
 
-marked-live : (p : Pool) (ds : List (Option Domain)) (u : Update) → QueuedLive p ds u → QueuedLive p ds (markAll u)
+marked-live : (p : Pool) (ds : List (Option Domain)) (u : Update) → QueuedFit p ds u → QueuedFit p ds (markAll u)
 marked-live p ds (permission h cores marks) l = l
 marked-live p ds (cleanup a b) l = l
 
@@ -55,7 +55,7 @@ marked-queue : (n : ℕ) (p : Pool) (ds : List (Option Domain)) (q : Queue) → 
 marked-queue n p ds q k = record {
   readPlace = k .readPlace;
   fits = omega (arith, k .fits, length-map (q .items) markAll);
-  live = each-map markAll _ _ (marked-live p ds) (q .items) (k .live);
+  handlesFit = each-map markAll _ _ (marked-live p ds) (q .items) (k .handlesFit);
   singly = marked-singly (q .items) (k .singly);
   queuedWords = each-map markAll _ _ marked-words (q .items) (k .queuedWords);
 }

@@ -16,7 +16,7 @@ use Rattle.model.specs.Lists.{countUp}
 use Rattle.model.specs.State as state
 use Rattle.model.specs.State.{permission}
 use Rattle.model.specs.Updates.{isPermissionOf}
-use Rattle.model.specs.Sound.{QueueSound, QueuedLive, UpdateWords}
+use Rattle.model.specs.Sound.{QueueSound, QueuedFit, UpdateWords}
 use Rattle.tables.specs.declared.Update.{Update}
 use Rattle.tables.specs.Tables.{Tables, noUpdate, updateAt, markAt}
 use Rattle.decoded.specs.Rows.{map-up-length}
@@ -49,20 +49,20 @@ module _ (v : Tables) (s : Shaped v) where
   D = v .sizes .domains
 
   abbrev Live : Update → ℕ → Type 0
-  Live u x = QueuedLive (poolFrom D (v .domainPool)) (domainsFrom v) (updateFrom u x)
+  Live u x = QueuedFit (poolFrom D (v .domainPool)) (domainsFrom v) (updateFrom u x)
 
   live-is : (u : Update) (x : ℕ) → liveIn v u ≡ true → Live u x
   unfolding domainsFrom
   live-is u x h = elim (ℕ-discrete (u .kind) 1) [
-    | yes e ↦ subst (QueuedLive (poolFrom D (v .domainPool)) (domainsFrom v)) (sym (permission-read u x e)) (true-is (live-read D (v .domainPool) (s .domainPool) (domainRead v) (handleAt u) ∙ (rw (eq-eqb (u .kind) 1 e) at h)))
-    | no ne ↦ subst (QueuedLive (poolFrom D (v .domainPool)) (domainsFrom v)) (sym (cleanup-read u x ne)) tt
+    | yes e ↦ subst (QueuedFit (poolFrom D (v .domainPool)) (domainsFrom v)) (sym (permission-read u x e)) (true-is (live-read D (v .domainPool) (s .domainPool) (domainRead v) (handleAt u) ∙ (rw (eq-eqb (u .kind) 1 e) at h)))
+    | no ne ↦ subst (QueuedFit (poolFrom D (v .domainPool)) (domainsFrom v)) (sym (cleanup-read u x ne)) tt
   ]
 
   is-live : (u : Update) (x : ℕ) → Live u x → liveIn v u ≡ true
   unfolding domainsFrom
   is-live u x q = elim (ℕ-discrete (u .kind) 1) [
     | yes e ↦
-        let y = subst (QueuedLive (poolFrom D (v .domainPool)) (domainsFrom v)) (permission-read u x e) q in
+        let y = subst (QueuedFit (poolFrom D (v .domainPool)) (domainsFrom v)) (permission-read u x e) q in
         rw (eq-eqb (u .kind) 1 e) (sym (live-read D (v .domainPool) (s .domainPool) (domainRead v) (handleAt u)) ∙ is-true y)
     | no ne ↦ rw (ne-eqb (u .kind) 1 ne)
   ]
@@ -150,7 +150,7 @@ module _ (v : Tables) (s : Shaped v) where
       sound = record {
         readPlace = hr;
         fits = omega (arith, map-up-length item m, some-places);
-        live = each-up (QueuedLive (poolFrom D (v .domainPool)) (domainsFrom v)) item 0 m (λ j a b. queued-fits j (omega arith) .1);
+        live = each-up (QueuedFit (poolFrom D (v .domainPool)) (domainsFrom v)) item 0 m (λ j a b. queued-fits j (omega arith) .1);
         singly = apart-singly item 0 m (λ i j a b d h c x. apart i j b (omega arith) h c x);
         queuedWords = each-up UpdateWords item 0 m (λ j a b. words-at j (omega (arith, some-places)));
       }
@@ -181,7 +181,7 @@ module _ (v : Tables) (s : Shaped v) where
           let u = place v (spot j) in
           let x = placeMark v (spot j) in
           elim (cmp j m) [
-            | lt o ↦ rw (lt-ltb j m o) (both-i (wellFormedB u) (liveIn v u) (is-well-formed u x (queued j o)) (is-live u x (up-each (QueuedLive (poolFrom D (v .domainPool)) (domainsFrom v)) item 0 m (q .live) j (omega arith) (omega arith))))
+            | lt o ↦ rw (lt-ltb j m o) (both-i (wellFormedB u) (liveIn v u) (is-well-formed u x (queued j o)) (is-live u x (up-each (QueuedFit (poolFrom D (v .domainPool)) (domainsFrom v)) item 0 m (q .live) j (omega arith) (omega arith))))
             | ge o ↦ rw (le-ltb j m o) (ap clearB (unqueued j b o .0))
           ]
 

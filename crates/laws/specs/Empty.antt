@@ -77,7 +77,7 @@ empty-sound z = checked (goodSizes z) _ (λ t. accepted (record {
     interfaceWords = λ d x h. absurd (nothing-in (z .domains) d x h);
   };
   tracked = record { recordPool = fresh-pool (z .records) _ (no-uses (z .domains)); trackers = λ d x h. absurd (nothing-in (z .domains) d x h) };
-  queue = record { readPlace = omega arith; fits = omega arith; live = tt; singly = tt; queuedWords = tt };
+  queue = record { readPlace = omega arith; fits = omega arith; handlesFit = tt; singly = tt; queuedWords = tt };
 }))
 
 pub made-sound : (n m : ℕ) (z : Sizes) → All Sound (makeIn n m z)

@@ -13,7 +13,7 @@ use Rattle.model.specs.State.{Handle, Pool, Domain, Update, permission, cleanup
 use Rattle.model.specs.Fields.{Field, isMarked}
 use Rattle.model.specs.Pool.{sameHandle}
 use Rattle.model.specs.Updates.{isPermissionOf, gather}
-use Rattle.model.specs.Sound.{QueuedLive, Singly, UpdateWords, QueueSound}
+use Rattle.model.specs.Sound.{QueuedFit, Singly, UpdateWords, QueueSound}
 use Rattle.laws.specs.Lists.{each-map}
 use Rattle.laws.specs.Tracker.Marks.{marked-union, union-small}
 
@@ -79,7 +79,7 @@ module _ (h : Handle) (m : ℕ) where
   gather-singly (permission k cores marks ∷ us) s = (gather-count k us ∙ s .0, gather-singly us (s .1))
   gather-singly (cleanup a b ∷ us) s = gather-singly us s
 
-  pub gather-live : (p : Pool) (ds : List (Option Domain)) (u : Update) → QueuedLive p ds u → QueuedLive p ds (gather h m u)
+  pub gather-live : (p : Pool) (ds : List (Option Domain)) (u : Update) → QueuedFit p ds u → QueuedFit p ds (gather h m u)
   gather-live p ds (permission k cores marks) l = l
   gather-live p ds (cleanup a b) l = l
 
@@ -95,7 +95,7 @@ module _ (h : Handle) (m : ℕ) where
   gather-queue low n p ds q k = record {
     readPlace = k .readPlace;
     fits = omega (arith, k .fits, gather-length (q .items));
-    live = each-map (gather h m) _ _ (gather-live p ds) (q .items) (k .live);
+    handlesFit = each-map (gather h m) _ _ (gather-live p ds) (q .items) (k .handlesFit);
     singly = gather-singly (q .items) (k .singly);
     queuedWords = each-map (gather h m) _ _ (gather-words low) (q .items) (k .queuedWords);
   }

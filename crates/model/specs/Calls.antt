@@ -8,18 +8,19 @@ use lib.Dec.{eqb, ltb}
 use lib.ListN.{set}
 use Rattle.model.specs.Lists.{if_then_else_, isSome, isEmpty}
 use Rattle.model.specs.Outcome.{Outcome, ok, refuse, _>>=_, _>>_, require}
-use Rattle.refusals.specs.Refusals.{noDomain, wrongKind, stale, badRange, beyond, isRoot, notCarried, noRegion, noDomainRoom, badFlag, noHash, notAllowed, isFrozen}
+use Rattle.refusals.specs.Refusals.{noDomain, wrongKind, stale, badRange, beyond, isRoot, notCarried, noRegion, noDomainRoom, badFlag, noHash, notAllowed, isFrozen, holdsRoot, running}
 use Rattle.rights.specs.Rights.{has, allowed, HASH}
 use Rattle.model.specs.State.{Handle, Capa, noCapa, region, regionRevoke, management, channel, Access, SendOptions, Kind, Root, Alias, Carve, SEND, ALIAS, CARVE, openInterface, State, withDomains, withCores, withInterface, domainAt, regionAt, putDomain}
 use Rattle.model.specs.Pool.{allocate, handleOf, isLive}
 use Rattle.model.specs.Locals.{freshLocals, hasCapacity, capaAt, insertCapa, removeCapa, emptyCapa}
 use Rattle.model.specs.Tree.{isRootKind, checkAlias, checkCarve, insertChild}
 use Rattle.model.specs.Regions.{activate, deactivate, newRegion, sendRegion, applyOptions, revokeRegion, liveCount}
+use Rattle.model.specs.Closing.{liveDomains, closesRoot, closesRunning, closeDomain}
 
 -- ---- checks that several calls share
 
--- 3: "slot number too large, generation not the slot's, or slot free". The answer is the domain's slot. No call frees a domain: its handle stays live until
--- tables are made anew.
+-- 3: "slot number too large, generation not the slot's, or slot free". The answer is the domain's slot. A domain's handle stays live until the domain is
+-- closed or tables are made anew.
 unfoldable pub liveDomain : State → Handle → Outcome ℕ
 liveDomain s h = do
   require (isLive (s .domainPool) (s .domains) h) noDomain  -- 3
@@ -126,7 +127,7 @@ createRootRegion h a s = do
   s₁ ← roomForRegion d a s  -- 11, 12, 7
   (i, s₂) ← newRegion d Root a s₁
   (l, s₃) ← insertCapa d (region (handleOf (s₂ .regionPool) i)) s₂
-  s₄ ← activate d a s₃  -- 13, 14, 16
+  s₄ ← activate [] d a s₃  -- 13, 14, 16
   ok (l, s₄)
 
 -- A child of region p, in p's child list and in a slot of domain d's list. It is in the region table before `insertChild` reads its start there.
@@ -143,15 +144,15 @@ aliasRegion h l a s = do
   s₁ ← roomForRegion d a s  -- 11, 12, 7
   require (checkAlias s₁ (regionAt s₁ p) a) beyond  -- 8
   (n, s₂) ← addChild d p (Alias p) a s₁
-  s₃ ← activate d a s₂  -- 13, 14, 16
+  s₃ ← activate [] d a s₂  -- 13, 14, 16
   ok (n, s₃)
 
 -- **Carve**: "the domain loses the range with the parent's rights and gains it with the new ones; if equal, the tracker isn't touched". The whole words
 -- are compared: 35 and 3 differ, though the tracker counts alike.
 unfoldable pub exchangeRights : ℕ → ℕ → Access → State → Outcome State
 exchangeRights d old a s = if eqb old (a .rights) then ok s else (do
-  s₁ ← deactivate d (record { start = a .start; end = a .end; rights = old }) s
-  activate d a s₁)
+  s₁ ← deactivate [] d (record { start = a .start; end = a .end; rights = old }) s
+  activate [] d a s₁)
 
 -- **Carve** (`carve_region`).
 unfoldable pub carveRegion : Handle → ℕ → Access → State → Outcome (ℕ × State)
@@ -206,16 +207,24 @@ send h l target o s = do
 unfoldable pub revokeUnlessRoot : ℕ → State → Outcome State
 revokeUnlessRoot i s = do
   require (not (isRootKind (regionAt s i .kind))) isRoot  -- 9
-  revokeRegion (liveCount s) i s  -- 13, 14, 16
+  revokeRegion [] (liveCount s) i s  -- 13, 14, 16
 
--- 10, 6, 9; "a RegionRevoke of a dead region succeeds", and "For a channel, a None or a dead RegionRevoke that is all."
+-- Document 02, request 5: "Revoking a Management capability closes that domain"; 22 and 23 "both after 3 for the target and before any change".
+unfoldable pub closeManaged : Handle → State → Outcome State
+closeManaged h s = do
+  d ← liveDomain s h  -- 3
+  require (not (closesRoot s d)) holdsRoot  -- 22
+  require (not (closesRunning s d)) running  -- 23
+  closeDomain (liveDomains s) [] d s  -- 13, 14, 16
+
+-- 6, 9; "a RegionRevoke of a dead region succeeds", and "For a channel, a None or a dead RegionRevoke that is all."
 unfoldable pub revokeCapa : Capa → State → Outcome State
 revokeCapa noCapa s = ok s
 revokeCapa (region h) s = do
   i ← liveRegion s h  -- 6
   revokeUnlessRoot i s  -- 9, then 13, 14, 16
 revokeCapa (regionRevoke h) s = if isLive (s .regionPool) (s .regions) h then revokeUnlessRoot (h .slot) s else ok s
-revokeCapa (management h) s = refuse notCarried  -- 10
+revokeCapa (management h) s = closeManaged h s  -- 3, 22, 23, then 13, 14, 16
 revokeCapa (channel h) s = ok s
 
 -- **Revoke** (`revoke`).
@@ -223,7 +232,7 @@ unfoldable pub revoke : Handle → ℕ → State → Outcome State
 revoke h l s = do
   d ← liveDomain s h  -- 3
   c ← capaAt s d l  -- 4
-  s₁ ← revokeCapa c s  -- 10, 6, 9, then 13, 14, 16
+  s₁ ← revokeCapa c s  -- 6, 9 or 3, 22, 23, then 13, 14, 16
   ok (emptyCapa d l s₁)
 
 -- "make a RegionRevoke for a held region in the holder's own list"

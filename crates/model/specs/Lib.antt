@@ -37,6 +37,7 @@ pub mod Updates
 pub mod Tracker
 pub mod Tree
 pub mod Regions
+pub mod Closing
 pub mod Calls
 pub mod Counts
 pub mod Readings

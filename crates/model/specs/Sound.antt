@@ -174,10 +174,10 @@ pub record TrackerSound (regions : List (Option Region)) (d : ℕ) (l : List Rec
 
 -- ---- the update ring
 
--- "queued domains are live"
-abbrev pub QueuedLive : Pool → List (Option Domain) → Update → Type 0
-QueuedLive p ds (permission h cores marks) = T (isLive p ds h)
-QueuedLive p ds (cleanup a b) = Unit {0}
+-- "queued domains are live"; document 02, request 5: "A queued update may name a closed domain by its old generation"
+abbrev pub QueuedFit : Pool → List (Option Domain) → Update → Type 0
+QueuedFit p ds (permission h cores marks) = LiveOrOlder p ds h
+QueuedFit p ds (cleanup a b) = Unit {0}
 
 -- "and queued singly": none is queued again further on
 abbrev pub Singly : List Update → Type 0
@@ -194,7 +194,7 @@ UpdateWords (cleanup a b) = Word a × Word b
 pub record QueueSound (n : ℕ) (domainPool : Pool) (domains : List (Option Domain)) (q : Queue) : Type 0 where
   pub readPlace : q .readPlace < n + 1
   pub fits : length (q .items) < n + 1
-  pub live : Each (QueuedLive domainPool domains) (q .items)
+  pub handlesFit : Each (QueuedFit domainPool domains) (q .items)
   pub singly : Singly (q .items)
   pub queuedWords : Each UpdateWords (q .items)
 

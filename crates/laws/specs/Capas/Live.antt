@@ -17,7 +17,7 @@ use Rattle.model.specs.Lists.{oneIf, isSome, Each, atSlot, In}
 use Rattle.model.specs.State.{State, Handle, Pool, Capa, noCapa, region, regionRevoke, management, channel, Domain, Region, LocalList, Update, permission, cleanup, Queue}
 use Rattle.model.specs.Pool.{handleOf, isLive, sameHandle}
 use Rattle.model.specs.Locals.{isInvalid}
-use Rattle.model.specs.Sound.{LiveOrOlder, HandleFit, RevokeFit, ListSound, QueuedLive, QueueSound, isRegionOf, isManagementOf}
+use Rattle.model.specs.Sound.{LiveOrOlder, HandleFit, RevokeFit, ListSound, QueuedFit, QueueSound, isRegionOf, isManagementOf}
 use Rattle.laws.specs.Lists.{each-weaken}
 
 -- ---- one handle
@@ -153,9 +153,9 @@ module _ (rp rp′ : Pool) (rs rs′ : List (Option Region)) (dp dp′ : Pool) (
     handlesFit = each-weaken (HandleFit rp rs dp ds) (HandleFit rp′ rs′ dp′ ds′) (l .held) handle-onward (h .handlesFit);
   }
 
-queued-onward : (p q : Pool) (l m : List (Option Domain)) → ((h : Handle) → T (isLive p l h) → T (isLive q m h)) → (u : Update) → QueuedLive p l u → QueuedLive q m u
+queued-onward : (p q : Pool) (l m : List (Option Domain)) → ((h : Handle) → T (isLive p l h) → T (isLive q m h)) → (u : Update) → QueuedFit p l u → QueuedFit q m u
 queued-onward p q l m live (permission h c n) t = live h t
 queued-onward p q l m live (cleanup a b) t = tt
 
 pub queue-onward : (n : ℕ) (p q : Pool) (l m : List (Option Domain)) → ((h : Handle) → T (isLive p l h) → T (isLive q m h)) → (r : Queue) → QueueSound n p l r → QueueSound n q m r
-queue-onward n p q l m live r h = record { readPlace = h .readPlace; fits = h .fits; live = each-weaken (QueuedLive p l) (QueuedLive q m) (r .items) (queued-onward p q l m live) (h .live); singly = h .singly; queuedWords = h .queuedWords }
+queue-onward n p q l m live r h = record { readPlace = h .readPlace; fits = h .fits; handlesFit = each-weaken (QueuedFit p l) (QueuedFit q m) (r .items) (queued-onward p q l m live) (h .live); singly = h .singly; queuedWords = h .queuedWords }

@@ -19,9 +19,9 @@ pop-go : (s : State) (f : ℕ) (us : List Update) → Sound (withQueue (record {
 unfolding pop
 pop-go s f [] h = h
 pop-go s f (permission k c m ∷ us) h = with-queue (withQueue (record { readPlace = f; items = permission k c m ∷ us }) s) (record { readPlace = (f + 1) % (s .sizes .updates + 1); items = us }) h
-    (record { readPlace = next-place (s .sizes .updates) f; fits = omega arith; live = h .queue .live .1; singly = h .queue .singly .1; queuedWords = h .queue .queuedWords .1 })
+    (record { readPlace = next-place (s .sizes .updates) f; fits = omega arith; handlesFit = h .queue .handlesFit .1; singly = h .queue .singly .1; queuedWords = h .queue .queuedWords .1 })
 pop-go s f (cleanup a b ∷ us) h = with-queue (withQueue (record { readPlace = f; items = cleanup a b ∷ us }) s) (record { readPlace = (f + 1) % (s .sizes .updates + 1); items = us }) h
-    (record { readPlace = next-place (s .sizes .updates) f; fits = omega arith; live = h .queue .live .1; singly = h .queue .singly; queuedWords = h .queue .queuedWords .1 })
+    (record { readPlace = next-place (s .sizes .updates) f; fits = omega arith; handlesFit = h .queue .handlesFit .1; singly = h .queue .singly; queuedWords = h .queue .queuedWords .1 })
 
 pub pop-sound : (s : State) → Sound s → Sound (pop s .1)
 pop-sound s h = pop-go s (s .queue .readPlace) (s .queue .items) h

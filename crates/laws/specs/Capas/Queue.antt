@@ -13,7 +13,7 @@ use Rattle.model.specs.Lists.{oneIf, exists, Each, In}
 use Rattle.model.specs.State.{Word, Handle, Pool, Domain, State, Update, permission, cleanup, Queue, withQueue, domainAt}
 use Rattle.model.specs.Pool.{handleOf, sameHandle}
 use Rattle.model.specs.Updates.{isPermissionOf, push, pushPermission}
-use Rattle.model.specs.Sound.{QueuedLive, Singly, UpdateWords, QueueSound}
+use Rattle.model.specs.Sound.{QueuedFit, Singly, UpdateWords, QueueSound}
 use Rattle.laws.specs.Accepted.{All, accepted, checked, branch-on}
 use Rattle.laws.specs.Tree.Slots.{in-length}
 use Rattle.laws.specs.Capas.Live.{handle-same, handle-live}
@@ -57,11 +57,11 @@ apart-new h c m (cleanup x y ∷ l) t = (tt, apart-new h c m l t)
 
 -- ---- the queue
 
-joined : (n : ℕ) (p : Pool) (ds : List (Option Domain)) (q : Queue) (u : Update) → QueueSound n p ds q → length (q .items) < n → QueuedLive p ds u → Each (Apart u) (q .items) → UpdateWords u → QueueSound n p ds (record { readPlace = q .readPlace; items = q .items ++ (u ∷ []) })
+joined : (n : ℕ) (p : Pool) (ds : List (Option Domain)) (q : Queue) (u : Update) → QueueSound n p ds q → length (q .items) < n → QueuedFit p ds u → Each (Apart u) (q .items) → UpdateWords u → QueueSound n p ds (record { readPlace = q .readPlace; items = q .items ++ (u ∷ []) })
 joined n p ds q u h l live apart words = record {
   readPlace = h .readPlace;
   fits = omega (arith, length-append (q .items) (u ∷ []));
-  live = each-end (QueuedLive p ds) (q .items) u (h .live) live;
+  handlesFit = each-end (QueuedFit p ds) (q .items) u (h .handlesFit) live;
   singly = singly-end (q .items) u (h .singly) apart;
   queuedWords = each-end UpdateWords (q .items) u (h .queuedWords) words;
 }
@@ -74,7 +74,7 @@ module _ (own man : Shares) (s : State) (h : Held own man s) where
   with-queue : (q : Queue) → QueueSound (s .sizes .updates) (s .domainPool) (s .domains) q → Held own man (withQueue q s)
   with-queue q k = search
 
-  push-held : (u : Update) → QueuedLive (s .domainPool) (s .domains) u → Each (Apart u) (s .queue .items) → UpdateWords u → All (λ t. Held own man t × SameBut s t) (push u s)
+  push-held : (u : Update) → QueuedFit (s .domainPool) (s .domains) u → Each (Apart u) (s .queue .items) → UpdateWords u → All (λ t. Held own man t × SameBut s t) (push u s)
   unfolding push
   push-held u live apart words = checked _ _ (λ l. accepted (with-queue _ (joined (s .sizes .updates) (s .domainPool) (s .domains) (s .queue) u (h .queue) (ltb→lt (length (s .queue .items)) (s .sizes .updates) l) live apart words), (_, refl)))
 

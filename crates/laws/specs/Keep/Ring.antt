@@ -16,7 +16,7 @@ use Rattle.model.specs.State.{State, Sizes, Word, Handle, Domain, Update, permi
 use Rattle.model.specs.Pool.{handleOf, sameHandle}
 use Rattle.model.specs.Updates.{push, pushPermission, isPermissionOf}
 use Rattle.model.specs.Making.{goodSizes}
-use Rattle.model.specs.Sound.{Sound, QueueSound, QueuedLive, Singly, UpdateWords}
+use Rattle.model.specs.Sound.{Sound, QueueSound, QueuedFit, Singly, UpdateWords}
 use Rattle.laws.specs.Accepted.{All, accepted, checked, branch-on}
 use Rattle.laws.specs.Stack.{any-count}
 use Rattle.laws.specs.Tree.Slots.{in-length, is-live}
@@ -60,7 +60,7 @@ singly-end (cleanup k c ∷ l) (cleanup a b) f s = singly-end l (cleanup a b) tt
 
 -- ---- an update joins
 
-join-ring : (u : Update) (s : State) → Ring s → QueuedLive (s .domainPool) (s .domains) u → Fresh u (s .queue .items) → UpdateWords u → All Ring (push u s)
+join-ring : (u : Update) (s : State) → Ring s → QueuedFit (s .domainPool) (s .domains) u → Fresh u (s .queue .items) → UpdateWords u → All Ring (push u s)
 unfolding push
 join-ring u s r live fresh words = checked (ltb (length (s .queue .items)) (s .sizes .updates)) _ (λ t.
     let room = ltb→lt (length (s .queue .items)) (s .sizes .updates) t in
@@ -68,7 +68,7 @@ join-ring u s r live fresh words = checked (ltb (length (s .queue .items)) (s .s
       queue = record {
         readPlace = r .queue .readPlace;
         fits = omega (arith, length-append (s .queue .items) (u ∷ []));
-        live = each-end _ (s .queue .items) u (r .queue .live) live;
+        handlesFit = each-end _ (s .queue .items) u (r .queue .handlesFit) live;
         singly = singly-end (s .queue .items) u fresh (r .queue .singly);
         queuedWords = each-end UpdateWords (s .queue .items) u (r .queue .queuedWords) words;
       };
@@ -114,7 +114,7 @@ pub record QueueKept (s t : State) : Type 0 where
   pub cores : (d : ℕ) (y : Domain) → In (t .domains) d y → Word (y .cores)
   pub queue : t .queue ≡ s .queue
 
-live-kept : (s t : State) → QueueKept s t → (u : Update) → QueuedLive (s .domainPool) (s .domains) u → QueuedLive (t .domainPool) (t .domains) u
+live-kept : (s t : State) → QueueKept s t → (u : Update) → QueuedFit (s .domainPool) (s .domains) u → QueuedFit (t .domainPool) (t .domains) u
 live-kept s t c (permission h k m) l =
     and-i (isSome (atSlot (t .domains) (h .slot))) (eqb (getD (t .domainPool .gens) (h .slot) 0) (h .generation))
     (c .live (h .slot) (and-l (isSome (atSlot (s .domains) (h .slot))) (eqb (getD (s .domainPool .gens) (h .slot) 0) (h .generation)) l))
@@ -126,7 +126,7 @@ queue-kept-ring s t c r = record {
   queue = record {
     readPlace = omega (arith, r .queue .readPlace, ap (λ (q : Queue). q .readPlace) (c .queue), ap (λ (z : Sizes). z .updates) (c .sizes));
     fits = omega (arith, r .queue .fits, ap (λ (q : Queue). length (q .items)) (c .queue), ap (λ (z : Sizes). z .updates) (c .sizes));
-    live = subst (λ (q : Queue). Each (QueuedLive (t .domainPool) (t .domains)) (q .items)) (sym (c .queue)) (each-weaken _ _ (s .queue .items) (live-kept s t c) (r .queue .live));
+    handlesFit = subst (λ (q : Queue). Each (QueuedFit (t .domainPool) (t .domains)) (q .items)) (sym (c .queue)) (each-weaken _ _ (s .queue .items) (live-kept s t c) (r .queue .handlesFit));
     singly = subst (λ (q : Queue). Singly (q .items)) (sym (c .queue)) (r .queue .singly);
     queuedWords = subst (λ (q : Queue). Each UpdateWords (q .items)) (sym (c .queue)) (r .queue .queuedWords);
   };
