@@ -150,7 +150,7 @@ module _ (v : Tables) (s : Shaped v) where
       sound = record {
         readPlace = hr;
         fits = omega (arith, map-up-length item m, some-places);
-        live = each-up (QueuedFit (poolFrom D (v .domainPool)) (domainsFrom v)) item 0 m (λ j a b. queued-fits j (omega arith) .1);
+        handlesFit = each-up (QueuedFit (poolFrom D (v .domainPool)) (domainsFrom v)) item 0 m (λ j a b. queued-fits j (omega arith) .1);
         singly = apart-singly item 0 m (λ i j a b d h c x. apart i j b (omega arith) h c x);
         queuedWords = each-up UpdateWords item 0 m (λ j a b. words-at j (omega (arith, some-places)));
       }
@@ -181,7 +181,7 @@ module _ (v : Tables) (s : Shaped v) where
           let u = place v (spot j) in
           let x = placeMark v (spot j) in
           elim (cmp j m) [
-            | lt o ↦ rw (lt-ltb j m o) (both-i (wellFormedB u) (liveIn v u) (is-well-formed u x (queued j o)) (is-live u x (up-each (QueuedFit (poolFrom D (v .domainPool)) (domainsFrom v)) item 0 m (q .live) j (omega arith) (omega arith))))
+            | lt o ↦ rw (lt-ltb j m o) (both-i (wellFormedB u) (liveIn v u) (is-well-formed u x (queued j o)) (is-live u x (up-each (QueuedFit (poolFrom D (v .domainPool)) (domainsFrom v)) item 0 m (q .handlesFit) j (omega arith) (omega arith))))
             | ge o ↦ rw (le-ltb j m o) (ap clearB (unqueued j b o .0))
           ]
 

@@ -90,7 +90,7 @@ root-within h a s =
     room-within (tt, tt, tt) d a s andThen (λ t.
     new-within tt d _ a t andThen (λ x.
     insert-within tt d _ _ andThen (λ y.
-    late (tt, tt, tt) (activate-stops d a _) andThen (λ u. gives tt)))))
+    late (tt, tt, tt) (activate-stops [] d a _) andThen (λ u. gives tt)))))
 
 revoke-within : (h : Handle) (l : ℕ) (s : State) → Within (Of (Do (Revoke h l))) (revoke h l s)
 unfolding revoke

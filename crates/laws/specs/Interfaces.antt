@@ -5,6 +5,7 @@ use Prim.Native.Nat.{ℕ, zero, suc}
 use mathlib.Core.Option.{Option, none, some}
 use mathlib.Core.List.{List, [], _∷_}
 use native.Mathlib.Decide.{ℕ-discrete}
+use mathlib.Core.Bool.{_||_}
 use lib.Dec.{eqb}
 use lib.ListN.{set}
 use lib.Seq.{getD-set-same, getD-set-other}
@@ -89,17 +90,17 @@ module _ (s₀ : State) where
   unfolding pushPermission
   permission-kept d m s h = branch (exists (isPermissionOf (handleOf (s .domainPool) d)) (s .queue .items)) (accepted h) (push-kept _ s h)
 
-  walk-kept : (d : ℕ) (w : Walk) (s : State) → Keeps s₀ s → All (Keeps s₀) (putWalk d w s)
+  walk-kept : (closing : List ℕ) → (d : ℕ) (w : Walk) (s : State) → Keeps s₀ s → All (Keeps s₀) (putWalk closing d w s)
   unfolding putWalk
-  walk-kept d w s h = let k = put-kept d _ s refl h in branch (eqb (w .marks) 0) (accepted k) (permission-kept d _ _ k)
+  walk-kept closing d w s h = let k = put-kept d _ s refl h in branch (exists (eqb d) closing || eqb (w .marks) 0) (accepted k) (permission-kept d _ _ k)
 
-  activate-kept : (d : ℕ) (a : Access) (s : State) → Keeps s₀ s → All (Keeps s₀) (activate d a s)
+  activate-kept : (closing : List ℕ) → (d : ℕ) (a : Access) (s : State) → Keeps s₀ s → All (Keeps s₀) (activate closing d a s)
   unfolding activate
-  activate-kept d a s h = bind-any _ (λ w. walk-kept d w s h)
+  activate-kept closing d a s h = bind-any _ (λ w. walk-kept closing d w s h)
 
-  deactivate-kept : (d : ℕ) (a : Access) (s : State) → Keeps s₀ s → All (Keeps s₀) (deactivate d a s)
+  deactivate-kept : (closing : List ℕ) → (d : ℕ) (a : Access) (s : State) → Keeps s₀ s → All (Keeps s₀) (deactivate closing d a s)
   unfolding deactivate
-  deactivate-kept d a s h = bind-any _ (λ w. walk-kept d w s h)
+  deactivate-kept closing d a s h = bind-any _ (λ w. walk-kept closing d w s h)
 
   -- ---- regions
 
@@ -114,7 +115,7 @@ module _ (s₀ : State) where
   ranges-kept : (old new r : ℕ) (xs : List Range) (s : State) → Keeps s₀ s → All (Keeps s₀) (sendRanges old new r xs s)
   unfolding sendRanges
   ranges-kept old new r [] s h = accepted h
-  ranges-kept old new r (x ∷ xs) s h = bind (deactivate-kept old _ s h) (λ s₁ k. bind (activate-kept new _ s₁ k) (λ s₂ l. ranges-kept old new r xs s₂ l))
+  ranges-kept old new r (x ∷ xs) s h = bind (deactivate-kept [] old _ s h) (λ s₁ k. bind (activate-kept [] new _ s₁ k) (λ s₂ l. ranges-kept old new r xs s₂ l))
 
   send-region-kept : (i new : ℕ) (s : State) → Keeps s₀ s → All (Keeps s₀) (sendRegion i new s)
   unfolding sendRegion
@@ -128,11 +129,11 @@ module _ (s₀ : State) where
       go none = h
       go (some f) = h
 
-  give-back-kept : (g : Region) (k : Kind) (s : State) → g .kind ≡ k → Keeps s₀ s → All (Keeps s₀) (giveBack g s)
+  give-back-kept : (closing : List ℕ) → (g : Region) (k : Kind) (s : State) → g .kind ≡ k → Keeps s₀ s → All (Keeps s₀) (giveBack closing g s)
   unfolding giveBack
-  give-back-kept g Root s e h = rw (e, giveBack) (accepted h)
-  give-back-kept g (Alias p) s e h = rw (e, giveBack) (accepted h)
-  give-back-kept g (Carve p) s e h = rw (e, giveBack) (activate-kept _ _ s h)
+  give-back-kept closing g Root s e h = rw (e, giveBack) (accepted h)
+  give-back-kept closing g (Alias p) s e h = rw (e, giveBack) (accepted h)
+  give-back-kept closing g (Carve p) s e h = rw (e, giveBack) (activate-kept closing _ _ s h)
 
   leave-kept : (i : ℕ) (k : Kind) (s : State) → regionAt s i .kind ≡ k → Keeps s₀ s → Keeps s₀ (leaveParent i s)
   unfolding leaveParent removeChild
@@ -140,20 +141,20 @@ module _ (s₀ : State) where
   leave-kept i (Alias p) s e h = rw (e, leaveParent) h
   leave-kept i (Carve p) s e h = rw (e, leaveParent) h
 
-  leaf-kept : (i : ℕ) (s : State) → Keeps s₀ s → All (Keeps s₀) (revokeLeaf i s)
+  leaf-kept : (closing : List ℕ) → (i : ℕ) (s : State) → Keeps s₀ s → All (Keeps s₀) (revokeLeaf closing i s)
   unfolding revokeLeaf
-  leaf-kept i s h =
-      bind (deactivate-kept _ _ _ (leave-kept i _ s refl h)) (λ s₁ j.
-      bind (give-back-kept (regionAt s i) _ s₁ refl j) (λ s₂ k.
+  leaf-kept closing i s h =
+      bind (deactivate-kept closing _ _ _ (leave-kept i _ s refl h)) (λ s₁ j.
+      bind (give-back-kept closing (regionAt s i) _ s₁ refl j) (λ s₂ k.
       bind (free-region-kept i s₂ k) (λ s₃ l. branch (has (regionAt s i .rights) CLEANUP) (push-kept _ s₃ l) (accepted l))))
 
-  revoke-region-kept : (n i : ℕ) (s : State) → Keeps s₀ s → All (Keeps s₀) (revokeRegion n i s)
+  revoke-region-kept : (closing : List ℕ) → (n i : ℕ) (s : State) → Keeps s₀ s → All (Keeps s₀) (revokeRegion closing n i s)
   unfolding revokeRegion
-  revoke-region-kept zero i s h = accepted h
-  revoke-region-kept (suc n) i s h = go (regionAt s i .children) refl (λ j t k. revoke-region-kept n j t k)
+  revoke-region-kept closing zero i s h = accepted h
+  revoke-region-kept closing (suc n) i s h = go (regionAt s i .children) refl (λ j t k. revoke-region-kept closing n j t k)
     where
-      go : (cs : List ℕ) → regionAt s i .children ≡ cs → ((j : ℕ) (t : State) → Keeps s₀ t → All (Keeps s₀) (revokeRegion n j t)) → All (Keeps s₀) (revokeRegion (suc n) i s)
-      go [] e ih = rw (e, revokeRegion) (leaf-kept i s h)
+      go : (cs : List ℕ) → regionAt s i .children ≡ cs → ((j : ℕ) (t : State) → Keeps s₀ t → All (Keeps s₀) (revokeRegion closing n j t)) → All (Keeps s₀) (revokeRegion closing (suc n) i s)
+      go [] e ih = rw (e, revokeRegion) (leaf-kept closing i s h)
       go (c ∷ cs) e ih = rw (e, revokeRegion) (bind (ih c s h) (λ s₁ k. ih i s₁ k))
 
   room-kept : (d : ℕ) (a : Access) (s : State) → Keeps s₀ s → All (Keeps s₀) (roomForRegion d a s)
@@ -181,7 +182,7 @@ module _ (s₀ : State) where
       bind (room-kept d a s q) (λ s₁ i.
       bind (new-region-kept d Root a s₁ i) (λ x j.
       bind (insert-kept d _ (x .1) j) (λ y k.
-      bind (activate-kept d a (y .1) k) (λ s₄ l. accepted l)))))
+      bind (activate-kept [] d a (y .1) k) (λ s₄ l. accepted l)))))
 
   alias-kept : (h : Handle) (l : ℕ) (a : Access) (s : State) → Keeps s₀ s → All (Keeps₁ s₀) (aliasRegion h l a s)
   unfolding aliasRegion
@@ -190,11 +191,11 @@ module _ (s₀ : State) where
       bind-any _ (λ p.
       bind (room-kept d a s q) (λ s₁ i.
       and-then _ (bind (child-kept d p (Alias p) a s₁ i) (λ x j.
-      bind (activate-kept d a (x .1) j) (λ s₃ k. accepted k))))))
+      bind (activate-kept [] d a (x .1) j) (λ s₃ k. accepted k))))))
 
   exchange-kept : (d old : ℕ) (a : Access) (s : State) → Keeps s₀ s → All (Keeps s₀) (exchangeRights d old a s)
   unfolding exchangeRights
-  exchange-kept d old a s q = branch (eqb old (a .rights)) (accepted q) (bind (deactivate-kept d _ s q) (λ s₁ k. activate-kept d a s₁ k))
+  exchange-kept d old a s q = branch (eqb old (a .rights)) (accepted q) (bind (deactivate-kept [] d _ s q) (λ s₁ k. activate-kept [] d a s₁ k))
 
   carve-kept : (h : Handle) (l : ℕ) (a : Access) (s : State) → Keeps s₀ s → All (Keeps₁ s₀) (carveRegion h l a s)
   unfolding carveRegion
@@ -226,7 +227,7 @@ module _ (s₀ : State) where
 
   unless-root-kept : (i : ℕ) (s : State) → Keeps s₀ s → All (Keeps s₀) (revokeUnlessRoot i s)
   unfolding revokeUnlessRoot
-  unless-root-kept i s q = and-then _ (revoke-region-kept _ i s q)
+  unless-root-kept i s q = and-then _ (revoke-region-kept [] _ i s q)
 
   revoke-capa-kept : (c : Capa) (s : State) → Keeps s₀ s → All (Keeps s₀) (revokeCapa c s)
   unfolding revokeCapa

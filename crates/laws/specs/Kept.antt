@@ -3,6 +3,7 @@ use mathlib.Core.Path.{_≡_, refl, _∙_}
 use Prim.Native.Nat.{ℕ, zero, suc}
 use mathlib.Core.Option.{Option, none, some}
 use mathlib.Core.List.{List, [], _∷_}
+use mathlib.Core.Bool.{_||_}
 use lib.Dec.{eqb}
 use lib.ListN.{length, length-set}
 use Rattle.model.specs.Lists.{exists}
@@ -100,20 +101,20 @@ permission-kept : (d m : ℕ) (s : State) → All (Kept s) (pushPermission d m s
 unfolding pushPermission
 permission-kept d m s = branch (exists (isPermissionOf (handleOf (s .domainPool) d)) (s .queue .items)) (accepted (queue-kept _ s)) (push-kept _ s)
 
-walk-kept : (d : ℕ) (w : Walk) (s : State) → PoolOf (s .recordPool) w → All (Kept s) (putWalk d w s)
+walk-kept : (closing : List ℕ) → (d : ℕ) (w : Walk) (s : State) → PoolOf (s .recordPool) w → All (Kept s) (putWalk closing d w s)
 unfolding putWalk
-walk-kept d w s h =
+walk-kept closing d w s h =
     let s₁ = withRecordPool (w .pool) (putDomain d (withTracker (w .records) (domainAt s d)) s) in
     let k : Kept s s₁ = record { sizes = refl; domains = length-set (s .domains) d _; regions = refl; domainGens = refl; regionGens = refl; recordGens = h } in
-    branch (eqb (w .marks) 0) (accepted k) (weaken (permission-kept d _ s₁) (λ t j. trans s s₁ t j k))
+    branch (exists (eqb d) closing || eqb (w .marks) 0) (accepted k) (weaken (permission-kept d _ s₁) (λ t j. trans s s₁ t j k))
 
-pub activate-kept : (d : ℕ) (a : Access) (s : State) → All (Kept s) (activate d a s)
+pub activate-kept : (closing : List ℕ) → (d : ℕ) (a : Access) (s : State) → All (Kept s) (activate closing d a s)
 unfolding activate
-activate-kept d a s = bind (gain-same _ _ _ _ (s .recordPool)) (λ w h. walk-kept d w s h)
+activate-kept closing d a s = bind (gain-same _ _ _ _ (s .recordPool)) (λ w h. walk-kept closing d w s h)
 
-pub deactivate-kept : (d : ℕ) (a : Access) (s : State) → All (Kept s) (deactivate d a s)
+pub deactivate-kept : (closing : List ℕ) → (d : ℕ) (a : Access) (s : State) → All (Kept s) (deactivate closing d a s)
 unfolding deactivate
-deactivate-kept d a s = bind (lose-same _ _ _ _ (s .recordPool)) (λ w h. walk-kept d w s h)
+deactivate-kept closing d a s = bind (lose-same _ _ _ _ (s .recordPool)) (λ w h. walk-kept closing d w s h)
 
 -- first one step, then another
 pub and-so : {s t : State} {m : Outcome State} → Kept s t → All (Kept t) m → All (Kept s) m
@@ -133,7 +134,7 @@ free-region-kept i s = bind (free-same i (s .regionPool)) (λ p h. accepted (rec
 ranges-kept : (old new r : ℕ) (xs : List Range) (s : State) → All (Kept s) (sendRanges old new r xs s)
 unfolding sendRanges
 ranges-kept old new r [] s = accepted (same s)
-ranges-kept old new r (x ∷ xs) s = bind (deactivate-kept old _ s) (λ s₁ j. bind (activate-kept new _ s₁) (λ s₂ k. and-so (trans s s₁ s₂ k j) (ranges-kept old new r xs s₂)))
+ranges-kept old new r (x ∷ xs) s = bind (deactivate-kept [] old _ s) (λ s₁ j. bind (activate-kept [] new _ s₁) (λ s₂ k. and-so (trans s s₁ s₂ k j) (ranges-kept old new r xs s₂)))
 
 pub send-region-kept : (i new : ℕ) (s : State) → All (Kept s) (sendRegion i new s)
 unfolding sendRegion
@@ -147,11 +148,11 @@ options-kept i o s = go (o .flags)
     go none = same s
     go (some f) = put-region i _ s
 
-give-back-kept : (g : Region) (k : Kind) (s : State) → g .kind ≡ k → All (Kept s) (giveBack g s)
+give-back-kept : (closing : List ℕ) → (g : Region) (k : Kind) (s : State) → g .kind ≡ k → All (Kept s) (giveBack closing g s)
 unfolding giveBack
-give-back-kept g Root s e = rw (e, giveBack) (accepted (same s))
-give-back-kept g (Alias p) s e = rw (e, giveBack) (accepted (same s))
-give-back-kept g (Carve p) s e = rw (e, giveBack) (activate-kept _ _ s)
+give-back-kept closing g Root s e = rw (e, giveBack) (accepted (same s))
+give-back-kept closing g (Alias p) s e = rw (e, giveBack) (accepted (same s))
+give-back-kept closing g (Carve p) s e = rw (e, giveBack) (activate-kept closing _ _ s)
 
 leave-kept : (i : ℕ) (k : Kind) (s : State) → regionAt s i .kind ≡ k → Kept s (leaveParent i s)
 unfolding leaveParent removeChild
@@ -159,19 +160,19 @@ leave-kept i Root s e = rw (e, leaveParent) (same s)
 leave-kept i (Alias p) s e = rw (e, leaveParent) (put-region p _ s)
 leave-kept i (Carve p) s e = rw (e, leaveParent) (put-region p _ s)
 
-leaf-kept : (i : ℕ) (s : State) → All (Kept s) (revokeLeaf i s)
+leaf-kept : (closing : List ℕ) → (i : ℕ) (s : State) → All (Kept s) (revokeLeaf closing i s)
 unfolding revokeLeaf
-leaf-kept i s =
-    bind (and-so (leave-kept i _ s refl) (deactivate-kept _ _ _)) (λ s₁ j.
-    bind (give-back-kept (regionAt s i) _ s₁ refl) (λ s₂ k.
+leaf-kept closing i s =
+    bind (and-so (leave-kept i _ s refl) (deactivate-kept closing _ _ _)) (λ s₁ j.
+    bind (give-back-kept closing (regionAt s i) _ s₁ refl) (λ s₂ k.
     bind (free-region-kept i s₂) (λ s₃ l.
     let u = trans s s₂ s₃ l (trans s s₁ s₂ k j) in branch (has (regionAt s i .rights) CLEANUP) (and-so u (push-kept _ s₃)) (accepted u))))
 
-pub revoke-region-kept : (n i : ℕ) (s : State) → All (Kept s) (revokeRegion n i s)
+pub revoke-region-kept : (closing : List ℕ) → (n i : ℕ) (s : State) → All (Kept s) (revokeRegion closing n i s)
 unfolding revokeRegion
-revoke-region-kept zero i s = accepted (same s)
-revoke-region-kept (suc n) i s = go (regionAt s i .children) refl (λ j t. revoke-region-kept n j t)
+revoke-region-kept closing zero i s = accepted (same s)
+revoke-region-kept closing (suc n) i s = go (regionAt s i .children) refl (λ j t. revoke-region-kept closing n j t)
   where
-    go : (cs : List ℕ) → regionAt s i .children ≡ cs → ((j : ℕ) (t : State) → All (Kept t) (revokeRegion n j t)) → All (Kept s) (revokeRegion (suc n) i s)
-    go [] e ih = rw (e, revokeRegion) (leaf-kept i s)
+    go : (cs : List ℕ) → regionAt s i .children ≡ cs → ((j : ℕ) (t : State) → All (Kept t) (revokeRegion closing n j t)) → All (Kept s) (revokeRegion closing (suc n) i s)
+    go [] e ih = rw (e, revokeRegion) (leaf-kept closing i s)
     go (c ∷ cs) e ih = rw (e, revokeRegion) (bind (ih c s) (λ s₁ k. and-so k (ih i s₁)))

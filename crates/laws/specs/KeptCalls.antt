@@ -57,7 +57,7 @@ root-kept h a s =
     bind (room-kept d a s) (λ s₁ i.
     bind (and-so₁ i (new-region-kept d Root a s₁)) (λ x j.
     bind (and-so₁ j (insert-kept d _ (x .1))) (λ y k.
-    bind (and-so k (activate-kept d a (y .1))) (λ s₄ l. accepted l)))))
+    bind (and-so k (activate-kept [] d a (y .1))) (λ s₄ l. accepted l)))))
 
 child-kept : (d p : ℕ) (k : Kind) (a : Access) (s : State) → All (Kept₁ s) (addChild d p k a s)
 unfolding addChild insertChild
@@ -70,11 +70,11 @@ alias-kept h l a s =
     bind-any _ (λ p.
     bind (room-kept d a s) (λ s₁ i.
     and-then _ (bind (and-so₁ i (child-kept d p (Alias p) a s₁)) (λ x j.
-    bind (and-so j (activate-kept d a (x .1))) (λ s₃ k. accepted k))))))
+    bind (and-so j (activate-kept [] d a (x .1))) (λ s₃ k. accepted k))))))
 
 exchange-kept : (d old : ℕ) (a : Access) (s : State) → All (Kept s) (exchangeRights d old a s)
 unfolding exchangeRights
-exchange-kept d old a s = branch (eqb old (a .rights)) (accepted (same s)) (bind (deactivate-kept d _ s) (λ s₁ k. and-so k (activate-kept d a s₁)))
+exchange-kept d old a s = branch (eqb old (a .rights)) (accepted (same s)) (bind (deactivate-kept [] d _ s) (λ s₁ k. and-so k (activate-kept [] d a s₁)))
 
 carve-kept : (h : Handle) (l : ℕ) (a : Access) (s : State) → All (Kept₁ s) (carveRegion h l a s)
 unfolding carveRegion
@@ -107,7 +107,7 @@ send-kept h l t o s =
 
 unless-root-kept : (i : ℕ) (s : State) → All (Kept s) (revokeUnlessRoot i s)
 unfolding revokeUnlessRoot
-unless-root-kept i s = and-then _ (revoke-region-kept _ i s)
+unless-root-kept i s = and-then _ (revoke-region-kept [] _ i s)
 
 revoke-capa-kept : (c : Capa) (s : State) → All (Kept s) (revokeCapa c s)
 unfolding revokeCapa

@@ -125,7 +125,7 @@ module _ {R : Refusal → Type 0} where
 
   pub unless-root : R isRoot → R noTracker × R spent × R ringFull → (n : ℕ) (s : State) → Within R (revokeUnlessRoot n s)
   unfolding revokeUnlessRoot
-  unless-root i j n s = gives-checked _ _ i (λ t. late j (revoke-stops _ n s))
+  unless-root i j n s = gives-checked _ _ i (λ t. late j (revoke-stops [] _ n s))
 
   pub revoked-within : R notCarried × R stale × R isRoot → R noTracker × R spent × R ringFull → (c : Capa) (s : State) → Within R (revokeCapa c s)
   unfolding revokeCapa
@@ -145,7 +145,7 @@ module _ {R : Refusal → Type 0} where
       room-within j d a s andThen (λ t.
       gives-checked _ _ b (λ f.
       child-within (j .0, j .1) d p _ a t andThen (λ x.
-      late e (activate-stops d a _) andThen (λ u. gives tt))))))
+      late e (activate-stops [] d a _) andThen (λ u. gives tt))))))
 
   pub carve-within : R noSlot × R wrongKind × R stale → R noRegion × R noLocal × R badRange → R beyond → R noTracker × R spent × R ringFull → (h : Handle) (l : ℕ) (a : Access) (s : State) → Within R (callerWith CARVE s h) → Within R (carveRegion h l a s)
   unfolding carveRegion

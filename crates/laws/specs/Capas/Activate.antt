@@ -1,5 +1,6 @@
 -- A domain gains, or loses, a range: the clauses about lists, owners, managers and the queue stay, and the domain is live.
 use Prim.Native.Nat.{ℕ}
+use mathlib.Core.List.{List}
 use lib.Dec.{T}
 use Rattle.model.specs.Lists.{isSome, atSlot}
 use Rattle.model.specs.State.{Access, State}
@@ -17,8 +18,8 @@ CapasLive d s = CapasSound s × T (isSome (atSlot (s .domains) d))
 walked-capas : (d : ℕ) (s t : State) → T (isSome (atSlot (s .domains) d)) → Walked (ownedBy s) (managedBy s) s t → CapasLive d t
 walked-capas d s t l w = (same-held-capas s t (w .sameLists .back) (w .regions) (w .held), same-lists-live s t (w .sameLists) d l)
 
-pub activate-capas : (d : ℕ) (a : Access) (s : State) → CapasLive d s → All (CapasLive d) (activate d a s)
-activate-capas d a s (h, l) = let (x, e) = live-is (atSlot (s .domains) d) l in weaken (activate-held (ownedBy s) (managedBy s) s h d x e a) (λ t w. walked-capas d s t l w)
+pub activate-capas : (closing : List ℕ) → (d : ℕ) (a : Access) (s : State) → CapasLive d s → All (CapasLive d) (activate closing d a s)
+activate-capas closing d a s (h, l) = let (x, e) = live-is (atSlot (s .domains) d) l in weaken (activate-held closing (ownedBy s) (managedBy s) s h d x e a) (λ t w. walked-capas d s t l w)
 
-pub deactivate-capas : (d : ℕ) (a : Access) (s : State) → CapasLive d s → All (CapasLive d) (deactivate d a s)
-deactivate-capas d a s (h, l) = let (x, e) = live-is (atSlot (s .domains) d) l in weaken (deactivate-held (ownedBy s) (managedBy s) s h d x e a) (λ t w. walked-capas d s t l w)
+pub deactivate-capas : (closing : List ℕ) → (d : ℕ) (a : Access) (s : State) → CapasLive d s → All (CapasLive d) (deactivate closing d a s)
+deactivate-capas closing d a s (h, l) = let (x, e) = live-is (atSlot (s .domains) d) l in weaken (deactivate-held closing (ownedBy s) (managedBy s) s h d x e a) (λ t w. walked-capas d s t l w)

@@ -145,5 +145,5 @@ module _ (s : State) (d : ℕ) (x y : Domain) (e : In (s .domains) d x) (m : y .
         | this o q ↦ subst (λ (w : Domain). Word (w .interface .word)) q interface
         | that o w ↦ h .interfaceWords k z w
       ];
-      queue = queue-onward (s .sizes .updates) (s .domainPool) (s .domainPool) (s .domains) ds′ live-on (s .queue) (h .queue);
+      queue = queue-onward (s .sizes .updates) (s .domainPool) (s .domainPool) (s .domains) ds′ (fits-onward (s .domainPool) (s .domainPool) (s .domains) ds′ (λ n t. live-fits (s .domainPool) ds′ n (live-on n t)) (λ i. le-refl _)) (s .queue) (h .queue);
     }

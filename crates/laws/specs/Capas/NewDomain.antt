@@ -157,5 +157,5 @@ module _ (own man : Shares) (s : State) (h : Held own man s) (i : ℕ) (is : Lis
         | this o q ↦ subst (λ (w : Domain). Word (w .interface .word)) q (lit< tt)
         | that o w ↦ h .interfaceWords k z w
       ];
-      queue = queue-onward (s .sizes .updates) (s .domainPool) dp′ (s .domains) ds′ open-live (s .queue) (h .queue);
+      queue = queue-onward (s .sizes .updates) (s .domainPool) dp′ (s .domains) ds′ (fits-onward (s .domainPool) dp′ (s .domains) ds′ (λ n t. live-fits dp′ ds′ n (open-live n t)) (λ i. le-refl _)) (s .queue) (h .queue);
     }

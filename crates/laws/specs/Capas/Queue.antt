@@ -16,7 +16,7 @@ use Rattle.model.specs.Updates.{isPermissionOf, push, pushPermission}
 use Rattle.model.specs.Sound.{QueuedFit, Singly, UpdateWords, QueueSound}
 use Rattle.laws.specs.Accepted.{All, accepted, checked, branch-on}
 use Rattle.laws.specs.Tree.Slots.{in-length}
-use Rattle.laws.specs.Capas.Live.{handle-same, handle-live}
+use Rattle.laws.specs.Capas.Live.{handle-same, handle-live, live-fits}
 use Rattle.laws.specs.Capas.Held.{Shares, Held}
 use Rattle.laws.specs.Lists.{word-at, count-end, each-end}
 use Rattle.laws.specs.Tree.Steps.{domain-at}
@@ -86,5 +86,5 @@ module _ (own man : Shares) (s : State) (h : Held own man s) where
   permission-held d m x e marks = branch-on (exists (isPermissionOf (handleOf (s .domainPool) d)) (s .queue .items)) (λ t. accepted (with-queue _ (gather-queue (handleOf (s .domainPool) d) m marks (s .sizes .updates) (s .domainPool) (s .domains) (s .queue) (h .queue)), (_, refl))) (λ t.
       let small = leb→le (s .sizes .domains) 32 (search (and-l, and-r)) in
       let low : d < 32 = omega (arith, h .domainsLength, in-length (s .domains) d x e) in
-      push-held (permission (handleOf (s .domainPool) d) (domainAt s d .cores) m) (handle-live (s .domainPool) (s .domains) d x e) (apart-new (handleOf (s .domainPool) d) (domainAt s d .cores) m (s .queue .items) t)
+      push-held (permission (handleOf (s .domainPool) d) (domainAt s d .cores) m) (live-fits (s .domainPool) (s .domains) (handleOf (s .domainPool) d) (handle-live (s .domainPool) (s .domains) d x e)) (apart-new (handleOf (s .domainPool) d) (domainAt s d .cores) m (s .queue .items) t)
       (omega arith, word-at (s .domainPool .gens) d (h .domainPool .gensWords), subst (λ (y : Domain). Word (y .cores)) (sym (domain-at s d x e)) (h .coresWords d x e), marks))

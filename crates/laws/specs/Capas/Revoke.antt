@@ -5,6 +5,7 @@ use Prim.Native.Nat.{ℕ}
 use mathlib.Core.Bool.{not}
 use mathlib.Core.Option.{none, Option·getD}
 use native.Mathlib.Omega.{arith}
+use mathlib.Core.List.{[]}
 use lib.Dec.{T, eqb}
 use lib.Ieee.Fits.{and-l}
 use Rattle.model.specs.Lists.{oneIf, isSome, atSlot, In}
@@ -48,7 +49,7 @@ module _ (s : State) (h : CapasSound s) (ok : Regions (s .regions)) where
   unfolding revokeUnlessRoot
   revoked i g e = checked (not (isRootKind (regionAt s i .kind))) _ (λ t.
       let (p, n) = not-root (g .kind) (subst (λ (v : Region). T (not (isRootKind (v .kind)))) (region-at s i g e) t) in
-      weaken (revoke-all (HeldSameLists (ownedBy s) (managedBy s) s) (leaf-held (ownedBy s) (managedBy s) s) s i p g (h, same-lists-same s s refl refl) ok e n) (λ u ((a, b), v). record {
+      weaken (revoke-all [] (HeldSameLists (ownedBy s) (managedBy s) s) (leaf-held (ownedBy s) (managedBy s) [] s) s i p g (h, same-lists-same s s refl refl) ok e n) (λ u ((a, b), v). record {
         rest = record {
           held = a;
           sameLists = b;

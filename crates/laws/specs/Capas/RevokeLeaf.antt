@@ -3,6 +3,7 @@
 use mathlib.Core.Path.{_≡_, refl, sym, ap, subst, _∙_}
 use Prim.Native.Nat.{ℕ}
 use mathlib.Core.Option.{none, some}
+use mathlib.Core.List.{List}
 use lib.Dec.{T}
 use Rattle.base.specs.Options.{none-some, some-same}
 use Rattle.rights.specs.Rights.{has, CLEANUP}
@@ -45,14 +46,14 @@ module _ (own man : Shares) where
   walked-left : (s t u : State) → Left s t → Walked own man t u → Left s u
   walked-left s t u a w = record { held = w .held; sameLists = same-lists-then s t u (a .sameLists) (w .sameLists); live = λ j l. subst (λ rs. T (isSome (atSlot rs j))) (sym (w .regions)) (a .live j l) }
 
-  give-kind : (g : Region) (k : Kind) (p : ℕ) (s : State) → Held own man s → parentOf k ≡ some p → T (isSome (atSlot (s .regions) p)) → All (Walked own man s) (giveBack (record { owner = g .owner; kind = k; start = g .start; end = g .end; rights = g .rights; children = g .children; hash = g .hash }) s)
+  give-kind : (closing : List ℕ) → (g : Region) (k : Kind) (p : ℕ) (s : State) → Held own man s → parentOf k ≡ some p → T (isSome (atSlot (s .regions) p)) → All (Walked own man s) (giveBack closing (record { owner = g .owner; kind = k; start = g .start; end = g .end; rights = g .rights; children = g .children; hash = g .hash }) s)
   unfolding giveBack
-  give-kind g Root p s h n l = accepted (walked-self own man s h)
-  give-kind g (Alias q) p s h n l = accepted (walked-self own man s h)
-  give-kind g (Carve q) p s h n l =
+  give-kind closing g Root p s h n l = accepted (walked-self own man s h)
+  give-kind closing g (Alias q) p s h n l = accepted (walked-self own man s h)
+  give-kind closing g (Carve q) p s h n l =
       let (r, e) = live-is (atSlot (s .regions) q) (subst (λ m. T (isSome (atSlot (s .regions) m))) (sym (some-same (some q) q p refl n)) l) in
       let (x, f) = live-is (atSlot (s .domains) (regionAt s q .owner)) (subst (λ (v : Region). T (isSome (atSlot (s .domains) (v .owner)))) (sym (region-at s q r e)) (h .ownerLive q r e)) in
-      activate-held own man s h (regionAt s q .owner) x f _
+      activate-held closing own man s h (regionAt s q .owner) x f _
 
   free-steady : (i : ℕ) (s : State) → All (SameLists s) (freeRegion i s)
   unfolding freeRegion
@@ -62,17 +63,17 @@ module _ (own man : Shares) where
   abbrev pub HeldSameLists : State → State → Type 0
   HeldSameLists s₀ t = Held own man t × SameLists s₀ t
 
-  pub leaf-held : (s₀ : State) → Leaves (HeldSameLists s₀)
+  pub leaf-held : (closing : List ℕ) (s₀ : State) → Leaves closing (HeldSameLists s₀)
   unfolding Leaves revokeLeaf
-  leaf-held s₀ s i p g h (k, y) ok e empty n at =
+  leaf-held closing s₀ s i p g h (k, y) ok e empty n at =
       let g₀ = regionAt s i in
       let same : g₀ ≡ g = region-at s i g e in
       let a : Left s (leaveParent i s) = leave-with (Left s) i p s (g₀ .kind) refl (ap (λ (v : Region). parentOf (v .kind)) same ∙ n) (remove-left s k p i h at) in
       let owner : T (isSome (atSlot (s .domains) (g₀ .owner))) = subst (λ (v : Region). T (isSome (atSlot (s .domains) (v .owner)))) (sym same) (k .ownerLive i g e) in
       let (x, f) = live-is (atSlot (leaveParent i s .domains) (g₀ .owner)) (same-lists-live s (leaveParent i s) (a .sameLists) (g₀ .owner) owner) in
-      bind (deactivate-held own man (leaveParent i s) (a .held) (g₀ .owner) x f (accessOf g₀)) (λ s₁ w₁.
+      bind (deactivate-held closing own man (leaveParent i s) (a .held) (g₀ .owner) x f (accessOf g₀)) (λ s₁ w₁.
       let a₁ = walked-left s (leaveParent i s) s₁ a w₁ in
-      bind (give-kind g₀ (g₀ .kind) p s₁ (a₁ .held) (ap (λ (v : Region). parentOf (v .kind)) same ∙ n) (a₁ .live p (is-live (atSlot (s .regions) p) h at))) (λ s₂ w₂.
+      bind (give-kind closing g₀ (g₀ .kind) p s₁ (a₁ .held) (ap (λ (v : Region). parentOf (v .kind)) same ∙ n) (a₁ .live p (is-live (atSlot (s .regions) p) h at))) (λ s₂ w₂.
       let a₂ = walked-left s s₁ s₂ a₁ w₂ in
       let (r, m) = live-is (atSlot (s₂ .regions) i) (a₂ .live i (is-live (atSlot (s .regions) i) g e)) in
       bind (both (free-held own man s₂ (a₂ .held) i r m) (free-steady i s₂)) (λ s₃ (b, c).

@@ -1,4 +1,5 @@
 -- Root: room is made, the region gets its capability, and the tracker's step leaves the lists alone.
+use mathlib.Core.List.{[]}
 use Rattle.model.specs.State.{Handle, Root, Access, State}
 use Rattle.model.specs.Calls.{createRootRegion}
 use Rattle.laws.specs.Accepted.{All, accepted, bind}
@@ -17,4 +18,4 @@ root-capas h a s c =
     let e₁ = room-in s s₁ d (l .domain) (l .is) r in
     bind (new-region s₁ c₁ d _ e₁ Root a) (λ y b.
     bind (new-sound s₁ c₁ d _ e₁ (y .0) (y .1) b) (λ z k.
-    bind (activate-capas d a (z .1) k) (λ t n. accepted (n .0))))))
+    bind (activate-capas [] d a (z .1) k) (λ t n. accepted (n .0))))))

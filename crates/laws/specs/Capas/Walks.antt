@@ -3,11 +3,12 @@ use mathlib.Core.Path.{_≡_, refl, sym, ap, subst, _∙_}
 use Prim.Native.Nat.{ℕ, _<_}
 use mathlib.Core.Option.{none, some}
 use mathlib.Core.List.{List, [], _∷_}
+use mathlib.Core.Bool.{Bool, _||_}
 use lib.Dec.{T, eqb}
 use lib.Seq.{getD-set-same, getD-set-other}
 use native.Mathlib.Decide.{ℕ-discrete}
 use Rattle.base.specs.Options.{some-same}
-use Rattle.model.specs.Lists.{isSome, atSlot, In, if_then_else_}
+use Rattle.model.specs.Lists.{isSome, exists, atSlot, In, if_then_else_}
 use Rattle.model.specs.Outcome.{ok}
 use Rattle.model.specs.Updates.{pushPermission}
 use Rattle.model.specs.State.{Pool, Record, Domain, State, Access, putDomain, withTracker, withRecordPool}
@@ -93,19 +94,19 @@ module _ (own man : Shares) (s : State) (h : Held own man s) (d : ℕ) (x : Doma
     regionPool = refl;
   }
 
-  walk-go : (m : ℕ) → m < 32 → All (Walked own man s) (if eqb m 0 then ok tracked else pushPermission d m tracked)
-  walk-go m low = branch (eqb m 0) (accepted tracked-walked) (weaken (permission-held own man tracked (tracked-walked .held) d m (withTracker l x) there low) (λ t k. walked-then own man s tracked t tracked-walked (queued-walked own man tracked t k)))
+  walk-go : (still : Bool) (m : ℕ) → m < 32 → All (Walked own man s) (if still then ok tracked else pushPermission d m tracked)
+  walk-go still m low = branch still (accepted tracked-walked) (weaken (permission-held own man tracked (tracked-walked .held) d m (withTracker l x) there low) (λ t k. walked-then own man s tracked t tracked-walked (queued-walked own man tracked t k)))
 
-module _ (own man : Shares) (s : State) (h : Held own man s) (d : ℕ) (x : Domain) (e : In (s .domains) d x) where
-  walk-held : (w : Walk) → w .marks < 32 → All (Walked own man s) (putWalk d w s)
+module _ (closing : List ℕ) (own man : Shares) (s : State) (h : Held own man s) (d : ℕ) (x : Domain) (e : In (s .domains) d x) where
+  walk-held : (w : Walk) → w .marks < 32 → All (Walked own man s) (putWalk closing d w s)
   unfolding putWalk
-  walk-held w low = subst (λ (y : Domain). All (Walked own man s) (let t = withRecordPool (w .pool) (putDomain d (withTracker (w .records) y) s) in if eqb (w .marks) 0 then ok t else pushPermission d (w .marks) t)) (sym (domain-at s d x e)) (walk-go own man s h d x e (w .records) (w .pool) (w .marks) low)
+  walk-held w low = subst (λ (y : Domain). All (Walked own man s) (let t = withRecordPool (w .pool) (putDomain d (withTracker (w .records) y) s) in if exists (eqb d) closing || eqb (w .marks) 0 then ok t else pushPermission d (w .marks) t)) (sym (domain-at s d x e)) (walk-go own man s h d x e (w .records) (w .pool) (exists (eqb d) closing || eqb (w .marks) 0) (w .marks) low)
 
-  pub activate-held : (a : Access) → All (Walked own man s) (activate d a s)
+  pub activate-held : (a : Access) → All (Walked own man s) (activate closing d a s)
   unfolding activate
   activate-held a = bind (gain-small _ _ _ _ _) walk-held
 
-  pub deactivate-held : (a : Access) → All (Walked own man s) (deactivate d a s)
+  pub deactivate-held : (a : Access) → All (Walked own man s) (deactivate closing d a s)
   unfolding deactivate
   deactivate-held a = bind (lose-small _ _ _ _ _) walk-held
 
@@ -116,8 +117,8 @@ unfolding sendRanges
 ranges-held own man old new r [] s h a b = accepted (walked-self own man s h)
 ranges-held own man old new r (x ∷ xs) s h a b =
     let (y, e) = live-is (atSlot (s .domains) old) a in
-    bind (deactivate-held own man s h old y e _) (λ s₁ k.
+    bind (deactivate-held [] own man s h old y e _) (λ s₁ k.
     let (z, f) = live-is (atSlot (s₁ .domains) new) (same-lists-live s s₁ (k .sameLists) new b) in
-    bind (activate-held own man s₁ (k .held) new z f _) (λ s₂ j.
+    bind (activate-held [] own man s₁ (k .held) new z f _) (λ s₂ j.
     let w = walked-then own man s s₁ s₂ k j in
     weaken (ranges-held own man old new r xs s₂ (w .held) (same-lists-live s s₂ (w .sameLists) old a) (same-lists-live s s₂ (w .sameLists) new b)) (λ t n. walked-then own man s s₂ t w n)))

@@ -3,7 +3,7 @@
 use mathlib.Core.Path.{_≡_, sym, ap, subst}
 use Prim.Native.Nat.{ℕ, _+_, _-_, _≤_, _<_}
 use mathlib.Core.Option.{Option}
-use mathlib.Core.List.{List}
+use mathlib.Core.List.{List, []}
 use native.Mathlib.Omega.{arith}
 use lib.Dec.{T, eqb, eqb→eq}
 use Rattle.model.specs.Lists.{In}
@@ -44,8 +44,8 @@ module _ (rs : List (Option Region)) (s : State) (h : TrackersAgreeWith rs s) (d
   abbrev range : ℕ → Field → ℕ → ℕ → ℕ
   range r f k b = grant f d (a .start) (a .end) r k b
 
-  pub activate-agree : ((f : Field) (k b : ℕ) → regionCount f (s .regions) k b ≡ regionCount f rs k b + range (a .rights) f k b) → All (λ t. TrackersAgree t × SameOutside s t) (activate d a s)
-  activate-agree m = weaken (activate-tracked s (countsOver rs) (countsOver (s .regions)) (h .tracked) d x e a z m) (λ t (k, b). (same-outside-agree s t b (h .regions) (h .owners) k, b))
+  pub activate-agree : ((f : Field) (k b : ℕ) → regionCount f (s .regions) k b ≡ regionCount f rs k b + range (a .rights) f k b) → All (λ t. TrackersAgree t × SameOutside s t) (activate [] d a s)
+  activate-agree m = weaken (activate-tracked [] s (countsOver rs) (countsOver (s .regions)) (h .tracked) d x e a z m) (λ t (k, b). (same-outside-agree s t b (h .regions) (h .owners) k, b))
 
   -- ---- the same range with other rights r is lost, and this one gained
 
@@ -66,11 +66,11 @@ module _ (rs : List (Option Region)) (s : State) (h : TrackersAgreeWith rs s) (d
     equal : T (eqb r (a .rights)) → TrackersAgree s
     equal t = same-outside-agree s s (same-outside-self s) (h .regions) (h .owners) (tracked-same s (countsOver rs) (countsOver (s .regions)) (λ f k b. omega (arith, m f k b, ap (λ (n : ℕ). range n f k b) (eqb→eq r (a .rights) t))) (h .tracked))
 
-    differ : All (λ t. TrackersAgree t × SameOutside s t) (deactivate d old s >>= λ t. activate d a t)
+    differ : All (λ t. TrackersAgree t × SameOutside s t) (deactivate [] d old s >>= λ t. activate [] d a t)
     differ =
-        bind (deactivate-tracked s (countsOver rs) left (h .tracked) d x e old z (λ f k b. omega (arith, counted f k b)) had) (λ t (k, b).
+        bind (deactivate-tracked [] s (countsOver rs) left (h .tracked) d x e old z (λ f k b. omega (arith, counted f k b)) had) (λ t (k, b).
         let y = same-domains-in (b .sameDomains) d x e in
-        weaken (activate-tracked t left (countsOver (s .regions)) k d (y .0) (y .1) a z (λ f j c. omega (arith, m f j c, counted f j c)))
+        weaken (activate-tracked [] t left (countsOver (s .regions)) k d (y .0) (y .1) a z (λ f j c. omega (arith, m f j c, counted f j c)))
         (λ u (j, c). (same-outside-agree s u (same-outside-then b c) (h .regions) (h .owners) j, same-outside-then b c)))
 
     pub exchange-agree : All (λ t. TrackersAgree t × SameOutside s t) (exchangeRights d r a s)

@@ -1,6 +1,7 @@
 -- Alias: the child joins its parent's list, and its domain gains the range once more.
 use mathlib.Core.Path.{_≡_, refl}
 use Prim.Native.Nat.{ℕ, _<_}
+use mathlib.Core.List.{[]}
 use lib.Dec.{T}
 use lib.ListN.{length}
 use Rattle.model.specs.Lists.{isSome, atSlot, In}
@@ -34,4 +35,4 @@ module _ (s : State) (sound : Sound s) (h : Handle) (a : Access) where
       checked (checkAlias t (regionAt t p) a) _ (λ c.
       bind (both (alias-agree t (r .agree) (r .base .regions .size) (r .base .regions .pool) d (r .domain) (r .at) a p (k .parent) (k .at) (r .nonempty) (rw e at c)) (child-base t d (r .base, is-live _ _ (r .at)) p (is-live _ _ (k .at)) (Alias p) a)) (λ (n, t₁) ((b, gains, live), k₁).
       let y = live-is _ live in
-      bind (both (activate-agree (t .regions) t₁ b d (y .0) (y .1) a (r .nonempty) gains) (gained-base t₁ d k₁ a)) (λ t₂ (z, k₂). accepted (z .0, k₂ .0)))))
+      bind (both (activate-agree (t .regions) t₁ b d (y .0) (y .1) a (r .nonempty) gains) (gained-base [] t₁ d k₁ a)) (λ t₂ (z, k₂). accepted (z .0, k₂ .0)))))

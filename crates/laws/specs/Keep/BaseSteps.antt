@@ -4,10 +4,11 @@ use mathlib.Core.Path.{refl}
 use Prim.Native.Nat.{ℕ, _<_}
 use mathlib.Core.Option.{none, some}
 use mathlib.Core.List.{List, [], _∷_}
+use mathlib.Core.Bool.{_||_}
 use lib.Dec.{T, eqb}
 use lib.ListN.{length, length-set}
 use lib.Seq.{getD-set-same}
-use Rattle.model.specs.Lists.{isSome, atSlot, In}
+use Rattle.model.specs.Lists.{isSome, exists, atSlot, In}
 use Rattle.refusals.specs.Refusals.{noRegion}
 use Rattle.model.specs.State.{State, Region, putRegion, Word, Domain, Kind, Access, Capa, LocalList, domainAt, putDomain, withLocals}
 use Rattle.model.specs.Tracker.{Walk}
@@ -37,33 +38,33 @@ Ready d s = Base s × Live s d
 
 -- ---- a tracker is written
 
-module _ (s : State) (d : ℕ) (r : Ready d s) where
-  put-base : (w : Walk) → w .marks < 32 → All (λ t. Base t × SameOutside s t) (putWalk d w s)
+module _ (closing : List ℕ) (s : State) (d : ℕ) (r : Ready d s) where
+  put-base : (w : Walk) → w .marks < 32 → All (λ t. Base t × SameOutside s t) (putWalk closing d w s)
   unfolding putWalk
   put-base w low =
       let (x, e) = live-is (atSlot (s .domains) d) (r .1) in
       let b = put-beside s d x e w in
       let k = same-domains-base s (put s d w) (b (s .queue) .sameDomains) refl (r .0 .regions) (r .0) in
-      weaken (both (branch (eqb (w .marks) 0) (accepted (k .ring)) (permission-ring d (w .marks) _ (put s d w) (getD-set-same (s .domains) d _ none (in-length (s .domains) d x e)) low (k .ring))) (put-queue s d w (SameOutside s) b)) (λ t (z, c). (same-outside-base s t c z (r .0), c))
+      weaken (both (branch (exists (eqb d) closing || eqb (w .marks) 0) (accepted (k .ring)) (permission-ring d (w .marks) _ (put s d w) (getD-set-same (s .domains) d _ none (in-length (s .domains) d x e)) low (k .ring))) (put-queue s d w closing (SameOutside s) b)) (λ t (z, c). (same-outside-base s t c z (r .0), c))
 
-  pub gained-base : (a : Access) → All (λ t. Base t × SameOutside s t) (activate d a s)
+  pub gained-base : (a : Access) → All (λ t. Base t × SameOutside s t) (activate closing d a s)
   unfolding activate
   gained-base a = bind (gain-small _ _ _ _ _) put-base
 
-  pub lost-base : (a : Access) → All (λ t. Base t × SameOutside s t) (deactivate d a s)
+  pub lost-base : (a : Access) → All (λ t. Base t × SameOutside s t) (deactivate closing d a s)
   unfolding deactivate
   lost-base a = bind (lose-small _ _ _ _ _) put-base
 
 pub exchange-base : (s : State) (d : ℕ) → Ready d s → (old : ℕ) (a : Access) → All Base (exchangeRights d old a s)
 unfolding exchangeRights
-exchange-base s d r old a = branch (eqb old (a .rights)) (accepted (r .0)) (bind (lost-base s d r _) (λ t (k, b). weaken (gained-base t d (k, same-domains-live (b .sameDomains) d (r .1)) a) (λ u z. z .0)))
+exchange-base s d r old a = branch (eqb old (a .rights)) (accepted (r .0)) (bind (lost-base [] s d r _) (λ t (k, b). weaken (gained-base [] t d (k, same-domains-live (b .sameDomains) d (r .1)) a) (λ u z. z .0)))
 
 pub ranges-base : (old new r : ℕ) (l : List Range) (s : State) → Base s → Live s old → Live s new → All (λ t. Base t × SameDomains s t) (sendRanges old new r l s)
 unfolding sendRanges
 ranges-base old new r [] s k lo ln = accepted (k, same-domains-self s)
 ranges-base old new r (x ∷ l) s k lo ln =
-    bind (lost-base s old (k, lo) _) (λ s₁ (k₁, b₁).
-    bind (gained-base s₁ new (k₁, same-domains-live (b₁ .sameDomains) new ln) _) (λ s₂ (k₂, b₂).
+    bind (lost-base [] s old (k, lo) _) (λ s₁ (k₁, b₁).
+    bind (gained-base [] s₁ new (k₁, same-domains-live (b₁ .sameDomains) new ln) _) (λ s₂ (k₂, b₂).
     let b = same-domains-then (b₁ .sameDomains) (b₂ .sameDomains) in
     weaken (ranges-base old new r l s₂ k₂ (same-domains-live b old lo) (same-domains-live b new ln)) (λ t (k₃, b₃). (k₃, same-domains-then b b₃))))
 

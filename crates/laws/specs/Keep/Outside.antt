@@ -85,7 +85,7 @@ outside-same s t b h =
 -- What soundness asks of a ring looks at the sizes, the domain pool and which domains are live.
 pub queue-same : (s t : State) → SameDomains s t → (q : Queue) → QueueSound (s .sizes .updates) (s .domainPool) (s .domains) q → QueueSound (t .sizes .updates) (t .domainPool) (t .domains) q
 queue-same s t a q h =
-    let n = queue-onward (s .sizes .updates) (s .domainPool) (s .domainPool) (s .domains) (t .domains) (live-onward (s .domainPool) (s .domains) (t .domains) (same-domains-live a)) q h in
+    let n = queue-onward (s .sizes .updates) (s .domainPool) (s .domainPool) (s .domains) (t .domains) (fits-onward (s .domainPool) (s .domainPool) (s .domains) (t .domains) (λ n u. live-fits (s .domainPool) (t .domains) n (live-onward (s .domainPool) (s .domains) (t .domains) (same-domains-live a) n u)) (λ i. le-refl _)) q h in
     let m = subst (λ p. QueueSound (s .sizes .updates) p (t .domains) q) (sym (a .domainPool)) n in
     subst (λ (z : Sizes). QueueSound (z .updates) (t .domainPool) (t .domains) q) (sym (a .sizes)) m
 

@@ -3,6 +3,7 @@ use mathlib.Core.Path.{_≡_, refl}
 use mathlib.Core.Logic.{_⊎_, inl, inr}
 use Prim.Native.Nat.{ℕ, zero, suc}
 use mathlib.Core.List.{List, [], _∷_}
+use mathlib.Core.Bool.{_||_}
 use lib.Dec.{eqb}
 use Rattle.model.specs.Lists.{exists}
 use Rattle.rights.specs.Rights.{has, CLEANUP}
@@ -48,21 +49,21 @@ permission-stops d m s = gives-branch (exists (isPermissionOf (handleOf (s .doma
 
 -- ---- trackers
 
-put-stops : (d : ℕ) (w : Walk) (s : State) → MayStop (putWalk d w s)
+put-stops : (closing : List ℕ) → (d : ℕ) (w : Walk) (s : State) → MayStop (putWalk closing d w s)
 unfolding putWalk
-put-stops d w s = gives-branch (eqb (w .marks) 0) (gives tt) (permission-stops d _ _)
+put-stops closing d w s = gives-branch (exists (eqb d) closing || eqb (w .marks) 0) (gives tt) (permission-stops d _ _)
 
-pub activate-stops : (d : ℕ) (a : Access) (s : State) → MayStop (activate d a s)
+pub activate-stops : (closing : List ℕ) → (d : ℕ) (a : Access) (s : State) → MayStop (activate closing d a s)
 unfolding activate
-activate-stops d a s = walk-stops _ (gain-refusals _ _ _ _ _) andThen λ w. put-stops d w s
+activate-stops closing d a s = walk-stops _ (gain-refusals _ _ _ _ _) andThen λ w. put-stops closing d w s
 
-pub deactivate-stops : (d : ℕ) (a : Access) (s : State) → MayStop (deactivate d a s)
+pub deactivate-stops : (closing : List ℕ) → (d : ℕ) (a : Access) (s : State) → MayStop (deactivate closing d a s)
 unfolding deactivate
-deactivate-stops d a s = walk-stops _ (lose-refusals _ _ _ _ _) andThen λ w. put-stops d w s
+deactivate-stops closing d a s = walk-stops _ (lose-refusals _ _ _ _ _) andThen λ w. put-stops closing d w s
 
 pub exchange-stops : (d old : ℕ) (a : Access) (s : State) → MayStop (exchangeRights d old a s)
 unfolding exchangeRights
-exchange-stops d old a s = gives-branch (eqb old (a .rights)) (gives tt) (deactivate-stops d _ s andThen λ t. activate-stops d a t)
+exchange-stops d old a s = gives-branch (eqb old (a .rights)) (gives tt) (deactivate-stops [] d _ s andThen λ t. activate-stops [] d a t)
 
 -- ---- regions
 
@@ -70,38 +71,38 @@ free-stops : (i : ℕ) (s : State) → MayStop (freeRegion i s)
 unfolding freeRegion free
 free-stops i s = gives-checked {P = λ a. Unit {0}} _ _ (inr (inl refl)) (λ t. gives tt) andThen λ p. gives tt
 
-give-kind : (g : Region) (k : Kind) (s : State) → MayStop (giveBack (record { owner = g .owner; kind = k; start = g .start; end = g .end; rights = g .rights; children = g .children; hash = g .hash }) s)
+give-kind : (closing : List ℕ) → (g : Region) (k : Kind) (s : State) → MayStop (giveBack closing (record { owner = g .owner; kind = k; start = g .start; end = g .end; rights = g .rights; children = g .children; hash = g .hash }) s)
 unfolding giveBack
-give-kind g Root s = gives tt
-give-kind g (Alias p) s = gives tt
-give-kind g (Carve p) s = activate-stops _ _ s
+give-kind closing g Root s = gives tt
+give-kind closing g (Alias p) s = gives tt
+give-kind closing g (Carve p) s = activate-stops closing _ _ s
 
 ranges-stop : (old new r : ℕ) (l : List Range) (s : State) → MayStop (sendRanges old new r l s)
 unfolding sendRanges
 ranges-stop old new r [] s = gives tt
-ranges-stop old new r (x ∷ l) s = deactivate-stops old _ s andThen (λ t. activate-stops new _ t andThen λ u. ranges-stop old new r l u)
+ranges-stop old new r (x ∷ l) s = deactivate-stops [] old _ s andThen (λ t. activate-stops [] new _ t andThen λ u. ranges-stop old new r l u)
 
 pub send-stops : (i new : ℕ) (s : State) → MayStop (sendRegion i new s)
 unfolding sendRegion
 send-stops i new s = ranges-stop _ new _ _ _
 
-leaf-stops : (i : ℕ) (s : State) → MayStop (revokeLeaf i s)
+leaf-stops : (closing : List ℕ) → (i : ℕ) (s : State) → MayStop (revokeLeaf closing i s)
 unfolding revokeLeaf
-leaf-stops i s =
+leaf-stops closing i s =
     let g = regionAt s i in
-    deactivate-stops _ _ _ andThen (λ t.
-    give-kind g (g .kind) t andThen (λ u.
+    deactivate-stops closing _ _ _ andThen (λ t.
+    give-kind closing g (g .kind) t andThen (λ u.
     free-stops i u andThen (λ v.
     gives-branch (has (g .rights) CLEANUP) (push-stops _ v) (gives tt))))
 
-by-list : (n i : ℕ) (s : State) (l : List ℕ) → ((k : ℕ) (t : State) → MayStop (revokeRegion n k t)) → MayStop {A = State} (elim l [ [] ↦ revokeLeaf i s | c ∷ cs ↦ revokeRegion n c s >>= λ t. revokeRegion n i t ])
-by-list n i s [] h = leaf-stops i s
-by-list n i s (c ∷ cs) h = h c s andThen λ t. h i t
+by-list : (closing : List ℕ) → (n i : ℕ) (s : State) (l : List ℕ) → ((k : ℕ) (t : State) → MayStop (revokeRegion closing n k t)) → MayStop {A = State} (elim l [ [] ↦ revokeLeaf closing i s | c ∷ cs ↦ revokeRegion closing n c s >>= λ t. revokeRegion closing n i t ])
+by-list closing n i s [] h = leaf-stops closing i s
+by-list closing n i s (c ∷ cs) h = h c s andThen λ t. h i t
 
-pub revoke-stops : (n i : ℕ) (s : State) → MayStop (revokeRegion n i s)
+pub revoke-stops : (closing : List ℕ) → (n i : ℕ) (s : State) → MayStop (revokeRegion closing n i s)
 unfolding revokeRegion
-revoke-stops zero i s = gives tt
-revoke-stops (suc n) i s = by-list n i s (regionAt s i .children) (revoke-stops n)
+revoke-stops closing zero i s = gives tt
+revoke-stops closing (suc n) i s = by-list closing n i s (regionAt s i .children) (revoke-stops closing n)
 
 -- 11 alone
 pub allocate-stops : (r : Refusal) (gs fs : List ℕ) → Gives (λ x. Unit {0}) (λ x. x ≡ r) (allocate r (record { gens = gs; free = fs }))

@@ -3,6 +3,7 @@ use mathlib.Core.Path.{_≡_, refl, ap, _∙_}
 use Prim.Native.Nat.{ℕ}
 use mathlib.Core.Bool.{not}
 use mathlib.Core.Option.{some}
+use mathlib.Core.List.{[]}
 use lib.Dec.{T}
 use Rattle.model.specs.Lists.{atSlot, In}
 use Rattle.model.specs.State.{State, Handle, Region, Kind, Root, Alias, Carve, Capa, noCapa, region, regionRevoke, management, channel, parentOf, regionAt}
@@ -27,7 +28,7 @@ module _ (s : State) (whole : Whole s) where
   unfolding revokeUnlessRoot
   revoke-unless i g e = checked (not (isRootKind (regionAt s i .kind))) _ (λ t.
       let n = parent-is (g .kind) (rw (region-at s i g e) at t) in
-      weaken (revoke-whole s whole i (n .0) g e (n .1)) (λ u k. k .0))
+      weaken (revoke-whole [] s whole i (n .0) g e (n .1)) (λ u k. k .0))
 
   pub revoke-capa : (c : Capa) → All (StaysWhole s) (revokeCapa c s)
   unfolding revokeCapa

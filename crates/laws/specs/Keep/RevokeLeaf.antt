@@ -58,14 +58,14 @@ module _ (i : ℕ) (s : State) (T : Field → ℕ → ℕ → ℕ) (h : Tracked 
 
 -- ---- what it had is given back
 
-give-kind : (P : State → Type 0) (s : State) (b e : ℕ) (k : Kind) (p : ℕ) → parentOf k ≡ some p → (k ≡ Alias p → P s) → (k ≡ Carve p → All P (activate (regionAt s p .owner) (record { start = b; end = e; rights = regionAt s p .rights }) s)) → All P (elim k [ Root ↦ ok s | Alias q ↦ ok s | Carve q ↦ activate (regionAt s q .owner) (record { start = b; end = e; rights = regionAt s q .rights }) s ])
-give-kind P s b e Root p n u v = absurd (none-some none p refl n)
-give-kind P s b e (Alias q) p n u v = accepted (u (ap Alias (some-same (some q) q p refl n)))
-give-kind P s b e (Carve q) p n u v = let m : q ≡ p = some-same (some q) q p refl n in rw m (v (ap Carve m))
+give-kind : (closing : List ℕ) → (P : State → Type 0) (s : State) (b e : ℕ) (k : Kind) (p : ℕ) → parentOf k ≡ some p → (k ≡ Alias p → P s) → (k ≡ Carve p → All P (activate closing (regionAt s p .owner) (record { start = b; end = e; rights = regionAt s p .rights }) s)) → All P (elim k [ Root ↦ ok s | Alias q ↦ ok s | Carve q ↦ activate closing (regionAt s q .owner) (record { start = b; end = e; rights = regionAt s q .rights }) s ])
+give-kind closing P s b e Root p n u v = absurd (none-some none p refl n)
+give-kind closing P s b e (Alias q) p n u v = accepted (u (ap Alias (some-same (some q) q p refl n)))
+give-kind closing P s b e (Carve q) p n u v = let m : q ≡ p = some-same (some q) q p refl n in rw m (v (ap Carve m))
 
-pub give-all : (P : State → Type 0) (s : State) (g : Region) (p : ℕ) → parentOf (g .kind) ≡ some p → (g .kind ≡ Alias p → P s) → (g .kind ≡ Carve p → All P (activate (regionAt s p .owner) (record { start = g .start; end = g .end; rights = regionAt s p .rights }) s)) → All P (giveBack g s)
+pub give-all : (closing : List ℕ) → (P : State → Type 0) (s : State) (g : Region) (p : ℕ) → parentOf (g .kind) ≡ some p → (g .kind ≡ Alias p → P s) → (g .kind ≡ Carve p → All P (activate closing (regionAt s p .owner) (record { start = g .start; end = g .end; rights = regionAt s p .rights }) s)) → All P (giveBack closing g s)
 unfolding giveBack
-give-all P s g p n u v = give-kind P s (g .start) (g .end) (g .kind) p n u v
+give-all closing P s g p n u v = give-kind closing P s (g .start) (g .end) (g .kind) p n u v
 
 -- ---- a region without children
 
@@ -95,10 +95,10 @@ module _ (s : State) (agree : TrackersAgree s) (i p : ℕ) (g h : Region) (e : I
       let x = owner-in out (out-beside .1) i g e in
       lost-le out (countsOver (s .regions)) left (out-beside .0) (g .owner) (x .0) (x .1) (accessOf g) (agree .regions i g e .nonempty) had
 
-  lost : All (λ t. Tracked t left × SameOutside out t) (deactivate (g .owner) (accessOf g) out)
-  lost =
+  lost : (closing : List ℕ) → All (λ t. Tracked t left × SameOutside out t) (deactivate closing (g .owner) (accessOf g) out)
+  lost closing =
       let x = owner-in out (out-beside .1) i g e in
-      deactivate-tracked out (countsOver (s .regions)) left (out-beside .0) (g .owner) (x .0) (x .1) (accessOf g) (agree .regions i g e .nonempty) (λ f d a. omega (arith, counted f d a)) had
+      deactivate-tracked closing out (countsOver (s .regions)) left (out-beside .0) (g .owner) (x .0) (x .1) (accessOf g) (agree .regions i g e .nonempty) (λ f d a. omega (arith, counted f d a)) had
 
   -- the parent without this child
   abbrev pub parent : Region
@@ -110,12 +110,12 @@ module _ (s : State) (agree : TrackersAgree s) (i p : ℕ) (g h : Region) (e : I
   pub parent-there : (t : State) → SameOutside out t → In (t .regions) p parent
   parent-there t b = ap (λ (rs : List (Option Region)). atSlot rs p) (b .regions ∙ out-regions) ∙ getD-set-same (s .regions) p (some parent) none (in-length (s .regions) p h at)
 
-  given : (t : State) → Tracked t left → SameOutside out t → All (λ u. Tracked u (countsOver less) × SameOutside t u) (giveBack g t)
-  given t k b = give-all (λ u. Tracked u (countsOver less) × SameOutside t u) t g p n
+  given : (closing : List ℕ) (t : State) → Tracked t left → SameOutside out t → All (λ u. Tracked u (countsOver less) × SameOutside t u) (giveBack closing g t)
+  given closing t k b = give-all closing (λ u. Tracked u (countsOver less) × SameOutside t u) t g p n
       (λ m. (tracked-same t left (countsOver less) (λ f d a. omega (arith, alias-removed s (agree .regions) i g e empty p h at m f d a)) k, same-outside-self t))
       (λ m.
       let x = owner-in t (same-domains-then (out-beside .1) (b .sameDomains)) p h at in
-      rw (region-at t p parent (parent-there t b)) (activate-tracked t left (countsOver less) k (h .owner) (x .0) (x .1) (record { start = g .start; end = g .end; rights = h .rights }) (agree .regions i g e .nonempty) (λ f d a. omega (arith, carve-removed s (agree .regions) i g e empty p h at m f d a, counted f d a))))
+      rw (region-at t p parent (parent-there t b)) (activate-tracked closing t left (countsOver less) k (h .owner) (x .0) (x .1) (record { start = g .start; end = g .end; rights = h .rights }) (agree .regions i g e .nonempty) (λ f d a. omega (arith, carve-removed s (agree .regions) i g e empty p h at m f d a, counted f d a))))
 
   module _ (t : State) (b : SameDomains s t) where
     abbrev Owned : Region → Type 0
@@ -142,10 +142,10 @@ module _ (s : State) (agree : TrackersAgree s) (i p : ℕ) (g h : Region) (e : I
         record { sizes = b′ .sizes; domainPool = b′ .domainPool; size = b′ .size; domains = b′ .domains },
       ))
 
-  pub revoke-leaf-agree : All (λ t. TrackersAgree t × SameDomains s t) (revokeLeaf i s)
+  pub revoke-leaf-agree : (closing : List ℕ) → All (λ t. TrackersAgree t × SameDomains s t) (revokeLeaf closing i s)
   unfolding revokeLeaf
-  revoke-leaf-agree = rw (region-at s i g e) (
-      bind lost (λ s₁ (k, b).
-      bind (given s₁ k b) (λ s₂ (k₂, b₂).
+  revoke-leaf-agree closing = rw (region-at s i g e) (
+      bind (lost closing) (λ s₁ (k, b).
+      bind (given closing s₁ k b) (λ s₂ (k₂, b₂).
       bind (freed s₂ k₂ (same-outside-then b b₂)) (λ s₃ (r, c).
       branch (has (g .rights) CLEANUP) (push-queue _ _ s₃ (λ q. (queued-agree s₃ q r, queued-aside s s₃ q c))) (accepted (r, c))))))

@@ -51,9 +51,9 @@ module _ (s : State) (agree : TrackersAgree s) (r : Base s) (i p : ℕ) (g h : R
       let k₁ = subst (λ (w : Pool). Table (leaveParent i s .sizes .regions) less w) (sym z) k in
       same-domains-base s (leaveParent i s) left q (subst (λ rs. Table (leaveParent i s .sizes .regions) rs (leaveParent i s .regionPool)) (sym less-there) k₁) r
 
-  pub given-base : (t : State) → Base t → SameOutside (leaveParent i s) t → All (λ u. Base u × SameOutside t u) (giveBack g t)
-  given-base t k b = give-all (λ u. Base u × SameOutside t u) t g p n (λ m. (k, same-outside-self t)) (λ m.
-      rw (region-at t p (parent s agree i p g h e empty n at) (parent-there s agree i p g h e empty n at t b)) (gained-base t (h .owner) (k, same-domains-live (same-domains-then left (b .sameDomains)) (h .owner) (agree .owners p h at)) _))
+  pub given-base : (closing : List ℕ) (t : State) → Base t → SameOutside (leaveParent i s) t → All (λ u. Base u × SameOutside t u) (giveBack closing g t)
+  given-base closing t k b = give-all closing (λ u. Base u × SameOutside t u) t g p n (λ m. (k, same-outside-self t)) (λ m.
+      rw (region-at t p (parent s agree i p g h e empty n at) (parent-there s agree i p g h e empty n at t b)) (gained-base closing t (h .owner) (k, same-domains-live (same-domains-then left (b .sameDomains)) (h .owner) (agree .owners p h at)) _))
 
   -- the slot is still in use
   slot-there : (t : State) → SameOutside (leaveParent i s) t → (y : Region) × In (t .regions) i y
@@ -65,30 +65,30 @@ module _ (s : State) (agree : TrackersAgree s) (r : Base s) (i p : ℕ) (g h : R
       let (y, m) = slot-there t b in
       bind (table-frees (t .sizes .regions) (t .regions) (t .regionPool) (k .regions) i y m (in-length (t .regions) i y m)) (λ q z. accepted (same-domains-base t _ (record { sizes = refl; domainPool = refl; size = refl; domains = λ d. refl }) refl z k))
 
-  leaf-base : All Base (revokeLeaf i s)
+  leaf-base : (closing : List ℕ) → All Base (revokeLeaf closing i s)
   unfolding revokeLeaf
-  leaf-base =
+  leaf-base closing =
       let z = agree .regions i g e in
       rw (region-at s i g e) (
-      bind (lost-base (leaveParent i s) (g .owner) (leave-base, same-domains-live left (g .owner) (agree .owners i g e)) (accessOf g)) (λ s₁ (k, b).
-      bind (given-base s₁ k b) (λ s₂ (k₂, b₂).
+      bind (lost-base closing (leaveParent i s) (g .owner) (leave-base, same-domains-live left (g .owner) (agree .owners i g e)) (accessOf g)) (λ s₁ (k, b).
+      bind (given-base closing s₁ k b) (λ s₂ (k₂, b₂).
       bind (free-base s₂ k₂ (same-outside-then b b₂)) (λ s₃ k₃.
       branch (has (g .rights) CLEANUP) (cleanup-base (g .start) (g .end) s₃ k₃ (z .startWord) (z .endWord)) (accepted k₃)))))
 
 -- ---- the region and all below it
 
-pub leaves-whole : (s : State) → Leaves (λ t. Whole t × SameDomains s t)
+pub leaves-whole : (closing : List ℕ) (s : State) → Leaves closing (λ t. Whole t × SameDomains s t)
 unfolding Leaves
-leaves-whole s t i p g h ((k, r), b) q e empty n at = weaken (both (revoke-leaf-agree t k i p g h e empty n at) (leaf-base t k r i p g h e empty n at)) (λ u ((j, c), v). ((j, v), same-domains-then b c))
+leaves-whole closing s t i p g h ((k, r), b) q e empty n at = weaken (both (revoke-leaf-agree t k i p g h e empty n at closing) (leaf-base t k r i p g h e empty n at closing)) (λ u ((j, c), v). ((j, v), same-domains-then b c))
 
-pub revoke-whole : (s : State) → Whole s → (i p : ℕ) (g : Region) → In (s .regions) i g → parentOf (g .kind) ≡ some p → All (λ t. (Whole t × SameDomains s t) × Revoked (s .regions) i (t .regions)) (revokeRegion (liveCount s) i s)
-revoke-whole s k i p g e n = revoke-all (λ t. Whole t × SameDomains s t) (leaves-whole s) s i p g (k, same-domains-self s) (k .0 .regions) e n
+pub revoke-whole : (closing : List ℕ) → (s : State) → Whole s → (i p : ℕ) (g : Region) → In (s .regions) i g → parentOf (g .kind) ≡ some p → All (λ t. (Whole t × SameDomains s t) × Revoked (s .regions) i (t .regions)) (revokeRegion closing (liveCount s) i s)
+revoke-whole closing s k i p g e n = revoke-all closing (λ t. Whole t × SameDomains s t) (leaves-whole closing s) s i p g (k, same-domains-self s) (k .0 .regions) e n
 
 -- ---- without the ring and the pools
 
-leaves-agree : (s : State) → Leaves (λ t. TrackersAgree t × SameDomains s t)
+leaves-agree : (closing : List ℕ) (s : State) → Leaves closing (λ t. TrackersAgree t × SameDomains s t)
 unfolding Leaves
-leaves-agree s t i p g h (k, b) r e empty n at = weaken (revoke-leaf-agree t k i p g h e empty n at) (λ u (j, c). (j, same-domains-then b c))
+leaves-agree closing s t i p g h (k, b) r e empty n at = weaken (revoke-leaf-agree t k i p g h e empty n at closing) (λ u (j, c). (j, same-domains-then b c))
 
-pub revoke-region-agree : (s : State) → TrackersAgree s → (i p : ℕ) (g : Region) → In (s .regions) i g → parentOf (g .kind) ≡ some p → All (λ t. (TrackersAgree t × SameDomains s t) × Revoked (s .regions) i (t .regions)) (revokeRegion (liveCount s) i s)
-revoke-region-agree s k i p g e n = revoke-all (λ t. TrackersAgree t × SameDomains s t) (leaves-agree s) s i p g (k, same-domains-self s) (k .regions) e n
+pub revoke-region-agree : (closing : List ℕ) → (s : State) → TrackersAgree s → (i p : ℕ) (g : Region) → In (s .regions) i g → parentOf (g .kind) ≡ some p → All (λ t. (TrackersAgree t × SameDomains s t) × Revoked (s .regions) i (t .regions)) (revokeRegion closing (liveCount s) i s)
+revoke-region-agree closing s k i p g e n = revoke-all closing (λ t. TrackersAgree t × SameDomains s t) (leaves-agree closing s) s i p g (k, same-domains-self s) (k .regions) e n

@@ -18,6 +18,7 @@ use Rattle.model.specs.Updates.{push, pushPermission, isPermissionOf}
 use Rattle.model.specs.Making.{goodSizes}
 use Rattle.model.specs.Sound.{Sound, QueueSound, QueuedFit, Singly, UpdateWords}
 use Rattle.laws.specs.Accepted.{All, accepted, checked, branch-on}
+use Rattle.laws.specs.Capas.Live.{live-fits, fits-onward}
 use Rattle.laws.specs.Stack.{any-count}
 use Rattle.laws.specs.Tree.Slots.{in-length, is-live}
 use Rattle.laws.specs.Lists.{word-at, each-weaken, count-end, each-end}
@@ -96,7 +97,7 @@ permission-ring d m x s e marks r =
       slots = r .slots;
     })) (λ t.
     join-ring (permission h (domainAt s d .cores) m) s r
-    (and-i (isSome (atSlot (s .domains) d)) (eqb (h .generation) (h .generation)) (is-live _ x e) (eqb-refl (h .generation)))
+    (live-fits (s .domainPool) (s .domains) h (and-i (isSome (atSlot (s .domains) d)) (eqb (h .generation) (h .generation)) (is-live _ x e) (eqb-refl (h .generation))))
     (none-counted (isPermissionOf h) (s .queue .items) t)
     (small d (omega (arith, in-length (s .domains) d x e, r .slots)), word-at (s .domainPool .gens) d (r .gens), rw (domain-at s d x e) (r .cores d x e), marks))
   where
@@ -115,10 +116,10 @@ pub record QueueKept (s t : State) : Type 0 where
   pub queue : t .queue ≡ s .queue
 
 live-kept : (s t : State) → QueueKept s t → (u : Update) → QueuedFit (s .domainPool) (s .domains) u → QueuedFit (t .domainPool) (t .domains) u
-live-kept s t c (permission h k m) l =
-    and-i (isSome (atSlot (t .domains) (h .slot))) (eqb (getD (t .domainPool .gens) (h .slot) 0) (h .generation))
-    (c .live (h .slot) (and-l (isSome (atSlot (s .domains) (h .slot))) (eqb (getD (s .domainPool .gens) (h .slot) 0) (h .generation)) l))
-    (rw (c .gens) (and-r (isSome (atSlot (s .domains) (h .slot))) (eqb (getD (s .domainPool .gens) (h .slot) 0) (h .generation)) l))
+live-kept s t c (permission h k m) l = fits-onward (s .domainPool) (t .domainPool) (s .domains) (t .domains) (λ n u. live-fits (t .domainPool) (t .domains) n
+    (and-i (isSome (atSlot (t .domains) (n .slot))) (eqb (getD (t .domainPool .gens) (n .slot) 0) (n .generation))
+    (c .live (n .slot) (and-l (isSome (atSlot (s .domains) (n .slot))) (eqb (getD (s .domainPool .gens) (n .slot) 0) (n .generation)) u))
+    (rw (c .gens) (and-r (isSome (atSlot (s .domains) (n .slot))) (eqb (getD (s .domainPool .gens) (n .slot) 0) (n .generation)) u)))) (λ i. omega (arith, ap (λ gs. getD gs i 0) (c .gens))) h l
 live-kept s t c (cleanup a b) l = tt
 
 pub queue-kept-ring : (s t : State) → QueueKept s t → Ring s → Ring t

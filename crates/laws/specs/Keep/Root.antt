@@ -1,6 +1,7 @@
 -- Root: the regions are sound with the new one, and the trackers store the counts without it, until its domain gains its range.
 use mathlib.Core.Path.{_≡_, refl}
 use Prim.Native.Nat.{ℕ}
+use mathlib.Core.List.{[]}
 use lib.Dec.{T}
 use lib.ListN.{length}
 use Rattle.model.specs.Lists.{isSome, atSlot, In}
@@ -48,4 +49,4 @@ module _ (s : State) (sound : Sound s) (h : Handle) (a : Access) where
       bind (both (root-agree s₁ (r .agree) (r .base .regions .size) (r .base .regions .pool) d (r .domain) (r .at) a (record { nonempty = r .nonempty; startWord = w .0; endWord = w .1; rightsByte = w .2; hashWords = tt })) (new-base s₁ d (r .base) (is-live _ _ (r .at)) Root a)) (λ (i, s₂) ((b, gains, at), ((k, live), still)).
       bind (both (insert-all d s₂ _ (λ (y : ℕ × State). TrackersAgreeWith (s₁ .regions) (y .1) × (y .1 .regions ≡ s₂ .regions)) (λ n l. (listed-agree s₂ d _ at l (s₁ .regions) b, refl))) (insert-base s₂ d k live _)) (λ (n, s₃) ((b₃, same), (k₃, live₃)).
       let y = live-is _ live₃ in
-      bind (both (activate-agree (s₁ .regions) s₃ b₃ d (y .0) (y .1) a (r .nonempty) (λ f j c. rw same (gains f j c))) (gained-base s₃ d (k₃, live₃) a)) (λ s₄ (g, k₄). accepted (g .0, k₄ .0))))))
+      bind (both (activate-agree (s₁ .regions) s₃ b₃ d (y .0) (y .1) a (r .nonempty) (λ f j c. rw same (gains f j c))) (gained-base [] s₃ d (k₃, live₃) a)) (λ s₄ (g, k₄). accepted (g .0, k₄ .0))))))

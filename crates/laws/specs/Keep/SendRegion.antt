@@ -3,7 +3,7 @@
 use mathlib.Core.Path.{_≡_, refl, sym, ap, _∙_, subst}
 use Prim.Native.Nat.{ℕ, _+_, _-_, _≤_, _<_}
 use mathlib.Core.Option.{Option, none, some}
-use mathlib.Core.List.{List}
+use mathlib.Core.List.{List, []}
 use native.Mathlib.Omega.{arith}
 use lib.Dec.{T}
 use lib.ListN.{set}
@@ -44,8 +44,8 @@ module _ (s : State) (d : ℕ) (x : Domain) (e : In (s .domains) d x) (r : ℕ) 
     own : (T : Field → ℕ → ℕ → ℕ) (u : State) → Tracked u T × SameOutside t u → Formed s u × ((f : Field) (k a : ℕ) → held u f k a ≡ T f k a)
     own T u (k, v) = ((tracked-same u T (held u) (k .counts) k, same-domains-then (q .1) (v .sameDomains)), k .counts)
 
-    gained : All (λ u. Formed s u × ((f : Field) (k a : ℕ) → held u f k a ≡ held t f k a + grant f d b c r k a)) (activate d range t)
-    gained = weaken (activate-tracked t (held t) (λ f k a. held t f k a + grant f d b c r k a) (q .0) d (there .0) (there .1) range z (λ f k a. refl)) (own _)
+    gained : All (λ u. Formed s u × ((f : Field) (k a : ℕ) → held u f k a ≡ held t f k a + grant f d b c r k a)) (activate [] d range t)
+    gained = weaken (activate-tracked [] t (held t) (λ f k a. held t f k a + grant f d b c r k a) (q .0) d (there .0) (there .1) range z (λ f k a. refl)) (own _)
 
     module _ (had : (a : ℕ) → b ≤ a → a < c → Enough r (storedCounts t d a)) where
       abbrev left : Field → ℕ → ℕ → ℕ
@@ -54,8 +54,8 @@ module _ (s : State) (d : ℕ) (x : Domain) (e : In (s .domains) d x) (r : ℕ) 
       counted : (f : Field) (k a : ℕ) → grant f d b c r k a ≤ held t f k a
       counted = lost-le t (held t) left (q .0) d (there .0) (there .1) range z had
 
-      lost : All (λ u. Formed s u × ((f : Field) (k a : ℕ) → held u f k a + grant f d b c r k a ≡ held t f k a)) (deactivate d range t)
-      lost = weaken (deactivate-tracked t (held t) left (q .0) d (there .0) (there .1) range z (λ f k a. omega (arith, counted f k a)) had) (λ u h. let (k, m) = own left u h in (k, λ f j a. omega (arith, m f j a, counted f j a)))
+      lost : All (λ u. Formed s u × ((f : Field) (k a : ℕ) → held u f k a + grant f d b c r k a ≡ held t f k a)) (deactivate [] d range t)
+      lost = weaken (deactivate-tracked [] t (held t) left (q .0) d (there .0) (there .1) range z (λ f k a. omega (arith, counted f k a)) had) (λ u h. let (k, m) = own left u h in (k, λ f j a. omega (arith, m f j a, counted f j a)))
 
   receives : Receives (Formed s) d r
   unfolding Receives

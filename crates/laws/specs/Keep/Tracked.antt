@@ -8,6 +8,7 @@ use mathlib.Core.Option.{Option, none, some, Option·getD}
 use mathlib.Core.List.{List, [], _∷_}
 use native.Mathlib.Omega.{arith}
 use native.Mathlib.Decide.{ℕ-discrete}
+use mathlib.Core.Bool.{_||_}
 use lib.Dec.{T, eqb}
 use lib.ListN.{length, set, length-set}
 use lib.Seq.{getD-set-same, getD-set-other}
@@ -78,9 +79,9 @@ module _ (s : State) (d : ℕ) (w : Walk) where
   abbrev pub put : State
   put = withRecordPool (w .pool) (putDomain d (withTracker (w .records) (domainAt s d)) s)
 
-  pub put-queue : (P : State → Type 0) → ((q : Queue) → P (withQueue q put)) → All P (putWalk d w s)
+  pub put-queue : (closing : List ℕ) → (P : State → Type 0) → ((q : Queue) → P (withQueue q put)) → All P (putWalk closing d w s)
   unfolding putWalk
-  put-queue P h = branch (eqb (w .marks) 0) (accepted (h (put .queue))) (permission-queue P d _ put h)
+  put-queue closing P h = branch (exists (eqb d) closing || eqb (w .marks) 0) (accepted (h (put .queue))) (permission-queue P d _ put h)
 
 -- ---- a walk is put back
 
@@ -128,22 +129,13 @@ grant-other f d b e r k a n = within-same b e a _ 0 (rw (ne-eqb d k (λ m. n (sy
 grant-own : (f : Field) (d b e r a : ℕ) → grant f d b e r d a ≡ within b e a (counter f r) 0
 grant-own f d b e r a = rw (eq-eqb d d refl)
 
+-- what domain d gains, or loses, with a
+abbrev range : ℕ → Access → Field → ℕ → ℕ → ℕ
+range d a f k b = grant f d (a .start) (a .end) (a .rights) k b
+
 module _ (s : State) (T T′ : Field → ℕ → ℕ → ℕ) (h : Tracked s T) (d : ℕ) (x : Domain) (e : In (s .domains) d x) (a : Access) (z : a .start < a .end) where
-  abbrev range : Field → ℕ → ℕ → ℕ
-  range f k b = grant f d (a .start) (a .end) (a .rights) k b
-
-  pub activate-tracked : ((f : Field) (k b : ℕ) → T′ f k b ≡ T f k b + range f k b) → All (λ t. Tracked t T′ × SameOutside s t) (activate d a s)
-  unfolding activate
-  activate-tracked m =
-      let l = domainAt s d .tracker in
-      bind (both (gain-form (a .rights) (a .start) (a .end) l (s .recordPool) (h .form d) z) (both (gain-count (a .rights) (a .start) (a .end) l (s .recordPool) (h .form d .rising) z) (gain-slots (a .rights) (a .start) (a .end) l (s .recordPool)))) (λ w k.
-      put-queue s d w (λ t. Tracked t T′ × SameOutside s t) (λ q. (
-        put-tracked s d x e w T T′ h (λ f j b n. omega (arith, m f j b, grant-other f d (a .start) (a .end) (a .rights) j b n)) (k .0) (λ f b. omega (arith, k .1 .0 f b, m f d b, h .counts f d b, grant-own f d (a .start) (a .end) (a .rights) b)) (k .1 .1) q,
-        put-beside s d x e w q,
-      )))
-
   -- what can be lost at every address of the range is counted there
-  pub lost-le : ((b : ℕ) → a .start ≤ b → b < a .end → Enough (a .rights) (storedCounts s d b)) → (f : Field) (k b : ℕ) → range f k b ≤ T f k b
+  pub lost-le : ((b : ℕ) → a .start ≤ b → b < a .end → Enough (a .rights) (storedCounts s d b)) → (f : Field) (k b : ℕ) → range d a f k b ≤ T f k b
   lost-le n f k b = elim (ℕ-discrete k d) [
     | yes m ↦ rw m (elim (pos (a .start) (a .end) b) [
       | below u ↦ omega (arith, within-lo (a .start) (a .end) b (if eqb d d then counter f (a .rights) else 0) 0 u)
@@ -153,12 +145,23 @@ module _ (s : State) (T T′ : Field → ℕ → ℕ → ℕ) (h : Tracked s T) 
     | no m ↦ omega (arith, grant-other f d (a .start) (a .end) (a .rights) k b m)
   ]
 
-  pub deactivate-tracked : ((f : Field) (k b : ℕ) → T′ f k b + range f k b ≡ T f k b) → ((b : ℕ) → a .start ≤ b → b < a .end → Enough (a .rights) (storedCounts s d b)) → All (λ t. Tracked t T′ × SameOutside s t) (deactivate d a s)
+module _ (closing : List ℕ) (s : State) (T T′ : Field → ℕ → ℕ → ℕ) (h : Tracked s T) (d : ℕ) (x : Domain) (e : In (s .domains) d x) (a : Access) (z : a .start < a .end) where
+  pub activate-tracked : ((f : Field) (k b : ℕ) → T′ f k b ≡ T f k b + range d a f k b) → All (λ t. Tracked t T′ × SameOutside s t) (activate closing d a s)
+  unfolding activate
+  activate-tracked m =
+      let l = domainAt s d .tracker in
+      bind (both (gain-form (a .rights) (a .start) (a .end) l (s .recordPool) (h .form d) z) (both (gain-count (a .rights) (a .start) (a .end) l (s .recordPool) (h .form d .rising) z) (gain-slots (a .rights) (a .start) (a .end) l (s .recordPool)))) (λ w k.
+      put-queue s d w closing (λ t. Tracked t T′ × SameOutside s t) (λ q. (
+        put-tracked s d x e w T T′ h (λ f j b n. omega (arith, m f j b, grant-other f d (a .start) (a .end) (a .rights) j b n)) (k .0) (λ f b. omega (arith, k .1 .0 f b, m f d b, h .counts f d b, grant-own f d (a .start) (a .end) (a .rights) b)) (k .1 .1) q,
+        put-beside s d x e w q,
+      )))
+
+  pub deactivate-tracked : ((f : Field) (k b : ℕ) → T′ f k b + range d a f k b ≡ T f k b) → ((b : ℕ) → a .start ≤ b → b < a .end → Enough (a .rights) (storedCounts s d b)) → All (λ t. Tracked t T′ × SameOutside s t) (deactivate closing d a s)
   unfolding deactivate
   deactivate-tracked m n =
       let l = domainAt s d .tracker in
       bind (both (lose-form (a .rights) (a .start) (a .end) l (s .recordPool) (h .form d) z) (both (lose-count (a .rights) (a .start) (a .end) l (s .recordPool) (h .form d .rising) z n) (lose-slots (a .rights) (a .start) (a .end) l (s .recordPool)))) (λ w k.
-      put-queue s d w (λ t. Tracked t T′ × SameOutside s t) (λ q. (
+      put-queue s d w closing (λ t. Tracked t T′ × SameOutside s t) (λ q. (
         put-tracked s d x e w T T′ h (λ f j b u. omega (arith, m f j b, grant-other f d (a .start) (a .end) (a .rights) j b u)) (k .0) (λ f b. omega (arith, k .1 .0 f b, m f d b, h .counts f d b, grant-own f d (a .start) (a .end) (a .rights) b)) (k .1 .1) q,
         put-beside s d x e w q,
       )))

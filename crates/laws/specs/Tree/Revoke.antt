@@ -50,26 +50,26 @@ ranked-left rs rs′ r i q v = record {
 -- ---- the walk
 
 -- the revoke of a region without children keeps P
-unfoldable pub Leaves : (State → Type 0) → Type 0
-Leaves P = (s : State) (i p : ℕ) (g h : Region) → P s → Regions (s .regions) → In (s .regions) i g → g .children ≡ [] → parentOf (g .kind) ≡ some p → In (s .regions) p h → All P (revokeLeaf i s)
+unfoldable pub Leaves : List ℕ → (State → Type 0) → Type 0
+Leaves closing P = (s : State) (i p : ℕ) (g h : Region) → P s → Regions (s .regions) → In (s .regions) i g → g .children ≡ [] → parentOf (g .kind) ≡ some p → In (s .regions) p h → All P (revokeLeaf closing i s)
 
-module _ (P : State → Type 0) (leaf : Leaves P) (r : ℕ → ℕ) where
+module _ (closing : List ℕ) (P : State → Type 0) (leaf : Leaves closing P) (r : ℕ → ℕ) where
   abbrev pub Done : State → ℕ → State → Type 0
   Done s i t = P t × Revoked (s .regions) i (t .regions)
 
   unfoldable pub Ok : ℕ → Type 0
-  Ok m = (s : State) (i p : ℕ) (g : Region) → P s → Regions (s .regions) → Ranked (s .regions) r → In (s .regions) i g → parentOf (g .kind) ≡ some p → countIf isSome (s .regions) ≤ m + r i → All (Done s i) (revokeRegion m i s)
+  Ok m = (s : State) (i p : ℕ) (g : Region) → P s → Regions (s .regions) → Ranked (s .regions) r → In (s .regions) i g → parentOf (g .kind) ≡ some p → countIf isSome (s .regions) ≤ m + r i → All (Done s i) (revokeRegion closing m i s)
 
   ok-zero : Ok 0
   unfolding Ok
   ok-zero s i p g k z q e n f = absurd (omega (arith, rank-low (s .regions) z r q i g e))
 
   module _ (m : ℕ) (ok : Ok m) (s : State) (i p : ℕ) (g : Region) (k : P s) (z : Regions (s .regions)) (q : Ranked (s .regions) r) (e : In (s .regions) i g) (n : parentOf (g .kind) ≡ some p) (f : countIf isSome (s .regions) ≤ suc m + r i) where
-    last : g .children ≡ [] → All (Done s i) (revokeLeaf i s)
+    last : g .children ≡ [] → All (Done s i) (revokeLeaf closing i s)
     unfolding Leaves
     last empty =
         let u = under (s .regions) z i p g e (child-of (g .kind) p n) in
-        weaken (both (leaf s i p g (u .parent) k z e empty n (u .is)) (leaf-regions i p g (u .parent) s e n (u .is)))
+        weaken (both (leaf s i p g (u .parent) k z e empty n (u .is)) (leaf-regions closing i p g (u .parent) s e n (u .is)))
         (λ t h. (h .0, rw (h .1) (revoked-last (s .regions) z i g e empty p (u .parent) (u .is) n)))
 
     module _ (c : ℕ) (cs : List ℕ) (l : g .children ≡ c ∷ cs) where
@@ -80,7 +80,7 @@ module _ (P : State → Type 0) (leaf : Leaves P) (r : ℕ → ℕ) where
       head : (y : Region) × In (s .regions) c y × (parentOf (y .kind) ≡ some i)
       head = first-child (atSlot (s .regions) c) refl (omega (arith, listing (s .regions) z i g e c, ap (countIf (eqb c)) l, self c))
 
-      then : (t : State) → Done s c t → All (Done s i) (revokeRegion m i t)
+      then : (t : State) → Done s c t → All (Done s i) (revokeRegion closing m i t)
       unfolding Ok
       then t (k′, u) =
           let y = head in
@@ -88,15 +88,15 @@ module _ (P : State → Type 0) (leaf : Leaves P) (r : ℕ → ℕ) where
           weaken (ok t i p (w .0) k′ (u .sound) (ranked-left (s .regions) (t .regions) r c q u) (w .1) (w .2 ∙ n) (omega (arith, fewer (s .regions) (t .regions) c (y .0) (y .1) u)))
           (λ t′ h. (h .0, revoked-both (s .regions) (t .regions) (t′ .regions) r i c q (y .0) (y .1) (y .2) u (h .1)))
 
-      again : All (Done s i) (revokeRegion m c s >>= λ t. revokeRegion m i t)
+      again : All (Done s i) (revokeRegion closing m c s >>= λ t. revokeRegion closing m i t)
       unfolding Ok
       again = let y = head in bind (ok s c i (y .0) k z q (y .1) (y .2) (omega (arith, q .child c i (y .0) (y .1) (y .2)))) then
 
-    by-list : (ks : List ℕ) → g .children ≡ ks → All (Done s i) (elim ks [ [] ↦ revokeLeaf i s | c ∷ cs ↦ revokeRegion m c s >>= λ t. revokeRegion m i t ])
+    by-list : (ks : List ℕ) → g .children ≡ ks → All (Done s i) (elim ks [ [] ↦ revokeLeaf closing i s | c ∷ cs ↦ revokeRegion closing m c s >>= λ t. revokeRegion closing m i t ])
     by-list [] l = last l
     by-list (c ∷ cs) l = again c cs l
 
-    one-more : All (Done s i) (revokeRegion (suc m) i s)
+    one-more : All (Done s i) (revokeRegion closing (suc m) i s)
     unfolding revokeRegion
     one-more = by-list (regionAt s i .children) (ap (λ (x : Region). x .children) (sym (region-at s i g e)))
 
@@ -109,6 +109,6 @@ module _ (P : State → Type 0) (leaf : Leaves P) (r : ℕ → ℕ) where
   ok-all (suc m) = ok-suc m (ok-all m)
 
 -- the region and all below it go, nothing else does, and P is kept
-pub revoke-all : (P : State → Type 0) → Leaves P → (s : State) (i p : ℕ) (g : Region) → P s → Regions (s .regions) → In (s .regions) i g → parentOf (g .kind) ≡ some p → All (λ t. P t × Revoked (s .regions) i (t .regions)) (revokeRegion (liveCount s) i s)
+pub revoke-all : (closing : List ℕ) (P : State → Type 0) → Leaves closing P → (s : State) (i p : ℕ) (g : Region) → P s → Regions (s .regions) → In (s .regions) i g → parentOf (g .kind) ≡ some p → All (λ t. P t × Revoked (s .regions) i (t .regions)) (revokeRegion closing (liveCount s) i s)
 unfolding Ok
-revoke-all P leaf s i p g k z e n = ok-all P leaf (rank (s .regions) z) (liveCount s) s i p g k z (ranked (s .regions) z) e n (omega arith)
+revoke-all closing P leaf s i p g k z e n = ok-all closing P leaf (rank (s .regions) z) (liveCount s) s i p g k z (ranked (s .regions) z) e n (omega arith)

@@ -31,10 +31,10 @@ held s f d a = get f (storedCounts s d a)
 
 -- domain o loses, and gains, a range with rights r
 unfoldable pub Loses : (State → Type 0) → ℕ → ℕ → Type 0
-Loses Q o r = (s : State) (b e : ℕ) → Q s → b < e → ((a : ℕ) → b ≤ a → a < e → Enough r (storedCounts s o a)) → All (λ t. Q t × ((f : Field) (d a : ℕ) → held t f d a + grant f o b e r d a ≡ held s f d a)) (deactivate o (record { start = b; end = e; rights = r }) s)
+Loses Q o r = (s : State) (b e : ℕ) → Q s → b < e → ((a : ℕ) → b ≤ a → a < e → Enough r (storedCounts s o a)) → All (λ t. Q t × ((f : Field) (d a : ℕ) → held t f d a + grant f o b e r d a ≡ held s f d a)) (deactivate [] o (record { start = b; end = e; rights = r }) s)
 
 unfoldable pub Receives : (State → Type 0) → ℕ → ℕ → Type 0
-Receives Q o r = (s : State) (b e : ℕ) → Q s → b < e → All (λ t. Q t × ((f : Field) (d a : ℕ) → held t f d a ≡ held s f d a + grant f o b e r d a)) (activate o (record { start = b; end = e; rights = r }) s)
+Receives Q o r = (s : State) (b e : ℕ) → Q s → b < e → All (λ t. Q t × ((f : Field) (d a : ℕ) → held t f d a ≡ held s f d a + grant f o b e r d a)) (activate [] o (record { start = b; end = e; rights = r }) s)
 
 enough-same : (r : ℕ) (j k : Counts) → ((f : Field) → get f k ≡ get f j) → Enough r j → Enough r k
 enough-same r j k e h = record { counted = λ f. omega (arith, e f, h .counted f); last = λ o f. e f ∙ h .last (sym (e Field.Reach) ∙ o) f }

@@ -3,6 +3,7 @@ use mathlib.Core.Path.{_≡_, refl, ap, _∙_}
 use Prim.Native.Nat.{ℕ}
 use mathlib.Core.Option.{Option, none, some}
 use mathlib.Core.List.{List, [], _∷_}
+use mathlib.Core.Bool.{_||_}
 use lib.Dec.{eqb}
 use lib.ListN.{set}
 use Rattle.base.specs.Options.{none-some, some-same}
@@ -29,31 +30,31 @@ permission-regions : (d m : ℕ) (s : State) → All (SameRegions s) (pushPermis
 unfolding pushPermission
 permission-regions d m s = branch (exists (isPermissionOf (handleOf (s .domainPool) d)) (s .queue .items)) (accepted refl) (push-regions _ s)
 
-walk-regions : (d : ℕ) (w : Walk) (s : State) → All (SameRegions s) (putWalk d w s)
+walk-regions : (closing : List ℕ) → (d : ℕ) (w : Walk) (s : State) → All (SameRegions s) (putWalk closing d w s)
 unfolding putWalk
-walk-regions d w s = branch (eqb (w .marks) 0) (accepted refl) (permission-regions d _ (withRecordPool (w .pool) (putDomain d (withTracker (w .records) (domainAt s d)) s)))
+walk-regions closing d w s = branch (exists (eqb d) closing || eqb (w .marks) 0) (accepted refl) (permission-regions d _ (withRecordPool (w .pool) (putDomain d (withTracker (w .records) (domainAt s d)) s)))
 
-pub activate-regions : (d : ℕ) (a : Access) (s : State) → All (SameRegions s) (activate d a s)
+pub activate-regions : (closing : List ℕ) → (d : ℕ) (a : Access) (s : State) → All (SameRegions s) (activate closing d a s)
 unfolding activate
-activate-regions d a s = bind-any _ (λ w. walk-regions d w s)
+activate-regions closing d a s = bind-any _ (λ w. walk-regions closing d w s)
 
-pub deactivate-regions : (d : ℕ) (a : Access) (s : State) → All (SameRegions s) (deactivate d a s)
+pub deactivate-regions : (closing : List ℕ) → (d : ℕ) (a : Access) (s : State) → All (SameRegions s) (deactivate closing d a s)
 unfolding deactivate
-deactivate-regions d a s = bind-any _ (λ w. walk-regions d w s)
+deactivate-regions closing d a s = bind-any _ (λ w. walk-regions closing d w s)
 
 pub ranges-regions : (old new r : ℕ) (xs : List Range) (s : State) → All (SameRegions s) (sendRanges old new r xs s)
 unfolding sendRanges
 ranges-regions old new r [] s = accepted refl
-ranges-regions old new r (x ∷ xs) s = bind (deactivate-regions old _ s) (λ s₁ h. bind (activate-regions new _ s₁) (λ s₂ k. weaken (ranges-regions old new r xs s₂) (λ t m. m ∙ k ∙ h)))
+ranges-regions old new r (x ∷ xs) s = bind (deactivate-regions [] old _ s) (λ s₁ h. bind (activate-regions [] new _ s₁) (λ s₂ k. weaken (ranges-regions old new r xs s₂) (λ t m. m ∙ k ∙ h)))
 
-give-kind : (g : Region) (k : Kind) (s : State) → All (SameRegions s) (giveBack (record { owner = g .owner; kind = k; start = g .start; end = g .end; rights = g .rights; children = g .children; hash = g .hash }) s)
+give-kind : (closing : List ℕ) → (g : Region) (k : Kind) (s : State) → All (SameRegions s) (giveBack closing (record { owner = g .owner; kind = k; start = g .start; end = g .end; rights = g .rights; children = g .children; hash = g .hash }) s)
 unfolding giveBack
-give-kind g Root s = accepted refl
-give-kind g (Alias p) s = accepted refl
-give-kind g (Carve p) s = activate-regions _ _ s
+give-kind closing g Root s = accepted refl
+give-kind closing g (Alias p) s = accepted refl
+give-kind closing g (Carve p) s = activate-regions closing _ _ s
 
-pub give-regions : (g : Region) (s : State) → All (SameRegions s) (giveBack g s)
-give-regions g s = give-kind g (g .kind) s
+pub give-regions : (closing : List ℕ) → (g : Region) (s : State) → All (SameRegions s) (giveBack closing g s)
+give-regions closing g s = give-kind closing g (g .kind) s
 
 -- ---- child lists
 
@@ -86,12 +87,12 @@ free-regions : (i : ℕ) (s : State) → All (λ t. t .regions ≡ set (s .regio
 unfolding freeRegion
 free-regions i s = bind-any _ (λ p. accepted refl)
 
-pub leaf-regions : (i p : ℕ) (g h : Region) (s : State) → In (s .regions) i g → parentOf (g .kind) ≡ some p → In (s .regions) p h → All (λ t. t .regions ≡ set (childOut (s .regions) i p h) i none) (revokeLeaf i s)
+pub leaf-regions : (closing : List ℕ) → (i p : ℕ) (g h : Region) (s : State) → In (s .regions) i g → parentOf (g .kind) ≡ some p → In (s .regions) p h → All (λ t. t .regions ≡ set (childOut (s .regions) i p h) i none) (revokeLeaf closing i s)
 unfolding revokeLeaf
-leaf-regions i p g h s e q m =
+leaf-regions closing i p g h s e q m =
     let l = leave-regions i p g h s e q m in
-    bind (deactivate-regions _ _ (leaveParent i s)) (λ s₁ a.
-    bind (give-regions _ s₁) (λ s₂ b.
+    bind (deactivate-regions closing _ _ (leaveParent i s)) (λ s₁ a.
+    bind (give-regions closing _ s₁) (λ s₂ b.
     bind (free-regions i s₂) (λ s₃ c.
     let all = c ∙ ap (λ (rs : List (Option Region)). set rs i none) (b ∙ a ∙ l) in
     branch (has (regionAt s i .rights) CLEANUP) (weaken (push-regions _ s₃) (λ t d. d ∙ all)) (accepted all))))
