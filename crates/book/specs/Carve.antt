@@ -2,6 +2,7 @@
 use mathlib.Core.Path.{_≡_, ap, _∙_}
 use Prim.Native.Nat.{ℕ}
 use mathlib.Core.Bool.{true}
+use mathlib.Core.List.{[]}
 use lib.Dec.{eqb}
 use lib.ListN.{length}
 use Rattle.model.specs.Lists.{isSome, atSlot}
@@ -21,7 +22,7 @@ exchange-match : (b : Book) (at : ℕ → Handle) (place : ℕ → ℕ) (s : Sta
 unfolding exchangeRights
 exchange-match b at place s d old a m i =
     branch (eqb old (a .rights)) (accepted m)
-    (bind (deactivate-match b at place s d _ m i) (λ s₁ c. weaken (activate-match b at place s₁ d a (c .0) (c .1 .opens d i)) (λ t e. e .0)))
+    (bind (deactivate-match b at place [] s d _ m i) (λ s₁ c. weaken (activate-match b at place [] s₁ d a (c .0) (c .1 .opens d i)) (λ t e. e .0)))
 
 pub carve-match : (b : Book) (s : State) (h : Handle) (l : ℕ) (a : Access) → Sound s → Matches b s → All (λ x. Matches (created (Carve (placeIn (heldAt b (h .slot) l))) (h .slot) (x .0) a b) (x .1)) (carveRegion h l a s)
 unfolding carveRegion created give put added makeRoom

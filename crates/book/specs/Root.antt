@@ -3,6 +3,7 @@ use mathlib.Core.Path.{_≡_, refl, ap, _∙_}
 use Prim.Native.Nat.{ℕ}
 use mathlib.Core.Bool.{false}
 use mathlib.Core.Option.{some}
+use mathlib.Core.List.{[]}
 use lib.ListN.{length}
 use Rattle.base.specs.Tests.{true-is}
 use Rattle.model.specs.Lists.{isSome}
@@ -26,5 +27,5 @@ root-match b s h a sound g =
     bind (room-match b s _ _ (h .slot) a (g .fits)) (λ s₁ q.
     bind (new-region-match (makeRoom (h .slot) b) s₁ _ _ (h .slot) Root Root a (s .sizes .regions) (once-after s s₁ (q .1) sound) (ap length (q .1 .regions) ∙ sound .outside .regionsLength) (q .0) refl (λ p e. absurd (no-parent p e)) (λ p e. absurd (no-parent p e))) (λ x w.
     bind (slot-match (makeRoom (h .slot) b) s₁ s₁ (x .1) (h .slot) Root a _ _ _ (w .fits) (w .last) (w .domains)) (λ y r.
-    bind (activate-match _ _ _ (y .1) (h .slot) a (r .fits) (r .opens (h .slot) (q .1 .opens (h .slot) (live-opens s h l)))) (λ s₄ c.
+    bind (activate-match _ _ _ [] (y .1) (h .slot) a (r .fits) (r .opens (h .slot) (q .1 .opens (h .slot) (live-opens s h l)))) (λ s₄ c.
     accepted (matches _ _ _ _ (c .0)))))))

@@ -121,8 +121,8 @@ pub ranges-match : (b : Book) (at : ℕ → Handle) (place : ℕ → ℕ) (old n
 unfolding sendRanges
 ranges-match b at place old new r [] s m i j = accepted (m, record { pool = refl; regions = refl; domainPool = refl; opens = λ d e. e; live = λ h e. e })
 ranges-match b at place old new r (x ∷ xs) s m i j =
-    bind (deactivate-match b at place s old _ m i) (λ s₁ c.
-    bind (activate-match b at place s₁ new _ (c .0) (c .1 .opens new j)) (λ s₂ e.
+    bind (deactivate-match b at place [] s old _ m i) (λ s₁ c.
+    bind (activate-match b at place [] s₁ new _ (c .0) (c .1 .opens new j)) (λ s₂ e.
     weaken (ranges-match b at place old new r xs s₂ (e .0) (e .1 .opens old (c .1 .opens old i)) (e .1 .opens new (c .1 .opens new j))) (λ t f.
     (f .0, only-domains-then s s₂ t (f .1) (only-domains-then s s₁ s₂ (e .1) (c .1))))))
 

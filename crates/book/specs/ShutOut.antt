@@ -74,7 +74,7 @@ tablesOr s (refuse r) = s
 
 -- A carve's range is gained once more: a reach that no region gives.
 abbrev pub inventsReach : Engine
-inventsReach = carvingBy (λ d a s t. tablesOr t (activate d a t))
+inventsReach = carvingBy (λ d a s t. tablesOr t (activate [] d a t))
 
 -- ---- a list of calls
 

@@ -1,7 +1,8 @@
 -- The steps that change trackers, records and the queue leave the book.
 use mathlib.Core.Path.{_≡_, refl}
 use Prim.Native.Nat.{ℕ}
-use mathlib.Core.Bool.{true}
+use mathlib.Core.Bool.{true, _||_}
+use mathlib.Core.List.{List}
 use lib.Dec.{eqb}
 use Rattle.model.specs.Lists.{isSome, atSlot, exists}
 use Rattle.model.specs.State.{State, Handle, Access, Update, Queue, withQueue, withRecordPool, withTracker, domainAt, putDomain}
@@ -30,19 +31,19 @@ module _ (b : Book) (at : ℕ → Handle) (place : ℕ → ℕ) where
   unfolding pushPermission
   permission-match s₀ s d m c = branch (exists (isPermissionOf (handleOf (s .domainPool) d)) (s .queue .items)) (accepted (queue-match s₀ s _ c)) (push-match s₀ s _ c)
 
-  walk-match : (s : State) (d : ℕ) (w : Walk) → MatchesAt b s at place → isSome (atSlot (s .domains) d) ≡ true → All (MatchesAfter s) (putWalk d w s)
+  walk-match : (closing : List ℕ) → (s : State) (d : ℕ) (w : Walk) → MatchesAt b s at place → isSome (atSlot (s .domains) d) ≡ true → All (MatchesAfter s) (putWalk closing d w s)
   unfolding putWalk
-  walk-match s d w m i =
+  walk-match closing s d w m i =
       let x = withTracker (w .records) (domainAt s d) in
       let n = domain-match b s at place m d x i refl in
       let k = put-only-domains b s at place m d x in
       let c : MatchesAfter s (withRecordPool (w .pool) (putDomain d x s)) = (record { sizes = n .sizes; regions = n .regions; lists = n .lists }, record { pool = k .pool; regions = k .regions; domainPool = k .domainPool; opens = k .opens; live = k .live }) in
-      branch (eqb (w .marks) 0) (accepted c) (permission-match s _ d (w .marks) c)
+      branch (exists (eqb d) closing || eqb (w .marks) 0) (accepted c) (permission-match s _ d (w .marks) c)
 
-  pub activate-match : (s : State) (d : ℕ) (a : Access) → MatchesAt b s at place → isSome (atSlot (s .domains) d) ≡ true → All (MatchesAfter s) (activate d a s)
+  pub activate-match : (closing : List ℕ) → (s : State) (d : ℕ) (a : Access) → MatchesAt b s at place → isSome (atSlot (s .domains) d) ≡ true → All (MatchesAfter s) (activate closing d a s)
   unfolding activate
-  activate-match s d a m i = bind-any _ (λ w. walk-match s d w m i)
+  activate-match closing s d a m i = bind-any _ (λ w. walk-match closing s d w m i)
 
-  pub deactivate-match : (s : State) (d : ℕ) (a : Access) → MatchesAt b s at place → isSome (atSlot (s .domains) d) ≡ true → All (MatchesAfter s) (deactivate d a s)
+  pub deactivate-match : (closing : List ℕ) → (s : State) (d : ℕ) (a : Access) → MatchesAt b s at place → isSome (atSlot (s .domains) d) ≡ true → All (MatchesAfter s) (deactivate closing d a s)
   unfolding deactivate
-  deactivate-match s d a m i = bind-any _ (λ w. walk-match s d w m i)
+  deactivate-match closing s d a m i = bind-any _ (λ w. walk-match closing s d w m i)

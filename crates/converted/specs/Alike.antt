@@ -114,17 +114,17 @@ permission-alike d m s q e =
 
 -- ---- trackers
 
-walk-alike : (d : ℕ) (w : Walk) → Same (putWalk d w)
+walk-alike : (closing : List ℕ) → (d : ℕ) (w : Walk) → Same (putWalk closing d w)
 unfolding putWalk
-walk-alike d w s q e = branch (eqb (w .marks) 0) (accepted (q, e, refl)) (permission-alike d (w .marks) (withRecordPool (w .pool) (putDomain d (withTracker (w .records) (domainAt s d)) s)) q e)
+walk-alike closing d w s q e = branch (exists (eqb d) closing || eqb (w .marks) 0) (accepted (q, e, refl)) (permission-alike d (w .marks) (withRecordPool (w .pool) (putDomain d (withTracker (w .records) (domainAt s d)) s)) q e)
 
-pub activate-alike : (d : ℕ) (a : Access) → Same (activate d a)
+pub activate-alike : (closing : List ℕ) → (d : ℕ) (a : Access) → Same (activate closing d a)
 unfolding activate
-activate-alike d a s q e = bind-same refl (λ w. walk-alike d w s q e)
+activate-alike closing d a s q e = bind-same refl (λ w. walk-alike closing d w s q e)
 
-pub deactivate-alike : (d : ℕ) (a : Access) → Same (deactivate d a)
+pub deactivate-alike : (closing : List ℕ) → (d : ℕ) (a : Access) → Same (deactivate closing d a)
 unfolding deactivate
-deactivate-alike d a s q e = bind-same refl (λ w. walk-alike d w s q e)
+deactivate-alike closing d a s q e = bind-same refl (λ w. walk-alike closing d w s q e)
 
 -- ---- a region comes, is sent, and goes
 
@@ -136,8 +136,8 @@ ranges-alike : (old new r : ℕ) (xs : List Range) → Same (sendRanges old new 
 unfolding sendRanges
 ranges-alike old new r [] s q e = accepted (q, e, refl)
 ranges-alike old new r (x ∷ xs) s q e =
-    bind-alike _ (deactivate-alike old _ s q e) (λ s₁ q₁ e₁.
-    bind-alike _ (activate-alike new _ s₁ q₁ e₁) (λ s₂ q₂ e₂.
+    bind-alike _ (deactivate-alike [] old _ s q e) (λ s₁ q₁ e₁.
+    bind-alike _ (activate-alike [] new _ s₁ q₁ e₁) (λ s₂ q₂ e₂.
     ranges-alike old new r xs s₂ q₂ e₂))
 
 pub send-region-alike : (i new : ℕ) → Same (sendRegion i new)

@@ -58,7 +58,7 @@ root-alike h a s q e =
     bind-alike _ (room-alike d a s q e) (λ s₁ q₁ e₁.
     bind-alike₁ _ (new-alike d Root a s₁ q₁ e₁) (λ (i, s₂) q₂ e₂.
     bind-alike₁ _ (insert-alike d _ s₂ q₂ e₂) (λ (l, s₃) q₃ e₃.
-    bind-alike _ (activate-alike d a s₃ q₃ e₃) (λ s₄ q₄ e₄. accepted (q₄, e₄, refl))))))
+    bind-alike _ (activate-alike [] d a s₃ q₃ e₃) (λ s₄ q₄ e₄. accepted (q₄, e₄, refl))))))
 
 child-alike : (d p : ℕ) (k : Kind) (a : Access) → Same₁ (addChild d p k a)
 unfolding addChild insertChild
@@ -66,7 +66,7 @@ child-alike d p k a s q e = bind-alike₁ _ (new-alike d k a s q e) (λ (i, s₁
 
 exchange-alike : (d old : ℕ) (a : Access) → Same (exchangeRights d old a)
 unfolding exchangeRights
-exchange-alike d old a s q e = branch (eqb old (a .rights)) (accepted (q, e, refl)) (bind-alike _ (deactivate-alike d _ s q e) (λ s₁ q₁ e₁. activate-alike d a s₁ q₁ e₁))
+exchange-alike d old a s q e = branch (eqb old (a .rights)) (accepted (q, e, refl)) (bind-alike _ (deactivate-alike [] d _ s q e) (λ s₁ q₁ e₁. activate-alike [] d a s₁ q₁ e₁))
 
 pub alias-alike : (h : Handle) (l : ℕ) (a : Access) → Same₁ (aliasRegion h l a)
 unfolding aliasRegion callerWith liveDomain regionHeld capaAt liveRegion
@@ -75,7 +75,7 @@ alias-alike h l a s q e =
     bind-same refl (λ p.
     bind-alike _ (room-alike d a s q e) (λ s₁ q₁ e₁.
     and-same refl (bind-alike₁ _ (child-alike d p (Alias p) a s₁ q₁ e₁) (λ (n, s₂) q₂ e₂.
-    bind-alike _ (activate-alike d a s₂ q₂ e₂) (λ s₃ q₃ e₃. accepted (q₃, e₃, refl)))))))
+    bind-alike _ (activate-alike [] d a s₂ q₂ e₂) (λ s₃ q₃ e₃. accepted (q₃, e₃, refl)))))))
 
 pub carve-alike : (h : Handle) (l : ℕ) (a : Access) → Same₁ (carveRegion h l a)
 unfolding carveRegion callerWith liveDomain regionHeld capaAt liveRegion
@@ -122,41 +122,41 @@ leave-queue i Root s e = rw (e, leaveParent)
 leave-queue i (Alias p) s e = rw (e, leaveParent)
 leave-queue i (Carve p) s e = rw (e, leaveParent)
 
-give-alike : (g : Region) (k : Kind) → g .kind ≡ k → Same (giveBack g)
+give-alike : (closing : List ℕ) → (g : Region) (k : Kind) → g .kind ≡ k → Same (giveBack closing g)
 unfolding giveBack
-give-alike g Root k s q e = rw (k, giveBack) (accepted (q, e, refl))
-give-alike g (Alias p) k s q e = rw (k, giveBack) (accepted (q, e, refl))
-give-alike g (Carve p) k s q e = rw (k, giveBack) (activate-alike _ _ s q e)
+give-alike closing g Root k s q e = rw (k, giveBack) (accepted (q, e, refl))
+give-alike closing g (Alias p) k s q e = rw (k, giveBack) (accepted (q, e, refl))
+give-alike closing g (Carve p) k s q e = rw (k, giveBack) (activate-alike closing _ _ s q e)
 
 free-alike : (i : ℕ) → Same (freeRegion i)
 unfolding freeRegion
 free-alike i s q e = bind-same refl (λ p. accepted (q, e, refl))
 
-leaf-alike : (i : ℕ) → Same (revokeLeaf i)
+leaf-alike : (closing : List ℕ) → (i : ℕ) → Same (revokeLeaf closing i)
 unfolding revokeLeaf
-leaf-alike i s q e =
+leaf-alike closing i s q e =
     let g = regionAt s i in
     let out = leaveParent i s in
-    let f = deactivate (g .owner) (accessOf g) in
+    let f = deactivate closing (g .owner) (accessOf g) in
     let left : Both Alike (f out) (f (leaveParent i (withQueue q s))) =
-    subst (λ t. Both Alike (f out) (f t)) (sym (leave-alike i (g .kind) s q refl)) (deactivate-alike (g .owner) (accessOf g) out q (subst (λ r. SameQueue r q) (sym (leave-queue i (g .kind) s refl)) e)) in
+    subst (λ t. Both Alike (f out) (f t)) (sym (leave-alike i (g .kind) s q refl)) (deactivate-alike closing (g .owner) (accessOf g) out q (subst (λ r. SameQueue r q) (sym (leave-queue i (g .kind) s refl)) e)) in
     bind-alike _ left (λ s₁ q₁ e₁.
-    bind-alike _ (give-alike g _ refl s₁ q₁ e₁) (λ s₂ q₂ e₂.
+    bind-alike _ (give-alike closing g _ refl s₁ q₁ e₁) (λ s₂ q₂ e₂.
     bind-alike _ (free-alike i s₂ q₂ e₂) (λ s₃ q₃ e₃.
     branch (has (g .rights) CLEANUP) (push-alike _ s₃ q₃ e₃) (accepted (q₃, e₃, refl)))))
 
-revoke-region-alike : (n i : ℕ) → Same (revokeRegion n i)
+revoke-region-alike : (closing : List ℕ) → (n i : ℕ) → Same (revokeRegion closing n i)
 unfolding revokeRegion
-revoke-region-alike zero i s q e = accepted (q, e, refl)
-revoke-region-alike (suc n) i s q e = go (regionAt s i .children) refl (revoke-region-alike n)
+revoke-region-alike closing zero i s q e = accepted (q, e, refl)
+revoke-region-alike closing (suc n) i s q e = go (regionAt s i .children) refl (revoke-region-alike closing n)
   where
-    go : (cs : List ℕ) → regionAt s i .children ≡ cs → ((j : ℕ) → Same (revokeRegion n j)) → Both Alike (revokeRegion (suc n) i s) (revokeRegion (suc n) i (withQueue q s))
-    go [] k ih = rw (k, revokeRegion) (leaf-alike i s q e)
+    go : (cs : List ℕ) → regionAt s i .children ≡ cs → ((j : ℕ) → Same (revokeRegion closing n j)) → Both Alike (revokeRegion closing (suc n) i s) (revokeRegion closing (suc n) i (withQueue q s))
+    go [] k ih = rw (k, revokeRegion) (leaf-alike closing i s q e)
     go (c ∷ cs) k ih = rw (k, revokeRegion) (bind-alike _ (ih c s q e) (λ s₁ q₁ e₁. ih i s₁ q₁ e₁))
 
 unless-alike : (i : ℕ) → Same (revokeUnlessRoot i)
 unfolding revokeUnlessRoot
-unless-alike i s q e = and-same refl (revoke-region-alike _ i s q e)
+unless-alike i s q e = and-same refl (revoke-region-alike [] _ i s q e)
 
 revoke-capa-alike : (c : Capa) → Same (revokeCapa c)
 unfolding revokeCapa liveRegion

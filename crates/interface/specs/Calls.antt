@@ -35,7 +35,7 @@ aliasBy l a d s = do
   s₁ ← roomForRegion d a s
   require (checkAlias s₁ (regionAt s₁ p) a) beyond
   (n, s₂) ← addChild d p (Alias p) a s₁
-  s₃ ← activate d a s₂
+  s₃ ← activate [] d a s₂
   ok (n, s₃)
 
 abbrev pub carveBy : ℕ → Access → ℕ → State → Outcome (ℕ × State)
@@ -62,7 +62,7 @@ alias-same l a d s =
     bind-same (held-same s d l) (λ p.
     bind-by _ (room-same d a s) (λ s₁.
     and-same refl (bind-by _ (child-same d p (Alias p) a s₁) (λ (n, s₂).
-    bind-by _ (activate-same d a s₂) (λ s₃. accepted refl)))))
+    bind-by _ (activate-same [] d a s₂) (λ s₃. accepted refl)))))
 
 pub carve-same : (l : ℕ) (a : Access) (d : ℕ) (s : State) → Both (By noBits₁) (carveBy l a d s) (carveBy l a d (noBits s))
 carve-same l a d s =
@@ -110,7 +110,7 @@ root-same h a s =
     bind-by _ (room-same d a s) (λ s₁.
     bind-by _ (new-same d Root a s₁) (λ (i, s₂).
     bind-by _ (insert-same d _ s₂) (λ (l, s₃).
-    bind-by _ (activate-same d a s₃) (λ s₄. accepted refl)))))
+    bind-by _ (activate-same [] d a s₃) (λ s₄. accepted refl)))))
 
 pub revoke-same : (h : Handle) (l : ℕ) (s : State) → Both (By noBits) (revoke h l s) (revoke h l (noBits s))
 unfolding revoke

@@ -2,7 +2,7 @@
 -- word is 0, so that this asks for no sound tables.
 use mathlib.Core.Path.{_≡_, refl, sym, ap, subst, _∙_}
 use Prim.Native.Nat.{ℕ, zero, suc}
-use mathlib.Core.Bool.{not, _&&_}
+use mathlib.Core.Bool.{not, _&&_, _||_}
 use mathlib.Core.Option.{Option, none, some, Option·getD}
 use mathlib.Core.List.{List, [], _∷_, map}
 use lib.Dec.{eqb}
@@ -133,17 +133,17 @@ permission-same d m s =
     branch (exists (isPermissionOf h) (s .queue .items)) (accepted refl)
     (subst (λ (x : Domain). Both (By noBits) (push (permission h (domainAt s d .cores) m) s) (push (permission h (x .cores) m) (noBits s))) (sym (domain-at s d)) (push-same (permission h (domainAt s d .cores) m) s))
 
-walk-same : (d : ℕ) (w : Walk) (s : State) → Both (By noBits) (putWalk d w s) (putWalk d w (noBits s))
+walk-same : (closing : List ℕ) → (d : ℕ) (w : Walk) (s : State) → Both (By noBits) (putWalk closing d w s) (putWalk closing d w (noBits s))
 unfolding putWalk
-walk-same d w s =
+walk-same closing d w s =
     let e = ap (withRecordPool (w .pool)) (put-tracker d (w .records) s) in
     let s₁ = withRecordPool (w .pool) (putDomain d (withTracker (w .records) (domainAt s d)) s) in
-    branch (eqb (w .marks) 0) (accepted e) (subst (λ t. Both (By noBits) (pushPermission d (w .marks) s₁) (pushPermission d (w .marks) t)) (sym e) (permission-same d (w .marks) s₁))
+    branch (exists (eqb d) closing || eqb (w .marks) 0) (accepted e) (subst (λ t. Both (By noBits) (pushPermission d (w .marks) s₁) (pushPermission d (w .marks) t)) (sym e) (permission-same d (w .marks) s₁))
 
-pub activate-same : (d : ℕ) (a : Access) (s : State) → Both (By noBits) (activate d a s) (activate d a (noBits s))
+pub activate-same : (closing : List ℕ) → (d : ℕ) (a : Access) (s : State) → Both (By noBits) (activate closing d a s) (activate closing d a (noBits s))
 unfolding activate
-activate-same d a s = bind-same (ap (λ (x : Domain). gain (a .rights) (a .start) (a .end) (x .tracker) (s .recordPool)) (domain-at s d)) (λ w. walk-same d w s)
+activate-same closing d a s = bind-same (ap (λ (x : Domain). gain (a .rights) (a .start) (a .end) (x .tracker) (s .recordPool)) (domain-at s d)) (λ w. walk-same closing d w s)
 
-pub deactivate-same : (d : ℕ) (a : Access) (s : State) → Both (By noBits) (deactivate d a s) (deactivate d a (noBits s))
+pub deactivate-same : (closing : List ℕ) → (d : ℕ) (a : Access) (s : State) → Both (By noBits) (deactivate closing d a s) (deactivate closing d a (noBits s))
 unfolding deactivate
-deactivate-same d a s = bind-same (ap (λ (x : Domain). lose (a .rights) (a .start) (a .end) (x .tracker) (s .recordPool)) (domain-at s d)) (λ w. walk-same d w s)
+deactivate-same closing d a s = bind-same (ap (λ (x : Domain). lose (a .rights) (a .start) (a .end) (x .tracker) (s .recordPool)) (domain-at s d)) (λ w. walk-same closing d w s)

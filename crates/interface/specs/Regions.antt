@@ -47,7 +47,7 @@ room-same d a s = and-same refl (bind-by _ (capacity-same d s) (λ s₁. and-sam
 
 pub exchange-same : (d old : ℕ) (a : Access) (s : State) → Both (By noBits) (exchangeRights d old a s) (exchangeRights d old a (noBits s))
 unfolding exchangeRights
-exchange-same d old a s = branch (eqb old (a .rights)) (accepted refl) (bind-by _ (deactivate-same d _ s) (λ s₁. activate-same d a s₁))
+exchange-same d old a s = branch (eqb old (a .rights)) (accepted refl) (bind-by _ (deactivate-same [] d _ s) (λ s₁. activate-same [] d a s₁))
 
 -- ---- send
 
@@ -55,8 +55,8 @@ ranges-same : (old new r : ℕ) (xs : List Range) (s : State) → Both (By noBit
 unfolding sendRanges
 ranges-same old new r [] s = accepted refl
 ranges-same old new r (x ∷ xs) s =
-    bind-by _ (deactivate-same old _ s) (λ s₁.
-    bind-by _ (activate-same new _ s₁) (λ s₂.
+    bind-by _ (deactivate-same [] old _ s) (λ s₁.
+    bind-by _ (activate-same [] new _ s₁) (λ s₂.
     ranges-same old new r xs s₂))
 
 send-region-same : (i new : ℕ) (s : State) → Both (By noBits) (sendRegion i new s) (sendRegion i new (noBits s))
@@ -81,34 +81,34 @@ send-capa-same (channel h) to o s = accepted refl
 
 -- ---- revoke
 
-give-same : (g : Region) (k : Kind) (s : State) → g .kind ≡ k → Both (By noBits) (giveBack g s) (giveBack g (noBits s))
+give-same : (closing : List ℕ) → (g : Region) (k : Kind) (s : State) → g .kind ≡ k → Both (By noBits) (giveBack closing g s) (giveBack closing g (noBits s))
 unfolding giveBack
-give-same g Root s e = rw (e, giveBack) (accepted refl)
-give-same g (Alias p) s e = rw (e, giveBack) (accepted refl)
-give-same g (Carve p) s e = rw (e, giveBack) (activate-same _ _ s)
+give-same closing g Root s e = rw (e, giveBack) (accepted refl)
+give-same closing g (Alias p) s e = rw (e, giveBack) (accepted refl)
+give-same closing g (Carve p) s e = rw (e, giveBack) (activate-same closing _ _ s)
 
-leaf-same : (i : ℕ) (s : State) → Both (By noBits) (revokeLeaf i s) (revokeLeaf i (noBits s))
+leaf-same : (closing : List ℕ) → (i : ℕ) (s : State) → Both (By noBits) (revokeLeaf closing i s) (revokeLeaf closing i (noBits s))
 unfolding revokeLeaf
-leaf-same i s =
+leaf-same closing i s =
     let g = regionAt s i in
-    let left : Both (By noBits) (deactivate (g .owner) (accessOf g) (leaveParent i s)) (deactivate (g .owner) (accessOf g) (leaveParent i (noBits s))) = subst (λ t. Both (By noBits) (deactivate (g .owner) (accessOf g) (leaveParent i s)) (deactivate (g .owner) (accessOf g) t)) (sym (leave-same i (g .kind) s refl)) (deactivate-same (g .owner) (accessOf g) (leaveParent i s)) in
+    let left : Both (By noBits) (deactivate closing (g .owner) (accessOf g) (leaveParent i s)) (deactivate closing (g .owner) (accessOf g) (leaveParent i (noBits s))) = subst (λ t. Both (By noBits) (deactivate closing (g .owner) (accessOf g) (leaveParent i s)) (deactivate closing (g .owner) (accessOf g) t)) (sym (leave-same i (g .kind) s refl)) (deactivate-same closing (g .owner) (accessOf g) (leaveParent i s)) in
     bind-by _ left (λ s₁.
-    bind-by _ (give-same g _ s₁ refl) (λ s₂.
+    bind-by _ (give-same closing g _ s₁ refl) (λ s₂.
     bind-by _ (free-same i s₂) (λ s₃.
     branch (has (g .rights) CLEANUP) (push-same _ s₃) (accepted refl))))
 
-revoke-region-same : (n i : ℕ) (s : State) → Both (By noBits) (revokeRegion n i s) (revokeRegion n i (noBits s))
+revoke-region-same : (closing : List ℕ) → (n i : ℕ) (s : State) → Both (By noBits) (revokeRegion closing n i s) (revokeRegion closing n i (noBits s))
 unfolding revokeRegion
-revoke-region-same zero i s = accepted refl
-revoke-region-same (suc n) i s = go (regionAt s i .children) refl (λ j t. revoke-region-same n j t)
+revoke-region-same closing zero i s = accepted refl
+revoke-region-same closing (suc n) i s = go (regionAt s i .children) refl (λ j t. revoke-region-same closing n j t)
   where
-    go : (cs : List ℕ) → regionAt s i .children ≡ cs → ((j : ℕ) (t : State) → Both (By noBits) (revokeRegion n j t) (revokeRegion n j (noBits t))) → Both (By noBits) (revokeRegion (suc n) i s) (revokeRegion (suc n) i (noBits s))
-    go [] e ih = rw (e, revokeRegion) (leaf-same i s)
+    go : (cs : List ℕ) → regionAt s i .children ≡ cs → ((j : ℕ) (t : State) → Both (By noBits) (revokeRegion closing n j t) (revokeRegion closing n j (noBits t))) → Both (By noBits) (revokeRegion closing (suc n) i s) (revokeRegion closing (suc n) i (noBits s))
+    go [] e ih = rw (e, revokeRegion) (leaf-same closing i s)
     go (c ∷ cs) e ih = rw (e, revokeRegion) (bind-by _ (ih c s) (λ s₁. ih i s₁))
 
 unless-same : (i : ℕ) (s : State) → Both (By noBits) (revokeUnlessRoot i s) (revokeUnlessRoot i (noBits s))
 unfolding revokeUnlessRoot
-unless-same i s = and-same refl (revoke-region-same _ i s)
+unless-same i s = and-same refl (revoke-region-same [] _ i s)
 
 pub revoke-capa-same : (c : Capa) (s : State) → Both (By noBits) (revokeCapa c s) (revokeCapa c (noBits s))
 unfolding revokeCapa

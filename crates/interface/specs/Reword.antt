@@ -116,7 +116,7 @@ module _ (g : ℕ → ℕ) (s : State) (k : Sound s) where
       };
       trackers = λ d y e. let (x, n, q) = back d y e in subst (λ (z : Domain). TrackerSound (s .regions) d (z .tracker)) (sym q) (k .tracked .trackers d x n);
     };
-    queue = queue-onward (s .sizes .updates) (s .domainPool) (s .domainPool) (s .domains) ds live-on (s .queue) (k .queue);
+    queue = queue-onward (s .sizes .updates) (s .domainPool) (s .domainPool) (s .domains) ds (fits-onward (s .domainPool) (s .domainPool) (s .domains) ds (λ n t. live-fits (s .domainPool) ds n (live-on n t)) (λ i. le-refl _)) (s .queue) (k .queue);
   }
 
 -- ---- the words of the tables

@@ -2,7 +2,7 @@
 use mathlib.Core.Path.{_≡_, refl, sym, ap, _∙_}
 use mathlib.Core.Logic.{_≢_}
 use Prim.Native.Nat.{ℕ, suc, _≤_, _<_}
-use mathlib.Core.Bool.{true, false}
+use mathlib.Core.Bool.{true, false, _||_}
 use mathlib.Core.Option.{none, some}
 use mathlib.Core.List.{List, []}
 use native.Mathlib.Omega.{arith}
@@ -41,26 +41,26 @@ permission-pool : (d m : ℕ) (s : State) → All (SamePool s) (pushPermission d
 unfolding pushPermission
 permission-pool d m s = branch (exists (isPermissionOf (handleOf (s .domainPool) d)) (s .queue .items)) (accepted refl) (push-pool _ s)
 
-walk-pool : (d : ℕ) (w : Walk) (s : State) → All (SamePool s) (putWalk d w s)
+walk-pool : (closing : List ℕ) → (d : ℕ) (w : Walk) (s : State) → All (SamePool s) (putWalk closing d w s)
 unfolding putWalk
-walk-pool d w s = branch (eqb (w .marks) 0) (accepted refl) (permission-pool d (w .marks) (withRecordPool (w .pool) (putDomain d (withTracker (w .records) (domainAt s d)) s)))
+walk-pool closing d w s = branch (exists (eqb d) closing || eqb (w .marks) 0) (accepted refl) (permission-pool d (w .marks) (withRecordPool (w .pool) (putDomain d (withTracker (w .records) (domainAt s d)) s)))
 
-activate-pool : (d : ℕ) (a : Access) (s : State) → All (SamePool s) (activate d a s)
+activate-pool : (closing : List ℕ) → (d : ℕ) (a : Access) (s : State) → All (SamePool s) (activate closing d a s)
 unfolding activate
-activate-pool d a s = bind-any _ (λ w. walk-pool d w s)
+activate-pool closing d a s = bind-any _ (λ w. walk-pool closing d w s)
 
-deactivate-pool : (d : ℕ) (a : Access) (s : State) → All (SamePool s) (deactivate d a s)
+deactivate-pool : (closing : List ℕ) → (d : ℕ) (a : Access) (s : State) → All (SamePool s) (deactivate closing d a s)
 unfolding deactivate
-deactivate-pool d a s = bind-any _ (λ w. walk-pool d w s)
+deactivate-pool closing d a s = bind-any _ (λ w. walk-pool closing d w s)
 
-give-kind : (g : Region) (k : Kind) (s : State) → All (SamePool s) (giveBack (record { owner = g .owner; kind = k; start = g .start; end = g .end; rights = g .rights; children = g .children; hash = g .hash }) s)
+give-kind : (closing : List ℕ) → (g : Region) (k : Kind) (s : State) → All (SamePool s) (giveBack closing (record { owner = g .owner; kind = k; start = g .start; end = g .end; rights = g .rights; children = g .children; hash = g .hash }) s)
 unfolding giveBack
-give-kind g Root s = accepted refl
-give-kind g (Alias p) s = accepted refl
-give-kind g (Carve p) s = activate-pool _ _ s
+give-kind closing g Root s = accepted refl
+give-kind closing g (Alias p) s = accepted refl
+give-kind closing g (Carve p) s = activate-pool closing _ _ s
 
-give-pool : (g : Region) (s : State) → All (SamePool s) (giveBack g s)
-give-pool g s = give-kind g (g .kind) s
+give-pool : (closing : List ℕ) → (g : Region) (s : State) → All (SamePool s) (giveBack closing g s)
+give-pool closing g s = give-kind closing g (g .kind) s
 
 out-pool : (p i : ℕ) (s : State) → SamePool s (removeChild p i s)
 unfolding removeChild
@@ -83,11 +83,11 @@ free-gens : (i : ℕ) (s : State) → All (λ t. t .regionPool .gens ≡ raised 
 unfolding freeRegion free
 free-gens i s = bind {P = λ p. p .gens ≡ raised i (s .regionPool .gens)} (and-then _ (accepted refl)) (λ p e. accepted e)
 
-leaf-gens : (i : ℕ) (s : State) → All (λ t. t .regionPool .gens ≡ raised i (s .regionPool .gens)) (revokeLeaf i s)
+leaf-gens : (closing : List ℕ) → (i : ℕ) (s : State) → All (λ t. t .regionPool .gens ≡ raised i (s .regionPool .gens)) (revokeLeaf closing i s)
 unfolding revokeLeaf
-leaf-gens i s =
-    bind (deactivate-pool _ _ (leaveParent i s)) (λ s₁ a.
-    bind (give-pool _ s₁) (λ s₂ b.
+leaf-gens closing i s =
+    bind (deactivate-pool closing _ _ (leaveParent i s)) (λ s₁ a.
+    bind (give-pool closing _ s₁) (λ s₂ b.
     bind (free-gens i s₂) (λ s₃ c.
     let all = c ∙ ap (λ p. raised i (p .gens)) (b ∙ a ∙ leave-pool i s) in
     branch (has (regionAt s i .rights) CLEANUP) (weaken (push-pool _ s₃) (λ t d. ap (λ p. p .gens) d ∙ all)) (accepted all))))
@@ -139,10 +139,10 @@ module _ (s₀ s t : State) (i p : ℕ) (g h : Region) (k : GensAfter s₀ s) (o
     ];
   }
 
-leaves-gens : (s₀ : State) → Leaves (GensAfter s₀)
+leaves-gens : (closing : List ℕ) (s₀ : State) → Leaves closing (GensAfter s₀)
 unfolding Leaves
-leaves-gens s₀ s i p g h k ok e empty n at = weaken (both (leaf-gens i s) (leaf-regions i p g h s e n at)) (λ t q. leaf-next s₀ s t i p g h k ok e empty n at (q .0) (q .1))
+leaves-gens closing s₀ s i p g h k ok e empty n at = weaken (both (leaf-gens closing i s) (leaf-regions closing i p g h s e n at)) (λ t q. leaf-next s₀ s t i p g h k ok e empty n at (q .0) (q .1))
 
 -- THEOREM: after the revoke of region i with all below it
-pub revoke-gens : (s : State) → length (s .regionPool .gens) ≡ length (s .regions) → Regions (s .regions) → (i p : ℕ) (g : Region) → In (s .regions) i g → parentOf (g .kind) ≡ some p → All (λ t. GensAfter s t × Revoked (s .regions) i (t .regions)) (revokeRegion (liveCount s) i s)
-revoke-gens s z ok i p g e n = revoke-all (GensAfter s) (leaves-gens s) s i p g (gens-self s z) ok e n
+pub revoke-gens : (closing : List ℕ) → (s : State) → length (s .regionPool .gens) ≡ length (s .regions) → Regions (s .regions) → (i p : ℕ) (g : Region) → In (s .regions) i g → parentOf (g .kind) ≡ some p → All (λ t. GensAfter s t × Revoked (s .regions) i (t .regions)) (revokeRegion closing (liveCount s) i s)
+revoke-gens closing s z ok i p g e n = revoke-all closing (GensAfter s) (leaves-gens closing s) s i p g (gens-self s z) ok e n

@@ -3,7 +3,7 @@ use mathlib.Core.Path.{_≡_, refl, sym, ap, _∙_}
 use Prim.Native.Nat.{ℕ, zero, suc, _+_, _≤_, _<_}
 use mathlib.Core.Bool.{Bool, true, false, not, _&&_}
 use mathlib.Core.Option.{Option, none, some, Option·getD}
-use mathlib.Core.List.{List}
+use mathlib.Core.List.{List, []}
 use native.Mathlib.Omega.{arith}
 use lib.Dec.{eqb, eqb→eq}
 use lib.ListN.{length, getD}
@@ -237,5 +237,5 @@ revoke-region-match b s at place k sound m u l =
     let e = some-is (atSlot (s .regions) i) noneRegion (and-left (isSome (atSlot (s .regions) i)) _ l) in
     let n = not-root (regionAt s i .kind) r in
     let q = parent-of (λ j. at j .slot) (noted (b .regions) k .kind) (n .0) (ap parentOf (sym (m .regions .stored k u a .kind)) ∙ n .1) in
-    weaken (both (revoke-region-agree s (sound-agree s sound) i (n .0) (regionAt s i) e (n .1)) (revoke-gens s (sound .outside .regionPool .gensLength ∙ sym (sound .outside .regionsLength)) (sound .outside .regions) i (n .0) (regionAt s i) e (n .1)))
+    weaken (both (revoke-region-agree [] s (sound-agree s sound) i (n .0) (regionAt s i) e (n .1)) (revoke-gens [] s (sound .outside .regionPool .gensLength ∙ sym (sound .outside .regionsLength)) (sound .outside .regions) i (n .0) (regionAt s i) e (n .1)))
     (λ t z. killed-match b s t at place m k u a (q .0) (q .1) (z .0 .0 .1) (z .1 .0) (z .1 .1)))
