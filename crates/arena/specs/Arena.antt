@@ -33,6 +33,10 @@ isFreeB a i = ltb 0 (getD (a .links) i 0)
 unfoldable pub liveB : Arena → Handle → Bool
 liveB a h = both (ltb (h .slot) (length (a .links))) (both (eqb (getD (a .links) (h .slot) 0) 0) (eqb (getD (a .gens) (h .slot) 0) (h .generation)))
 
+-- the handle is older than its slot's generation
+abbrev pub olderB : Arena → Handle → Bool
+olderB a h = ltb (h .generation) (getD (a .gens) (h .slot) 0)
+
 unfoldable pub capacityOf : Arena → ℕ
 capacityOf a = length (a .links) - a .count
 

@@ -12,11 +12,11 @@ use Rattle.base.specs.Tests.{both-true}
 use Rattle.tables.specs.declared.Handle.{Handle}
 use Rattle.tables.specs.declared.Slot.{Slot}
 use Rattle.tables.specs.Tables.{Tables, Arena, headAt, slotAt, regionAt}
-use Rattle.arena.specs.Arena.{liveB}
+use Rattle.arena.specs.Arena.{liveB, olderB}
 use Rattle.decoded.specs.Shape.{Shaped}
 use Rattle.decoded.specs.Decode.Read.{taken}
 use Rattle.decoded.specs.Canonical.Pools.{taken-used, not-taken}
-use Rattle.sound_capas.specs.Capas.{number, wrong, namesB, olderB, claimBy, regionClaim, revokeClaim, managementClaim, slotClaim, climbed, headClaim, rowClaim, named, managerOf}
+use Rattle.sound_capas.specs.Capas.{number, wrong, namesB, claimBy, regionClaim, revokeClaim, managementClaim, slotClaim, climbed, headClaim, rowClaim, named, managerOf}
 use Rattle.exact_capas.specs.Reads.{Lives, lives, live-at}
 
 -- ---- a handle

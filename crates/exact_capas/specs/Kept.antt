@@ -22,13 +22,13 @@ use Rattle.laws.specs.Lists.{one-true}
 use Rattle.laws.specs.Words.SameTables.{unlink}
 use Rattle.tables.specs.declared.Handle.{Handle}
 use Rattle.tables.specs.Tables.{Tables, noDomain, headAt, slotAt, regionAt}
-use Rattle.arena.specs.Arena.{liveB}
+use Rattle.arena.specs.Arena.{liveB, olderB}
 use Rattle.decoded.specs.Rows.{map-up-length}
 use Rattle.decoded.specs.Shape.{Shaped}
 use Rattle.decoded.specs.Decode.Read.{poolFrom, taken, linked, kindFrom, capaFrom, heldIn, domainRead, regionRead, domainsFrom, regionsFrom, stateOf}
 use Rattle.decoded.specs.Canonical.Pools.{table-used, table-in}
 use Rattle.decoded.specs.Canonical.Pools.{table-used, table-in}
-use Rattle.sound_capas.specs.Capas.{managerOf, olderB, above, climbed, rowClaim}
+use Rattle.sound_capas.specs.Capas.{managerOf, above, climbed, rowClaim}
 use Rattle.sound_capas.specs.Managers.{climb-none}
 use Rattle.exact_capas.specs.Clauses.{Before, CapasClauses}
 use Rattle.exact_capas.specs.Reads.{Lives, lives, live-read, fit-out}

@@ -14,13 +14,12 @@ use Rattle.model.specs.Pool.{isLive}
 use Rattle.model.specs.Sound.{LiveOrOlder}
 use Rattle.tables.specs.declared.Handle.{Handle}
 use Rattle.tables.specs.Tables.{Arena}
-use Rattle.arena.specs.Arena.{liveB}
+use Rattle.arena.specs.Arena.{liveB, olderB}
 use Rattle.decoded.specs.Rows.{map-up-length}
 use Rattle.decoded.specs.Shape.{PoolShaped}
 use Rattle.decoded.specs.Decode.Read.{poolFrom, taken, tableFrom, handleFrom}
 use Rattle.decoded.specs.Canonical.Pools.{table-used, table-free}
 use Rattle.decoded.specs.Canonical.Pools.{table-used, table-free}
-use Rattle.sound_capas.specs.Capas.{olderB}
 
 -- a live handle: its slot is in use, and has its generation
 pub record Lives (n : ℕ) (a : Arena) (h : Handle) : Type 0 where

@@ -4,12 +4,13 @@ use mathlib.Core.Logic.{_↔_}
 use Prim.Native.Nat.{ℕ, _+_, _-_, _%_, _≤_, _<_}
 use mathlib.Core.Bool.{Bool, true, false, not}
 use mathlib.Core.List.{map}
+use Rattle.arena.specs.Arena.{liveB, olderB}
 use native.Mathlib.Omega.{arith}
 use native.Mathlib.Nat.{mod-lt}
 use native.Mathlib.Decide.{ℕ-discrete}
 use borrow.Author.Tests.{ltb-true, not-true, lt-ltb, le-ltb, eq-eqb, ne-eqb}
 use lib.Dec.{ltb}
-use Rattle.base.specs.Cases.{lt, ge, cmp, holds, fails, test}
+use Rattle.base.specs.Cases.{pick, lt, ge, cmp, holds, fails, test}
 use Rattle.base.specs.Tests.{both, both-true, is-true, true-is, both-i, all-at, at-all, true-false}
 use Rattle.base.specs.Rounds.{along-at}
 use Rattle.model.specs.Lists.{countUp}
@@ -26,9 +27,9 @@ use Rattle.decoded.specs.Decode.Places.{along, items-are}
 use Rattle.decoded.specs.Canonical.WellFormed.{QueueWellFormed, UpdateWellFormed, place, placeMark, behind}
 use Rattle.decoded.specs.Canonical.Ring.{along-back}
 use Rattle.decoded.specs.Canonical.Sound.{queue-walked}
-use Rattle.sound_updates.specs.Updates.{clearB, wellFormedB, handleAt, liveIn, updateFits, marksFit, sameDomain}
+use Rattle.sound_updates.specs.Updates.{clearB, wellFormedB, handleAt, fitsIn, updateFits, marksFit, sameDomain}
 use Rattle.sound_queue.specs.Ring.{allIn, numbered, markNumbered, numbersHold, noneSame, singly, queueHolds}
-use Rattle.exact_capas.specs.Reads.{live-read}
+use Rattle.exact_capas.specs.Reads.{fit-in, fit-out}
 use Rattle.exact_queue.specs.Clauses.{Stored, QueueClauses}
 use Rattle.exact_queue.specs.Fits.{zero-is, fit-small, fit-none, marks-fit, well-formed-is, is-cleanup, is-well-formed, is-same, same-is}
 use Rattle.exact_queue.specs.Updates.{each-up, up-each, apart-singly, singly-apart, permission-read, cleanup-read, permission-is, names-is, is-names}
@@ -48,22 +49,30 @@ module _ (v : Tables) (s : Shaped v) where
   abbrev D : ℕ
   D = v .sizes .domains
 
-  abbrev Live : Update → ℕ → Type 0
-  Live u x = QueuedFit (poolFrom D (v .domainPool)) (domainsFrom v) (updateFrom u x)
+  abbrev Fit : Update → ℕ → Type 0
+  Fit u x = QueuedFit (poolFrom D (v .domainPool)) (domainsFrom v) (updateFrom u x)
 
-  live-is : (u : Update) (x : ℕ) → liveIn v u ≡ true → Live u x
+  -- where the first does not hold, the second does
+  otherwise : (b c : Bool) → pick b true c ≡ true → b ≡ false → c ≡ true
+  otherwise b c h e = rw e at h
+
+  either : (b c : Bool) → (b ≡ false → c ≡ true) → pick b true c ≡ true
+  either true c h = refl
+  either false c h = h refl
+
+  fit-is : (u : Update) (x : ℕ) → fitsIn v u ≡ true → Fit u x
   unfolding domainsFrom
-  live-is u x h = elim (ℕ-discrete (u .kind) 1) [
-    | yes e ↦ subst (QueuedFit (poolFrom D (v .domainPool)) (domainsFrom v)) (sym (permission-read u x e)) (true-is (live-read D (v .domainPool) (s .domainPool) (domainRead v) (handleAt u) ∙ (rw (eq-eqb (u .kind) 1 e) at h)))
+  fit-is u x h = elim (ℕ-discrete (u .kind) 1) [
+    | yes e ↦ subst (QueuedFit (poolFrom D (v .domainPool)) (domainsFrom v)) (sym (permission-read u x e)) (fit-in D (v .domainPool) (s .domainPool) (domainRead v) (handleAt u) (otherwise (liveB (v .domainPool) (handleAt u)) (olderB (v .domainPool) (handleAt u)) (rw (eq-eqb (u .kind) 1 e) at h)))
     | no ne ↦ subst (QueuedFit (poolFrom D (v .domainPool)) (domainsFrom v)) (sym (cleanup-read u x ne)) tt
   ]
 
-  is-live : (u : Update) (x : ℕ) → Live u x → liveIn v u ≡ true
+  is-fit : (u : Update) (x : ℕ) → Fit u x → fitsIn v u ≡ true
   unfolding domainsFrom
-  is-live u x q = elim (ℕ-discrete (u .kind) 1) [
+  is-fit u x q = elim (ℕ-discrete (u .kind) 1) [
     | yes e ↦
         let y = subst (QueuedFit (poolFrom D (v .domainPool)) (domainsFrom v)) (permission-read u x e) q in
-        rw (eq-eqb (u .kind) 1 e) (sym (live-read D (v .domainPool) (s .domainPool) (domainRead v) (handleAt u)) ∙ is-true y)
+        rw (eq-eqb (u .kind) 1 e) (either (liveB (v .domainPool) (handleAt u)) (olderB (v .domainPool) (handleAt u)) (fit-out D (v .domainPool) (s .domainPool) (domainRead v) (handleAt u) y))
     | no ne ↦ rw (ne-eqb (u .kind) 1 ne)
   ]
 
@@ -106,13 +115,13 @@ module _ (v : Tables) (s : Shaped v) where
       unfolding numbersHold numbered markNumbered updateAt markAt
       number-fits j b = both-true _ _ (in-true numberFits 0 n each j (omega arith) b)
 
-      queued-fits : (j : ℕ) → j < m → UpdateWellFormed (place v (spot j)) (placeMark v (spot j)) × Live (place v (spot j)) (placeMark v (spot j))
+      queued-fits : (j : ℕ) → j < m → UpdateWellFormed (place v (spot j)) (placeMark v (spot j)) × Fit (place v (spot j)) (placeMark v (spot j))
       unfolding updateFits
       queued-fits j b =
           let u = place v (spot j) in
           let f = number-fits j (omega (arith, some-places)) in
-          let p = both-true (wellFormedB u) (liveIn v u) (rw (lt-ltb j m b) at (f .0)) in
-          (well-formed-is u (placeMark v (spot j)) (p .0) (f .1), live-is u (placeMark v (spot j)) (p .1))
+          let p = both-true (wellFormedB u) (fitsIn v u) (rw (lt-ltb j m b) at (f .0)) in
+          (well-formed-is u (placeMark v (spot j)) (p .0) (f .1), fit-is u (placeMark v (spot j)) (p .1))
 
       clear-fits : (j : ℕ) → j < n → m ≤ j → (place v (spot j) ≡ noUpdate) × (placeMark v (spot j) ≡ 0)
       unfolding updateFits
@@ -181,7 +190,7 @@ module _ (v : Tables) (s : Shaped v) where
           let u = place v (spot j) in
           let x = placeMark v (spot j) in
           elim (cmp j m) [
-            | lt o ↦ rw (lt-ltb j m o) (both-i (wellFormedB u) (liveIn v u) (is-well-formed u x (queued j o)) (is-live u x (up-each (QueuedFit (poolFrom D (v .domainPool)) (domainsFrom v)) item 0 m (q .handlesFit) j (omega arith) (omega arith))))
+            | lt o ↦ rw (lt-ltb j m o) (both-i (wellFormedB u) (fitsIn v u) (is-well-formed u x (queued j o)) (is-fit u x (up-each (QueuedFit (poolFrom D (v .domainPool)) (domainsFrom v)) item 0 m (q .handlesFit) j (omega arith) (omega arith))))
             | ge o ↦ rw (le-ltb j m o) (ap clearB (unqueued j b o .0))
           ]
 

@@ -13,7 +13,7 @@ use Rattle.tables.specs.declared.Slot.{Slot}
 use Rattle.tables.specs.declared.RegionCapa.{RegionCapa}
 use Rattle.tables.specs.Kinds.{REGION, «REGION_REVOKE», MANAGEMENT, CHANNEL, ROOT}
 use Rattle.tables.specs.Tables.{Tables, Arena, headAt, slotAt, regionAt}
-use Rattle.arena.specs.Arena.{isFreeB, liveB, capacityOf}
+use Rattle.arena.specs.Arena.{isFreeB, liveB, olderB, capacityOf}
 use Rattle.sound_capas.specs.Claims.{claimsHold}
 
 -- ---- numbers and links
@@ -29,9 +29,6 @@ wrong z = z .regions + z .domains + 1
 -- the link names slot d
 abbrev pub namesB : ℕ → ℕ → Bool
 namesB l d = both (ltb 0 l) (eqb (l - 1) d)
-
-abbrev pub olderB : Arena → Handle → Bool
-olderB a h = ltb (h .generation) (getD (a .gens) (h .slot) 0)
 
 -- what a handle claims: `live` where it is live, nothing where it is older than its slot's generation
 unfoldable pub claimBy : ℕ → Arena → Handle → ℕ → ℕ

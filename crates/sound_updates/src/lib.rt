@@ -2,7 +2,7 @@
 // ring itself is tested by crate `sound_queue`.
 ghost use mathlib.Core.Path.{_≡_};
 ghost use Rattle.tables.specs.View.{view, Sized};
-ghost use Rattle.sound_updates.specs.Updates.{clearB, wellFormedB, liveIn, updateFits, marksFit, sameDomain};
+ghost use Rattle.sound_updates.specs.Updates.{clearB, wellFormedB, fitsIn, updateFits, marksFit, sameDomain};
 use tables::Handle;
 use tables::Update;
 
@@ -22,17 +22,20 @@ fn is_well_formed(u: Update) -> bool
     words::both(u.kind == Update::CLEANUP, u.c == 0)
 }
 
-// Whether the domain of a permission update is live.
-fn is_live(t: &[u64], u: Update) -> bool
+// Whether the domain of a permission update is live, or was closed: its handle is then older than the slot's generation.
+fn handle_fits(t: &[u64], u: Update) -> bool
     requires { ⌜ Sized (now t) ⌝ }
-    ensures { λ r. ⌜ r ≡ liveIn (view (now (t .entry))) u ⌝ }
+    ensures { λ r. ⌜ r ≡ fitsIn (view (now (t .entry))) u ⌝ }
 {
     if u.kind == Update::PERMISSION {
         let handle = Handle {
             slot: u.a,
             generation: u.b,
         };
-        return pools::domain_is_live(t, handle);
+        if pools::domain_is_live(t, handle) {
+            return true;
+        }
+        return u.b < pools::domain_generation(t, u.a as usize);
     }
     true
 }
@@ -44,8 +47,8 @@ pub fn update_fits(t: &[u64], u: Update, queued: bool) -> bool
 {
     if queued {
         let well_formed = is_well_formed(u);
-        let live = is_live(t, u);
-        return words::both(well_formed, live);
+        let fits = handle_fits(t, u);
+        return words::both(well_formed, fits);
     }
     is_clear(u)
 }
