@@ -49,7 +49,7 @@ extern "C" {
      (size_t)(domains) * (5 + 3 * (size_t)(slots)) + 8 * (size_t)(regions) + 9 * (size_t)(records) +            \
      4 * ((size_t)(updates) + 1) + 5 * (size_t)(regions) + 2 * (size_t)(domains) + ((size_t)(updates) + 1))
 
-/* The number of words that tables of the last delivery have, for mityvurno_convert_tables: without the marks. */
+/* The number of words that tables from before request 4 have, for mityvurno_convert_tables: without the marks. */
 #define MITYVURNO_FORMER_WORDS(domains, slots, regions, records, updates) \
     (MITYVURNO_WORDS(domains, slots, regions, records, updates) - ((size_t)(updates) + 1))
 
@@ -90,7 +90,7 @@ enum mityvurno_refusal {
     MITYVURNO_BAD_RANGE = 7,    /* start not below end */
     MITYVURNO_BEYOND = 8,       /* the rule of alias or carve is broken */
     MITYVURNO_ROOT = 9,         /* revoking a root, or making its RegionRevoke */
-    MITYVURNO_NOT_CARRIED = 10, /* sending or revoking a Management capability */
+    MITYVURNO_NOT_CARRIED = 10, /* sending a Management capability */
     /* all together */
     MITYVURNO_NO_REGION = 11,      /* no region free */
     MITYVURNO_NO_LOCAL = 12,       /* the capability list is full after the sweep */
@@ -105,7 +105,10 @@ enum mityvurno_refusal {
     MITYVURNO_NO_HASH = 19,  /* HASH in the flag word, and no hash */
     /* a domain's interface */
     MITYVURNO_NOT_ALLOWED = 20, /* the caller's word lacks the bit of this call */
-    MITYVURNO_FROZEN = 21       /* setting a frozen word */
+    MITYVURNO_FROZEN = 21,      /* setting a frozen word */
+    /* closing a domain */
+    MITYVURNO_HOLDS_ROOT = 22, /* a domain to be closed holds a root */
+    MITYVURNO_RUNNING = 23     /* a domain to be closed has a core map that is not 0 */
 };
 
 /* `refusal` is one of the numbers above. A refusal gives its number and nothing else: the other fields are 0 then. */
@@ -165,10 +168,11 @@ typedef struct {
 mityvurno_reply mityvurno_make_tables(MITYVURNO_LENT, uint64_t domains, uint64_t slots, uint64_t regions, uint64_t records,
                                       uint64_t updates);
 
-/* Tables of the last delivery, `old`, become tables of this one in `t`: the same entries and handles, and every queued domain has all five
+/* Tables from before request 4, `old`, become tables with marks in `t`: the same entries and handles, and every queued domain has all five
  * marks, since which rights moved was not kept. `old` is only read. The lengths: MITYVURNO_FORMER_WORDS of `old`; MITYVURNO_WORDS of `t`,
  * `v` and `w`, by the sizes that `old` stores. What `t` held before does not matter; `v` and `w` are two work areas, zero afterwards. Wrong
- * lengths and old tables that are not sound give 1, and `t` is as found. Older tables go through each delivery's converter in turn.
+ * lengths and old tables that are not sound give 1, and `t` is as found. Tables from before request 2 go through that delivery's converter
+ * first.
  * Refusals: none but 1. */
 mityvurno_reply mityvurno_convert_tables(const uint64_t *MITYVURNO_APART old, size_t old_words, uint64_t *MITYVURNO_APART t,
                                          size_t t_words, uint64_t *MITYVURNO_APART v, size_t v_words, uint64_t *MITYVURNO_APART w,
@@ -192,7 +196,7 @@ mityvurno_reply mityvurno_set_core_map(MITYVURNO_LENT, uint64_t domain, uint64_t
  * Refusals: 3, 21. */
 mityvurno_reply mityvurno_set_interface(MITYVURNO_LENT, uint64_t domain, uint64_t generation, uint64_t word);
 
-/* Platform only. The word stays as it is from now on: no call but making lifts the freeze. Freezing twice is accepted. Refusals: 3. */
+/* Platform only. The word stays as it is while the domain lives: only its closing, or a making, ends the freeze. Freezing twice is accepted. Refusals: 3. */
 mityvurno_reply mityvurno_freeze_interface(MITYVURNO_LENT, uint64_t domain, uint64_t generation);
 
 /* A new region, `start` up to but not including `end`; value: its local slot. Refusals: 3, 11, 12, 7; 13, 14, 16. */
@@ -219,7 +223,13 @@ mityvurno_reply mityvurno_send_with_flags(MITYVURNO_LENT, uint64_t domain, uint6
 mityvurno_reply mityvurno_send_with_hash(MITYVURNO_LENT, uint64_t domain, uint64_t generation, uint64_t local, uint64_t target,
                                          uint8_t flags, const uint8_t hash[32]);
 
-/* Revokes what `local` holds or names, a region with all below it. Refusals: 3, 4, 10, 6, 9; 13, 14, 16. */
+/* Revokes what `local` holds or names, a region with all below it; the slot is emptied. Refusals: 3, 4; of a region 6, 9; 13, 14, 16.
+ *
+ * A Management capability closes its domain, and with it every domain that it manages, directly or further down: each one's slots in
+ * rising order are revoked, then its own slot is freed, and its handle is dead from then on. The regions that these domains owned, with all
+ * below them, are dead, parents have their ranges back, and whoever else gained or lost by it is queued; a domain that is closing is not,
+ * but an update of it that was queued before stays in the queue with the dead handle. Refusals then: 3, 4, 3 where the domain is closed
+ * already, 22, 23; 13, 14, 16. Send its roots away and set its core maps to 0 first. */
 mityvurno_reply mityvurno_revoke(MITYVURNO_LENT, uint64_t domain, uint64_t generation, uint64_t local);
 
 /* A RegionRevoke for the region in `local`; value: its local slot. Refusals: 3, 4, 5, 6, 9, 12. */
