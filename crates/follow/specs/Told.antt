@@ -50,7 +50,7 @@ seen-as : (v w : Seen) (d : ℕ) (x : Count) (q : Field → Bool) (l : List Reco
 seen-as v w d x q l e (inl t) = inl t
 seen-as v w d x q l e (inr h) = inr (λ a. h a ∙ sym (e a))
 
-empty-form : Form []
+pub empty-form : Form []
 empty-form = record { rising = tt; merged = tt; reached = tt; uncacheable = tt }
 
 -- ---- making
