@@ -5,6 +5,7 @@ pub mod FewerTables
 pub mod Outcomes
 pub mod NoBits
 pub mod Regions
+pub mod Closing
 pub mod Calls
 pub mod Bits
 pub mod Example

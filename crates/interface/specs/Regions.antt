@@ -97,7 +97,7 @@ leaf-same closing i s =
     bind-by _ (free-same i s₂) (λ s₃.
     branch (has (g .rights) CLEANUP) (push-same _ s₃) (accepted refl))))
 
-revoke-region-same : (closing : List ℕ) → (n i : ℕ) (s : State) → Both (By noBits) (revokeRegion closing n i s) (revokeRegion closing n i (noBits s))
+pub revoke-region-same : (closing : List ℕ) → (n i : ℕ) (s : State) → Both (By noBits) (revokeRegion closing n i s) (revokeRegion closing n i (noBits s))
 unfolding revokeRegion
 revoke-region-same closing zero i s = accepted refl
 revoke-region-same closing (suc n) i s = go (regionAt s i .children) refl (λ j t. revoke-region-same closing n j t)
