@@ -47,7 +47,7 @@ closes-with ds (suc n) d e = ap (λ b. eqb e d || b) (ap (managerPasses (closesW
 closed-same : (s : State) (d e : ℕ) → isClosed (noBits s) d e ≡ isClosed s d e
 closed-same s d e = closes-with (s .domains) (s .sizes .domains) d e
 
-exists-same : {A : Type 0} (p q : A → Bool) (l : List A) → ((x : A) → p x ≡ q x) → exists p l ≡ exists q l
+pub exists-same : {A : Type 0} (p q : A → Bool) (l : List A) → ((x : A) → p x ≡ q x) → exists p l ≡ exists q l
 exists-same p q [] h = refl
 exists-same p q (x ∷ l) h = ap (λ b. b || exists p l) (h x) ∙ ap (λ b. q x || b) (exists-same p q l h)
 
