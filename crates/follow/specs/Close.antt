@@ -28,7 +28,7 @@ use Rattle.laws.specs.Close.Induction.{OfClose, OfRest, Steps, restOf, rest-fre
 use Rattle.follow.specs.Writer.{Seen}
 use Rattle.follow.specs.Steps.{Tracks, tracks-fewer, set-reads}
 use Rattle.follow.specs.Told.{empty-form}
-use Rattle.follow.specs.Revoke.{Stays, Tracking, region-follows}
+use Rattle.follow.specs.Stays.{Stays, Tracking, region-follows}
 
 -- ---- which domains are spoken of
 

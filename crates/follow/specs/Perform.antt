@@ -16,8 +16,6 @@ use Rattle.model.specs.Sound.{Sound}
 use Rattle.laws.specs.Accepted.{All, accepted, bind, bind-any, and-then, weaken, both}
 use Rattle.laws.specs.Interfaces.{Keeps₁, InterfaceCase, interface-case}
 use Rattle.laws.specs.Tree.Slots.{is-live}
-use Rattle.laws.specs.Keep.Agreement.{sound-agree}
-use Rattle.laws.specs.Keep.Base.{sound-base}
 use Rattle.laws.specs.Keep.BaseSteps.{Live}
 use Rattle.laws.specs.Keep.Checks.{domain-live}
 use Rattle.laws.specs.SoundKept.{sound-kept}
@@ -25,7 +23,8 @@ use Rattle.follow.specs.Writer.{Seen, notices, accepts}
 use Rattle.follow.specs.Steps.{Tracks, tracks-fewer, domain-tracks}
 use Rattle.follow.specs.Calls.{channel-call, cores-call, root-call, alias-call, carve-call, send-call, make-revoke-call}
 use Rattle.follow.specs.Told.{make-in-tracks, open-call, pop-go}
-use Rattle.follow.specs.Revoke.{put-live, revoke-call}
+use Rattle.follow.specs.Stays.{put-live}
+use Rattle.follow.specs.Revoke.{revoke-call}
 
 -- ---- where the domain pool stays
 
@@ -69,6 +68,7 @@ plain-keeps s c (InterfaceCase.making z) p = absurd p
 plain-keeps s c (InterfaceCase.opening m n) p = absurd p
 plain-keeps s c (InterfaceCase.setting h n) p = absurd p
 plain-keeps s c (InterfaceCase.freezing h) p = absurd p
+plain-keeps s c (InterfaceCase.revoking h l) p = absurd p
 plain-keeps s c (InterfaceCase.keeping _ k) p = k
 
 module _ (more : Field → Bool) (v : Seen) (s : State) (sound : Sound s) (h : Tracks (Live s) v s) where
@@ -100,7 +100,7 @@ module _ (more : Field → Bool) (v : Seen) (s : State) (sound : Sound s) (h : T
   perform-tracks (Call.Do (Step.Alias k l a)) w = plain (Call.Do (Step.Alias k l a)) w tt (bind (alias-call v s h k l a) (λ x g. accepted g))
   perform-tracks (Call.Do (Step.Carve k l a)) w = plain (Call.Do (Step.Carve k l a)) w tt (bind (carve-call v s h k l a) (λ x g. accepted g))
   perform-tracks (Call.Do (Step.Send k l g o)) w = plain (Call.Do (Step.Send k l g o)) w tt (bind (send-call v s h k l g o) (λ x g. accepted g))
-  perform-tracks (Call.Do (Step.Revoke k l)) w = bind (revoke-call v s (sound-agree s sound, sound-base s sound) h k l) (λ x g. accepted g)
+  perform-tracks (Call.Do (Step.Revoke k l)) w = bind (revoke-call v s sound h k l) (λ x g. accepted g)
   perform-tracks (Call.Do (Step.CreateRevokeCapa k l)) w = plain (Call.Do (Step.CreateRevokeCapa k l)) w tt (bind (make-revoke-call v s h k l) (λ x g. accepted g))
   perform-tracks Call.Pop w = bind {P = λ (x : Option Update × State). Tracks (Live (x .1)) (notices more v (popped (x .0)) (x .1)) (x .1)} (accepted (pop-go more v s (s .queue .readPlace) (s .queue .items) h)) (λ x k. accepted k)
   perform-tracks (Call.Read r) w = bind-any _ (λ x. accepted h)
