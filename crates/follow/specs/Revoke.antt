@@ -1,12 +1,11 @@
 -- Revoke keeps `Tracks` of the live domains: the region goes with all below it, or the managed domain with all that it manages. The caller is not closed, so that
 -- the slot that is emptied is a live domain's.
-use mathlib.Core.Path.{_≡_, sym, ap, subst, _∙_}
+use mathlib.Core.Path.{sym, ap, subst, _∙_}
 use Prim.Native.Nat.{ℕ}
 use mathlib.Core.Bool.{not}
 use mathlib.Core.List.{[]}
 use native.Mathlib.Omega.{arith}
-use lib.Dec.{T}
-use Rattle.model.specs.Lists.{isSome, atSlot, In}
+use Rattle.model.specs.Lists.{atSlot, In}
 use Rattle.model.specs.State.{State, Handle, Domain, Region, Capa, noCapa, region, regionRevoke, management, channel, regionAt}
 use Rattle.model.specs.Pool.{isLive}
 use Rattle.model.specs.Tree.{isRootKind}
