@@ -13,7 +13,7 @@ use Rattle.model.specs.Tree.{accessOf, removeChild}
 use Rattle.model.specs.Regions.{liveCount, deactivate, freeRegion, giveBack, leaveParent, revokeLeaf, revokeRegion}
 use Rattle.model.specs.Closing.{rootToClose, closesRoot, closesRunning, revokeLive, revokeSlot, revokeSlots, freeDomain, closeDomain, liveDomains}
 use Rattle.model.specs.Calls.{closeManaged, liveDomain, liveRegion, revokeUnlessRoot, revokeCapa}
-use Rattle.interface.specs.Outcomes.{Both, accepted, refused, bind-same, and-same, branch}
+use Rattle.interface.specs.Outcomes.{Both, accepted, bind-same, and-same, branch}
 use Rattle.interface.specs.Closing.{exists-same}
 use Rattle.converted.specs.Alike.{SameQueue, Alike, Same, bind-alike, push-alike, activate-alike, deactivate-alike}
 
@@ -113,5 +113,5 @@ unfolding revokeCapa liveRegion
 revoke-capa-alike noCapa s q e = accepted (q, e, refl)
 revoke-capa-alike (region h) s q e = bind-same refl (λ i. unless-alike i s q e)
 revoke-capa-alike (regionRevoke h) s q e = branch (isLive (s .regionPool) (s .regions) h) (unless-alike (h .slot) s q e) (accepted (q, e, refl))
-revoke-capa-alike (management h) s q e = refused
+revoke-capa-alike (management h) s q e = close-managed-alike h s q e
 revoke-capa-alike (channel h) s q e = accepted (q, e, refl)

@@ -17,8 +17,8 @@ use Rattle.model.specs.Readings.{permissions, getRefcount, coreMap}
 use Rattle.model.specs.Perform.{Reading, readTables}
 use Rattle.interface.specs.Outcomes.{Both, accepted, By, Any, bind, bind-by, bind-same, and-same}
 use Rattle.interface.specs.NoBits.{noBits, noBits₁, noBitsIn, Alike, same-refusals, domain-at, capacity-same, capa-same, insert-same, remove-same, empty-same, activate-same}
-use Rattle.interface.specs.Closing.{live-domain-same}
-use Rattle.interface.specs.Regions.{new-same, child-same, room-same, exchange-same, send-capa-same, revoke-capa-same}
+use Rattle.interface.specs.Closing.{live-domain-same, revoke-capa-same}
+use Rattle.interface.specs.Regions.{new-same, child-same, room-same, exchange-same, send-capa-same}
 
 held-same : (s : State) (d l : ℕ) → regionHeld (noBits s) d l ≡ regionHeld s d l
 unfolding regionHeld liveRegion

@@ -1,4 +1,4 @@
--- A close does the same without the bits of domains' words: it reads lists, managers and core maps alone.
+-- The revoke of a capability does the same without the bits of domains' words; so does the close of a domain, which reads lists, managers and core maps alone.
 use mathlib.Core.Path.{_≡_, refl, sym, ap, subst, _∙_}
 use Prim.Native.Nat.{ℕ, zero, suc, _+_}
 use mathlib.Core.Bool.{Bool, false, not, _&&_, _||_}
@@ -14,10 +14,10 @@ use Rattle.model.specs.Pool.{isLive}
 use Rattle.model.specs.Tree.{isRootKind}
 use Rattle.model.specs.Regions.{liveCount}
 use Rattle.model.specs.Closing.{closesWith, isClosed, rootToClose, closesRoot, closesRunning, revokeLive, revokeSlot, revokeSlots, freeDomain, closeDomain, liveDomains}
-use Rattle.model.specs.Calls.{liveDomain, closeManaged}
+use Rattle.model.specs.Calls.{liveDomain, revokeUnlessRoot, closeManaged, revokeCapa}
 use Rattle.interface.specs.Outcomes.{Both, accepted, By, bind-by, bind-same, and-same, branch}
 use Rattle.interface.specs.NoBits.{noBits, noBitsIn, domain-at, live-same}
-use Rattle.interface.specs.Regions.{revoke-region-same}
+use Rattle.interface.specs.Regions.{live-region-same, revoke-region-same}
 
 pub live-domain-same : (s : State) (h : Handle) → liveDomain (noBits s) h ≡ liveDomain s h
 unfolding liveDomain
@@ -104,9 +104,23 @@ unfolding closeDomain
 close-same zero closing d s = accepted refl
 close-same (suc n) closing d s = bind-by _ (subst (λ (x : Domain). Both (By noBits) (revokeSlots (revokeSlot (closeDomain n (d ∷ closing)) (d ∷ closing)) (domainAt s d .locals .held) s) (revokeSlots (revokeSlot (closeDomain n (d ∷ closing)) (d ∷ closing)) (x .locals .held) (noBits s))) (sym (domain-at s d)) (slots-same (closeDomain n (d ∷ closing)) (close-same n (d ∷ closing)) (d ∷ closing) (domainAt s d .locals .held) s)) (λ s₁. free-domain-same d s₁)
 
-pub close-managed-same : (h : Handle) (s : State) → Both (By noBits) (closeManaged h s) (closeManaged h (noBits s))
+close-managed-same : (h : Handle) (s : State) → Both (By noBits) (closeManaged h s) (closeManaged h (noBits s))
 unfolding closeManaged
 close-managed-same h s = bind-same (live-domain-same s h) (λ d.
     and-same (ap (λ b. require (not b) holdsRoot) (closes-root-same s d))
     (and-same (ap (λ b. require (not b) running) (closes-running-same s d))
     (subst (λ n. Both (By noBits) (closeDomain (liveDomains s) [] d s) (closeDomain n [] d (noBits s))) (sym (count-no-bits (s .domains))) (close-same (liveDomains s) [] d s))))
+
+-- ---- the revoke of a capability
+
+unless-same : (i : ℕ) (s : State) → Both (By noBits) (revokeUnlessRoot i s) (revokeUnlessRoot i (noBits s))
+unfolding revokeUnlessRoot
+unless-same i s = and-same refl (revoke-region-same [] _ i s)
+
+pub revoke-capa-same : (c : Capa) (s : State) → Both (By noBits) (revokeCapa c s) (revokeCapa c (noBits s))
+unfolding revokeCapa
+revoke-capa-same noCapa s = accepted refl
+revoke-capa-same (region h) s = bind-same (live-region-same s h) (λ i. unless-same i s)
+revoke-capa-same (regionRevoke h) s = branch (isLive (s .regionPool) (s .regions) h) (unless-same (h .slot) s) (accepted refl)
+revoke-capa-same (management h) s = close-managed-same h s
+revoke-capa-same (channel h) s = accepted refl
