@@ -2,4 +2,5 @@
 pub mod Generations
 pub mod Dying
 pub mod Regions
+pub mod Dead
 pub mod Match
