@@ -57,7 +57,7 @@ pub data SameHeld (P : ℕ → Handle → Type 0) : Option Held → Option Capa 
   sameManagement : {h : Handle} → SameHeld P (some (managementOf h)) (some (management h))
   sameChannel : {h : Handle} → SameHeld P (some (channelOf h)) (some (channel h))
 
-same-map : {P P′ : ℕ → Handle → Type 0} → ((k : ℕ) (h : Handle) → P k h → P′ k h) → (x : Option Held) (y : Option Capa) → SameHeld P x y → SameHeld P′ x y
+pub same-map : {P P′ : ℕ → Handle → Type 0} → ((k : ℕ) (h : Handle) → P k h → P′ k h) → (x : Option Held) (y : Option Capa) → SameHeld P x y → SameHeld P′ x y
 same-map f x y sameFree = sameFree
 same-map f x y sameEmptied = sameEmptied
 same-map f x y (sameRegion p) = sameRegion (f _ _ p)

@@ -8,19 +8,22 @@ use lib.ListN.{length}
 use Rattle.model.specs.Lists.{if_then_else_, isSome, atSlot}
 use Rattle.model.specs.Outcome.{ok, _>>=_, okOr}
 use Rattle.refusals.specs.Refusals.{noSlot}
-use Rattle.model.specs.State.{State, Handle, Capa, noCapa}
+use Rattle.model.specs.State.{State, Handle, Capa, noCapa, noneRegion, regionAt}
 use Rattle.model.specs.Pool.{isLive}
 use Rattle.model.specs.Locals.{capaAt, emptyCapa}
 use Rattle.model.specs.Calls.{liveRegion, revokeUnlessRoot, revokeCapa, revoke}
 use Rattle.model.specs.Sound.{Sound}
-use Rattle.laws.specs.Accepted.{All, accepted, refused, bind, checked}
+use Rattle.laws.specs.Accepted.{All, accepted, refused, bind, checked, weaken}
+use Rattle.laws.specs.Tree.Facts.{not-root}
+use Rattle.laws.specs.Close.Revoke.{revoke-sound}
 use Rattle.laws.specs.Keep.SameDomains.{SameDomains, same-domains-self}
 use Rattle.book.specs.Book.{Book, Held, emptied, heldAt, killed, revoked, closed, openDomains, emptySlot}
+use Rattle.book.specs.Tests.{and-left, some-is}
 use Rattle.book.specs.Matches.{both-set, SameHeld, sameFree, sameEmptied, sameRegion, sameRevoke, sameManagement, sameChannel, AtPlace, MatchesAt, Matches, matches}
 use Rattle.book.specs.Slots.{slots-of, put-match}
 use Rattle.book.specs.Checks.{on-domain, on-region, live-opens}
 use Rattle.book.specs.Held.{held-same}
-use Rattle.book.specs.Revoke.Regions.{revoke-region-match}
+use Rattle.book.specs.Revoke.Regions.{fell-match}
 use Rattle.book.specs.Revoke.Dying.{some-untracked}
 use Rattle.book.specs.Revoke.Dead.{killed-same}
 
@@ -38,7 +41,10 @@ module _ (b : Book) (s : State) (at : ℕ → Handle) (place : ℕ → ℕ) (sou
 
   unless-root : (k : ℕ) → k < length (b .regions) → isLive (s .regionPool) (s .regions) (at k) ≡ true → All (KilledTo k) (revokeUnlessRoot (at k .slot) s)
   unfolding revokeUnlessRoot
-  unless-root k u l = checked _ _ (λ r. revoke-region-match [] b s at place k sound m u l r)
+  unless-root k u l = checked _ _ (λ r.
+      let i = at k .slot in
+      let n = not-root (regionAt s i .kind) r in
+      weaken (revoke-sound [] s sound i (n .0) (regionAt s i) (some-is (atSlot (s .regions) i) noneRegion (and-left (isSome (atSlot (s .regions) i)) _ l)) (n .1)) (λ t f. (fell-match b s t at place k (n .0) m u l (n .1) f, f .sameDomains)))
 
   held-at : (k : ℕ) → k < length (b .regions) → All (KilledTo k) (liveRegion s (at k) >>= λ i. revokeUnlessRoot i s)
   held-at k u = on-region s (at k) _ (λ l. unless-root k u l)

@@ -1,11 +1,11 @@
 -- Revoking a live region: it and all below it die, in the book and in the tables.
 use mathlib.Core.Path.{_≡_, refl, sym, ap, _∙_}
 use Prim.Native.Nat.{ℕ, zero, suc, _+_, _≤_, _<_}
-use mathlib.Core.Bool.{Bool, true, false, not, _&&_}
+use mathlib.Core.Bool.{Bool, true, false, _&&_}
 use mathlib.Core.Option.{Option, none, some, Option·getD}
 use mathlib.Core.List.{List, []}
 use native.Mathlib.Omega.{arith}
-use lib.Dec.{T, eqb, eqb→eq}
+use lib.Dec.{eqb, eqb→eq}
 use lib.ListN.{length, getD}
 use borrow.Author.Tests.{eq-eqb}
 use Rattle.base.specs.Cases.{holds, fails, test}
@@ -14,22 +14,16 @@ use Rattle.base.specs.Options.{none-some, some-same}
 use Rattle.model.specs.Lists.{isSome, atSlot, In, if_then_else_}
 use Rattle.model.specs.State.{State, Handle, Domain, Region, parentOf, noneRegion, regionAt}
 use Rattle.model.specs.Pool.{isLive, handleOf}
-use Rattle.model.specs.Tree.{isRootKind}
-use Rattle.model.specs.Regions.{revokeRegion, liveCount}
-use Rattle.model.specs.Sound.{Sound}
-use Rattle.laws.specs.Accepted.{All, weaken, both}
 use Rattle.laws.specs.Tree.Change.{bare, same-bare}
 use Rattle.laws.specs.Tree.Below.{Below, Revoked}
 use Rattle.laws.specs.Keep.SameDomains.{SameDomains}
-use Rattle.laws.specs.Keep.Agreement.{sound-agree}
-use Rattle.laws.specs.Keep.RevokeRegion.{revoke-region-agree}
-use Rattle.laws.specs.Tree.Facts.{not-root}
+use Rattle.laws.specs.Tree.Generations.{GensAfter}
+use Rattle.laws.specs.Close.Revoke.{Fell}
 use Rattle.book.specs.Book.{Book, Noted, noted, isUnder, mostAbove, dying, killed}
 use Rattle.book.specs.Demand3.{SameRegion, kindBy}
 use Rattle.book.specs.Tests.{and-left, and-right, or-left, or-right, or-else, some-is, lives-below}
 use Rattle.book.specs.Matches.{both-map, Regions, MatchesAt, list-map}
 use Rattle.book.specs.NewRegion.{old-is-dead}
-use Rattle.book.specs.Revoke.Generations.{GensAfter, revoke-gens}
 use Rattle.book.specs.Revoke.Dying.{parent-at, parent-of, diesIf, dying-length, noted-dying, dies-if-alive, lists-untracked, some-untracked}
 
 most-above : (rs : List Noted) → length rs ≤ mostAbove rs
@@ -221,13 +215,9 @@ module _ (b : Book) (s t : State) (at : ℕ → Handle) (place : ℕ → ℕ) (m
     generations = λ d i. m .generations d (sym (some-untracked (atSlot (t .domains) d) (atSlot (s .domains) d) (others .domains d)) ∙ i) ∙ ap (λ p. getD (p .gens) d 0) (sym (others .domainPool));
   }
 
--- THEOREM: after the revoke of a live region that is no root, the book in which it and all below it died matches; the domains are the same
-pub revoke-region-match : (closing : List ℕ) (b : Book) (s : State) (at : ℕ → Handle) (place : ℕ → ℕ) (k : ℕ) → Sound s → MatchesAt b s at place → k < length (b .regions) → isLive (s .regionPool) (s .regions) (at k) ≡ true → T (not (isRootKind (regionAt s (at k .slot) .kind))) → All (λ t. MatchesAt (killed k b) t at place × SameDomains s t) (revokeRegion closing (liveCount s) (at k .slot) s)
-revoke-region-match closing b s at place k sound m u l r =
-    let i = at k .slot in
+-- THEOREM: a live region that is no root has gone with all below it, and the book in which they died matches
+pub fell-match : (b : Book) (s t : State) (at : ℕ → Handle) (place : ℕ → ℕ) (k p : ℕ) → MatchesAt b s at place → k < length (b .regions) → isLive (s .regionPool) (s .regions) (at k) ≡ true → parentOf (regionAt s (at k .slot) .kind) ≡ some p → Fell s (at k .slot) t → MatchesAt (killed k b) t at place
+fell-match b s t at place k p m u l n f =
     let a : noted (b .regions) k .alive ≡ true = m .regions .aliveIsLive k u ∙ l in
-    let e = some-is (atSlot (s .regions) i) noneRegion (and-left (isSome (atSlot (s .regions) i)) _ l) in
-    let n = not-root (regionAt s i .kind) r in
-    let q = parent-of (λ j. at j .slot) (noted (b .regions) k .kind) (n .0) (ap parentOf (sym (m .regions .stored k u a .kind)) ∙ n .1) in
-    weaken (both (revoke-region-agree closing s (sound-agree s sound) i (n .0) (regionAt s i) e (n .1)) (revoke-gens closing s (sound .outside .regionPool .gensLength ∙ sym (sound .outside .regionsLength)) (sound .outside .regions) i (n .0) (regionAt s i) e (n .1)))
-    (λ t z. (killed-match b s t at place m k u a (q .0) (q .1) (z .0 .0 .1) (z .1 .0) (z .1 .1), z .0 .0 .1))
+    let q = parent-of (λ j. at j .slot) (noted (b .regions) k .kind) p (ap parentOf (sym (m .regions .stored k u a .kind)) ∙ n) in
+    killed-match b s t at place m k u a (q .0) (q .1) (f .sameDomains) (f .generations) (f .revoked)
