@@ -8,3 +8,5 @@ pub mod Between
 pub mod Visit
 pub mod Close
 pub mod Induction
+pub mod Closes
+pub mod Stops

@@ -113,12 +113,16 @@ module _ (s : State) (d : ℕ) (x : Domain) (e : In (s .domains) d x) (t : State
   low : d < length (t .domains)
   low = in-length (t .domains) d (there .0) (there .1)
 
+  low-gen : d < length (t .domainPool .gens)
+  low-gen = omega (arith, b .sound .outside .domainPool .gensLength, b .sound .outside .domainsLength, low)
+
   -- and the domain goes
   pub freed-last : All (Closed s d) (freeDomain d t)
   freed-last = weaken (free-domain-sound t (b .sound) d (there .0) idle-there) (λ u (h, o, r).
       let gone : atSlot (u .domains) d ≡ none = ap (λ (v : State). atSlot (v .domains) d) o ∙ getD-set-same (t .domains) d none none low in
       let other : (k : ℕ) → k ≢ d → atSlot (u .domains) k ≡ atSlot (t .domains) k = λ k n. ap (λ (v : State). atSlot (v .domains) k) o ∙ getD-set-other (t .domains) d k none none n in
       let not-here : (k : ℕ) (y : Domain) → In (u .domains) k y → k ≢ d = λ k y f m. none-some (atSlot (u .domains) d) y gone (subst (λ n. In (u .domains) n y) m f) in
+      let raised : getD (t .domainPool .gens) d 0 < getD (u .domainPool .gens) d 0 = omega (arith, ap (λ (v : State). getD (v .domainPool .gens) d 0) o, getD-set-same (t .domainPool .gens) d (suc (getD (t .domainPool .gens) d 0)) 0 low-gen) in
       let l : Less t u = record {
         sizes = ap (λ (v : State). v .sizes) o;
         regions = λ k z f. ap (λ (v : State). bare (atSlot (v .regions) k)) o;
@@ -127,6 +131,11 @@ module _ (s : State) (d : ℕ) (x : Domain) (e : In (s .domains) d x) (t : State
         domainGens = r;
         regionOwn = λ k z f. ap (λ (v : State). getD (v .regionPool .gens) k 0) o;
         domainOwn = λ k y f. ap (λ (v : State). getD (v .domainPool .gens) k 0) o ∙ getD-set-other (t .domainPool .gens) d k _ 0 (not-here k y f);
+        regionFreed = λ k w f n. absurd (none-some (atSlot (u .regions) k) w n (ap (λ (v : State). atSlot (v .regions) k) o ∙ f));
+        domainFreed = λ k y f n. elim (ℕ-discrete k d) [
+          | yes m ↦ rw m raised
+          | no m ↦ absurd (none-some (atSlot (t .domains) k) y (sym (other k m) ∙ n) f)
+        ];
       } in
       record {
         sound = h;

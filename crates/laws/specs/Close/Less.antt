@@ -28,6 +28,9 @@ pub record Less (s t : State) : Type 0 where
   -- whoever is left has its own generation
   pub regionOwn : (k : ℕ) (z : Region) → In (t .regions) k z → getD (t .regionPool .gens) k 0 ≡ getD (s .regionPool .gens) k 0
   pub domainOwn : (k : ℕ) (y : Domain) → In (t .domains) k y → getD (t .domainPool .gens) k 0 ≡ getD (s .domainPool .gens) k 0
+  -- where somebody has gone the generation has risen
+  pub regionFreed : (k : ℕ) (w : Region) → In (s .regions) k w → atSlot (t .regions) k ≡ none → getD (s .regionPool .gens) k 0 < getD (t .regionPool .gens) k 0
+  pub domainFreed : (k : ℕ) (x : Domain) → In (s .domains) k x → atSlot (t .domains) k ≡ none → getD (s .domainPool .gens) k 0 < getD (t .domainPool .gens) k 0
 
 -- whoever is as it was was there
 pub region-was : (o p : Option Region) (z : Region) → bare o ≡ bare p → o ≡ some z → (w : Region) × (p ≡ some w) × (withChildren [] w ≡ withChildren [] z)
@@ -39,7 +42,12 @@ domain-was o none y b e = absurd (none-some (untracked o) (withTracker [] y) b (
 domain-was o (some x) y b e = (x, refl, let u : untracked o ≡ some (withTracker [] y) = ap untracked e in cc)
 
 pub less-self : (s : State) → Less s s
-less-self s = record { sizes = refl; regions = λ k z e. refl; domains = λ k y e. refl; regionGens = λ i. le-refl _; domainGens = λ i. le-refl _; regionOwn = λ k z e. refl; domainOwn = λ k y e. refl }
+less-self s = record { sizes = refl; regions = λ k z e. refl; domains = λ k y e. refl; regionGens = λ i. le-refl _; domainGens = λ i. le-refl _; regionOwn = λ k z e. refl; domainOwn = λ k y e. refl; regionFreed = λ k w e n. absurd (none-some (atSlot (s .regions) k) w n e); domainFreed = λ k x e n. absurd (none-some (atSlot (s .domains) k) x n e) }
+
+-- in two steps: gone in the first, or in the second
+by-slot : {A : Type 0} {P : Type 0} (o : Option A) → (o ≡ none → P) → ((a : A) → o ≡ some a → P) → P
+by-slot none f g = f refl
+by-slot (some a) f g = g a refl
 
 pub less-then : (s t u : State) → Less s t → Less t u → Less s u
 less-then s t u a b = record {
@@ -50,6 +58,8 @@ less-then s t u a b = record {
   domainGens = λ i. omega (arith, a .domainGens i, b .domainGens i);
   regionOwn = λ k z e. let w = region-was (atSlot (u .regions) k) (atSlot (t .regions) k) z (b .regions k z e) e in b .regionOwn k z e ∙ a .regionOwn k (w .0) (w .1);
   domainOwn = λ k y e. let w = domain-was (atSlot (u .domains) k) (atSlot (t .domains) k) y (b .domains k y e) e in b .domainOwn k y e ∙ a .domainOwn k (w .0) (w .1);
+  regionFreed = λ k w e n. by-slot (atSlot (t .regions) k) (λ m. omega (arith, a .regionFreed k w e m, b .regionGens k)) (λ z m. omega (arith, b .regionFreed k z m n, a .regionGens k));
+  domainFreed = λ k x e n. by-slot (atSlot (t .domains) k) (λ m. omega (arith, a .domainFreed k x e m, b .domainGens k)) (λ y m. omega (arith, b .domainFreed k y m n, a .domainGens k));
 }
 
 pub fell-less : (s t : State) (i : ℕ) → Fell s i t → Less s t
@@ -61,6 +71,8 @@ fell-less s t i f = record {
   domainGens = λ j. omega (arith, ap (λ (p : Pool). getD (p .gens) j 0) (f .sameDomains .domainPool));
   regionOwn = λ k z e. f .generations .kept k (ap isSome e);
   domainOwn = λ k y e. ap (λ (p : Pool). getD (p .gens) k 0) (f .sameDomains .domainPool);
+  regionFreed = λ k w e n. f .generations .freed k (ap isSome e) (ap isSome n);
+  domainFreed = λ k x e n. absurd (none-some (untracked (atSlot (t .domains) k)) (withTracker [] x) (ap untracked n) (f .sameDomains .domains k ∙ ap untracked e));
 }
 
 -- ---- the managers of whoever is left are as they were
