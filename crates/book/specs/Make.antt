@@ -7,10 +7,10 @@ use native.Mathlib.Omega.{arith}
 use lib.ListN.{replicate}
 use Rattle.base.specs.Tests.{true-is}
 use Rattle.model.specs.Lists.{isSome, atSlot}
-use Rattle.model.specs.State.{State, Sizes, Domain, Region}
+use Rattle.model.specs.State.{Sizes, Domain, Region}
 use Rattle.model.specs.Making.{makeTables, makeIn}
 use Rattle.laws.specs.Accepted.{All, accepted, bind, and-then}
-use Rattle.book.specs.Book.{Book, blank}
+use Rattle.book.specs.Book.{blank}
 use Rattle.book.specs.Matches.{both-fresh, notOpened, Matches}
 
 no-slot : (A : Type 0) (n i : ℕ) → isSome (atSlot {A = A} (replicate n none) i) ≡ true → ⊥

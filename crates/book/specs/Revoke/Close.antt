@@ -1,33 +1,36 @@
 -- Closing a domain, slot by slot on both sides: the book that closed it matches the tables that did.
-use mathlib.Core.Path.{_≡_, refl, sym, ap, ap₂, subst, _∙_}
+use mathlib.Core.Path.{_≡_, refl, sym, ap, subst, _∙_}
 use mathlib.Core.Logic.{_≢_}
-use Prim.Native.Nat.{ℕ, zero, suc, _+_, _≤_, _<_}
+use Prim.Native.Nat.{ℕ, zero, suc, _+_, _≤_}
 use mathlib.Core.Bool.{Bool, true, false, not}
 use mathlib.Core.Option.{Option, none, some, Option·getD}
 use mathlib.Core.List.{List, [], _∷_}
 use native.Mathlib.Omega.{arith}
-use native.Mathlib.Decide.{ℕ-discrete}
 use lib.Dec.{T}
 use lib.ListN.{length, getD, set}
 use lib.Seq.{getD-set-other}
 use Rattle.base.specs.Tests.{is-true, is-false, true-false}
-use Rattle.model.specs.Lists.{if_then_else_, oneIf, isSome, countIf, atSlot, In}
+use Rattle.model.specs.Lists.{if_then_else_, isSome, countIf, atSlot, In}
 use Rattle.model.specs.Outcome.{Outcome, ok, _>>=_}
-use Rattle.model.specs.State.{State, Pool, Handle, Capa, noCapa, region, regionRevoke, management, channel, LocalList, Domain, Region, noneRegion, parentOf, regionAt, domainAt}
+use Rattle.model.specs.State.{State, Pool, Handle, Capa, management, Domain, Region, noneDomain, parentOf, regionAt, domainAt}
 use Rattle.model.specs.Pool.{free, isLive}
 use Rattle.model.specs.Regions.{revokeRegion, liveCount}
-use Rattle.model.specs.Closing.{freeDomain, closeDomain, liveDomains}
-use Rattle.laws.specs.Accepted.{All, accepted, bind, and-then, weaken}
+use Rattle.model.specs.Closing.{closesRoot, freeDomain, closeDomain, liveDomains}
+use Rattle.model.specs.Calls.{closeManaged}
+use Rattle.model.specs.Sound.{Sound}
+use Rattle.laws.specs.Accepted.{All, accepted, bind, and-then, weaken, checked}
 use Rattle.laws.specs.Tree.Steps.{region-at, domain-at}
 use Rattle.laws.specs.Close.Revoke.{Fell}
 use Rattle.laws.specs.Close.FreeDomain.{Idle}
 use Rattle.laws.specs.Close.Between.{Closed}
+use Rattle.laws.specs.Close.Closes.{rootless}
 use Rattle.laws.specs.Close.Visit.{Turn, Visit}
 use Rattle.laws.specs.Close.Induction.{restOf, Passes, Names, byRegion, byRevoke, rest-free, rest-passes, rest-revokes, rest-closes, close-begins, OfClose, OfRest, Steps, close-all}
 use Rattle.book.specs.Book.{Book, Held, emptied, regionOf, revokeOf, managementOf, channelOf, Opened, noOpened, slotsOf, isOpen, withOpened, killed, revoked, allRevoked, closed, openDomains}
-use Rattle.book.specs.Matches.{Both, nil, cons, both-map, both-set, SameHeld, sameFree, sameEmptied, sameRegion, sameRevoke, sameManagement, sameChannel, same-map, SameSlots, SameList, notOpened, isOpened, AtPlace, MatchesAt}
+use Rattle.book.specs.Tests.{some-is}
+use Rattle.book.specs.Matches.{Both, nil, cons, both-map, both-set, SameHeld, sameFree, sameEmptied, sameRegion, sameRevoke, sameManagement, sameChannel, same-map, SameList, notOpened, isOpened, AtPlace, MatchesAt}
 use Rattle.book.specs.Slots.{open-is-live, slots-of}
-use Rattle.book.specs.Checks.{with-ok}
+use Rattle.book.specs.Checks.{with-ok, on-domain, live-opens}
 use Rattle.book.specs.Revoke.Dying.{dying-length}
 use Rattle.book.specs.Revoke.Dead.{killed-same}
 use Rattle.book.specs.Revoke.Regions.{fell-match}
@@ -177,3 +180,12 @@ module _ (at : ℕ → Handle) (place : ℕ → ℕ) where
   -- THEOREM: where no domain to be closed holds a root, with any n from the number of live domains on
   pub close-match : (n : ℕ) (closing : List ℕ) (b : Book) (s : State) (d : ℕ) (x : Domain) → Turn s d x → liveDomains s ≤ n → MatchesAt b s at place → All (λ t. MatchesAt (closed n d b) t at place) (closeDomain n closing d s)
   close-match n closing b s d x turn enough m = close-all CloseMatches RestMatches close-steps n closing s d x turn enough b m
+
+-- THEOREM: an accepted close of the domain that a Management capability names
+pub managed-match : (b : Book) (s : State) (at : ℕ → Handle) (place : ℕ → ℕ) (h : Handle) → Sound s → MatchesAt b s at place → All (λ t. MatchesAt (revoked (closed (openDomains b)) (some (managementOf h)) b) t at place) (closeManaged h s)
+unfolding closeManaged
+managed-match b s at place h sound m = on-domain s h _ (λ l.
+    checked (not (closesRoot s (h .slot))) _ (λ u.
+    let turn : Turn s (h .slot) (domainAt s (h .slot)) = record { sound = sound; is = some-is (atSlot (s .domains) (h .slot)) noneDomain (live-opens s h l); noRoot = rootless s sound (h .slot) u } in
+    let same : closed (liveDomains s) (h .slot) b ≡ revoked (closed (openDomains b)) (some (managementOf h)) b = ap (λ n. closed n (h .slot) b) (sym (open-count b s at place m)) ∙ sym (open-closes at place (openDomains b) b h (open-is-live b s at place m h ∙ l)) in
+    and-then _ (weaken (close-match at place (liveDomains s) [] b s (h .slot) _ turn (omega arith) m) (λ t g. subst (λ c. MatchesAt c t at place) same g))))

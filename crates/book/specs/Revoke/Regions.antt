@@ -3,7 +3,7 @@ use mathlib.Core.Path.{_≡_, refl, sym, ap, _∙_}
 use Prim.Native.Nat.{ℕ, zero, suc, _+_, _≤_, _<_}
 use mathlib.Core.Bool.{Bool, true, false, _&&_}
 use mathlib.Core.Option.{Option, none, some, Option·getD}
-use mathlib.Core.List.{List, []}
+use mathlib.Core.List.{List}
 use native.Mathlib.Omega.{arith}
 use lib.Dec.{eqb, eqb→eq}
 use lib.ListN.{length, getD}
@@ -12,7 +12,7 @@ use Rattle.base.specs.Cases.{holds, fails, test}
 use Rattle.base.specs.Tests.{true-is, true-false}
 use Rattle.base.specs.Options.{none-some, some-same}
 use Rattle.model.specs.Lists.{isSome, atSlot, In, if_then_else_}
-use Rattle.model.specs.State.{State, Handle, Domain, Region, parentOf, noneRegion, regionAt}
+use Rattle.model.specs.State.{State, Handle, Region, parentOf, noneRegion, regionAt}
 use Rattle.model.specs.Pool.{isLive, handleOf}
 use Rattle.laws.specs.Tree.Change.{bare, same-bare}
 use Rattle.laws.specs.Tree.Below.{Below, Revoked}
