@@ -2,7 +2,7 @@
 -- had; a region dies exactly if it or one above it is a closed domain's or named by a RegionRevoke in a closed domain's list. And the tests before a close: 22 says that no domain to be closed holds a root.
 use mathlib.Core.Path.{_≡_, refl, sym, ap, subst, _∙_}
 use Prim.Native.Nat.{ℕ, zero, suc, _≤_}
-use mathlib.Core.Bool.{Bool, true, false, not, _||_}
+use mathlib.Core.Bool.{Bool, not}
 use mathlib.Core.Option.{Option, none, some}
 use mathlib.Core.List.{List, [], _∷_}
 use native.Mathlib.Omega.{arith}
