@@ -19,7 +19,7 @@ unfolding computing swept makeRoom put give giveNext opened added created ownedB
 noting = tt
 
 -- the book after a list of calls from empty tables
-abbrev bookAfter : Sizes → List Call → Book
+abbrev pub bookAfter : Sizes → List Call → Book
 bookAfter z cs = noteAll (blank z) cs (run (emptyTables z) cs .0)
 
 abbrev pub sizes : ℕ → ℕ → Sizes

@@ -5,19 +5,20 @@ use mathlib.Core.Bool.{Bool, true, false}
 use mathlib.Core.Option.{Option, some}
 use mathlib.Core.List.{[]}
 use lib.ListN.{length}
-use Rattle.model.specs.Lists.{if_then_else_, isSome, atSlot}
+use Rattle.model.specs.Lists.{if_then_else_, isSome, atSlot, In}
 use Rattle.model.specs.Outcome.{ok, _>>=_, okOr}
 use Rattle.refusals.specs.Refusals.{noSlot}
-use Rattle.model.specs.State.{State, Handle, Capa, noCapa, noneRegion, regionAt}
+use Rattle.model.specs.State.{State, Handle, Capa, noCapa, management, noneRegion, noneDomain, regionAt, domainAt}
 use Rattle.model.specs.Pool.{isLive}
 use Rattle.model.specs.Locals.{capaAt, emptyCapa}
-use Rattle.model.specs.Calls.{liveRegion, revokeUnlessRoot, revokeCapa, revoke}
+use Rattle.model.specs.Calls.{liveRegion, revokeUnlessRoot, closeManaged, revokeCapa, revoke}
 use Rattle.model.specs.Sound.{Sound}
-use Rattle.laws.specs.Accepted.{All, accepted, refused, bind, checked, weaken}
+use Rattle.laws.specs.Accepted.{All, accepted, refused, bind, checked, weaken, both}
 use Rattle.laws.specs.Tree.Facts.{not-root}
 use Rattle.laws.specs.Close.Revoke.{revoke-sound}
+use Rattle.laws.specs.Close.Call.{managed-closes}
 use Rattle.laws.specs.Keep.SameDomains.{SameDomains, same-domains-self}
-use Rattle.book.specs.Book.{Book, Held, emptied, heldAt, killed, revoked, closed, openDomains, emptySlot}
+use Rattle.book.specs.Book.{Book, Held, emptied, managementOf, heldAt, killed, revoked, closed, openDomains, emptySlot}
 use Rattle.book.specs.Tests.{and-left, some-is}
 use Rattle.book.specs.Matches.{both-set, SameHeld, sameFree, sameEmptied, sameRegion, sameRevoke, sameManagement, sameChannel, AtPlace, MatchesAt, Matches, matches}
 use Rattle.book.specs.Slots.{slots-of, put-match}
@@ -26,6 +27,7 @@ use Rattle.book.specs.Held.{held-same}
 use Rattle.book.specs.Revoke.Regions.{fell-match}
 use Rattle.book.specs.Revoke.Dying.{some-untracked}
 use Rattle.book.specs.Revoke.Dead.{killed-same}
+use Rattle.book.specs.Revoke.Close.{managed-match}
 
 empty-match : (b : Book) (s : State) (at : ℕ → Handle) (place : ℕ → ℕ) (d l : ℕ) → MatchesAt b s at place → isSome (atSlot (s .domains) d) ≡ true → Matches (emptySlot d l b) (emptyCapa d l s)
 unfolding emptySlot emptyCapa
@@ -59,20 +61,29 @@ module _ (b : Book) (s : State) (at : ℕ → Handle) (place : ℕ → ℕ) (sou
   named-any : (k : ℕ) (h : Handle) → h ≡ at k → k < length (b .regions) → All (KilledTo k) (if isLive (s .regionPool) (s .regions) h then revokeUnlessRoot (h .slot) s else ok s)
   named-any k h e u = rw e (named-at k u (isLive (s .regionPool) (s .regions) (at k)) refl)
 
-  module _ (close : ℕ → Book → Book) (d l : ℕ) (i : isSome (atSlot (s .domains) d) ≡ true) where
+  -- the caller is domain d, which is live, and revokes its slot l
+  module _ (d l : ℕ) (i : isSome (atSlot (s .domains) d) ≡ true) where
+    -- the book after the revoke of what the slot holds
+    abbrev after : Option Held → Book
+    after x = revoked (closed (openDomains b)) x b
+
     empty-killed : (k : ℕ) (t : State) → KilledTo k t → Matches (emptySlot d l (killed k b)) (emptyCapa d l t)
     empty-killed k t (q, o) = empty-match (killed k b) t at place d l q (some-untracked (atSlot (t .domains) d) (atSlot (s .domains) d) (o .domains d) ∙ i)
 
-    revoke-held : (x : Option Held) (y : Option Capa) → SameHeld (AtPlace (b .regions) at) x y → All (λ t. Matches (emptySlot d l (revoked close x b)) t) (okOr y noSlot >>= λ c. revokeCapa c s >>= λ s₁. ok (emptyCapa d l s₁))
+    -- the managed domain is closed with all below it, and the caller is not
+    close-held : (h : Handle) → In (domainAt s d .locals .held) l (management h) → All (λ t. MatchesAt (after (some (managementOf h))) t at place × isSome (atSlot (t .domains) d) ≡ true) (closeManaged h s)
+    close-held h e = weaken (both (managed-match b s at place h sound m) (managed-closes s sound d l (domainAt s d) (some-is (atSlot (s .domains) d) noneDomain i) h e)) (λ t (g, (c, n)). (g, some-untracked (atSlot (t .domains) d) (atSlot (s .domains) d) (c .kept d n) ∙ i))
+
+    revoke-held : (x : Option Held) (y : Option Capa) → atSlot (domainAt s d .locals .held) l ≡ y → SameHeld (AtPlace (b .regions) at) x y → All (λ t. Matches (emptySlot d l (after x)) t) (okOr y noSlot >>= λ c. revokeCapa c s >>= λ s₁. ok (emptyCapa d l s₁))
     unfolding okOr _>>=_ revokeCapa revoked
-    revoke-held x y sameFree = refused
-    revoke-held x y sameEmptied = accepted (empty-match b s at place d l m i)
-    revoke-held x y (sameRegion {k} {h} t) = bind (held-any k h (t .1) (t .0)) (λ s₁ q. accepted (empty-killed k s₁ q))
-    revoke-held x y (sameRevoke {k} {h} t) = bind (named-any k h (t .1) (t .0)) (λ s₁ q. accepted (empty-killed k s₁ q))
-    revoke-held x y sameManagement = refused
-    revoke-held x y sameChannel = accepted (empty-match b s at place d l m i)
+    revoke-held x y e sameFree = refused
+    revoke-held x y e sameEmptied = accepted (empty-match b s at place d l m i)
+    revoke-held x y e (sameRegion {k} {h} t) = bind (held-any k h (t .1) (t .0)) (λ s₁ q. accepted (empty-killed k s₁ q))
+    revoke-held x y e (sameRevoke {k} {h} t) = bind (named-any k h (t .1) (t .0)) (λ s₁ q. accepted (empty-killed k s₁ q))
+    revoke-held x y e (sameManagement {h}) = bind (close-held h e) (λ s₁ q. accepted (empty-match (after (some (managementOf h))) s₁ at place d l (q .0) (q .1)))
+    revoke-held x y e sameChannel = accepted (empty-match b s at place d l m i)
 
 -- THEOREM: an accepted revoke keeps book and tables matched
 pub revoke-match : (b : Book) (s : State) (h : Handle) (l : ℕ) → Sound s → Matches b s → All (λ t. Matches (emptySlot (h .slot) l (revoked (closed (openDomains b)) (heldAt b (h .slot) l) b)) t) (revoke h l s)
 unfolding revoke capaAt
-revoke-match b s h l sound g = on-domain s h _ (λ v. revoke-held b s (g .at) (g .place) sound (g .fits) (closed (openDomains b)) (h .slot) l (live-opens s h v) _ _ (held-same b s (g .at) (g .place) (g .fits) (h .slot) l))
+revoke-match b s h l sound g = on-domain s h _ (λ v. revoke-held b s (g .at) (g .place) sound (g .fits) (h .slot) l (live-opens s h v) _ _ refl (held-same b s (g .at) (g .place) (g .fits) (h .slot) l))
