@@ -16,7 +16,7 @@ use Rattle.model.specs.Sound.{Sound}
 use Rattle.laws.specs.Accepted.{All, accepted, refused, bind, checked, weaken, both}
 use Rattle.laws.specs.Tree.Facts.{not-root}
 use Rattle.laws.specs.Close.Revoke.{revoke-sound}
-use Rattle.laws.specs.Close.Call.{managed-closes}
+use Rattle.laws.specs.Close.Call.{managed-closes, caller-stays}
 use Rattle.laws.specs.Keep.SameDomains.{SameDomains, same-domains-self}
 use Rattle.book.specs.Book.{Book, Held, emptied, managementOf, heldAt, killed, revoked, closed, openDomains, emptySlot}
 use Rattle.book.specs.Tests.{and-left, some-is}
@@ -72,7 +72,9 @@ module _ (b : Book) (s : State) (at : ℕ → Handle) (place : ℕ → ℕ) (sou
 
     -- the managed domain is closed with all below it, and the caller is not
     close-held : (h : Handle) → In (domainAt s d .locals .held) l (management h) → All (λ t. MatchesAt (after (some (managementOf h))) t at place × isSome (atSlot (t .domains) d) ≡ true) (closeManaged h s)
-    close-held h e = weaken (both (managed-match b s at place h sound m) (managed-closes s sound d l (domainAt s d) (some-is (atSlot (s .domains) d) noneDomain i) h e)) (λ t (g, (c, n)). (g, some-untracked (atSlot (t .domains) d) (atSlot (s .domains) d) (c .kept d n) ∙ i))
+    close-held h e =
+        let stays = caller-stays s sound d l (domainAt s d) (some-is (atSlot (s .domains) d) noneDomain i) h e in
+        weaken (both (managed-match b s at place h sound m) (managed-closes s sound h)) (λ t (g, (live, c)). (g, some-untracked (atSlot (t .domains) d) (atSlot (s .domains) d) (c .kept d (stays live)) ∙ i))
 
     revoke-held : (x : Option Held) (y : Option Capa) → atSlot (domainAt s d .locals .held) l ≡ y → SameHeld (AtPlace (b .regions) at) x y → All (λ t. Matches (emptySlot d l (after x)) t) (okOr y noSlot >>= λ c. revokeCapa c s >>= λ s₁. ok (emptyCapa d l s₁))
     unfolding okOr _>>=_ revokeCapa revoked
