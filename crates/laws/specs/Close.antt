@@ -13,3 +13,5 @@ pub mod AnyTables
 pub mod Stops
 pub mod Call
 pub mod Interfaces
+pub mod Silent
+pub mod Reopen

@@ -40,7 +40,7 @@ module _ (Q : List ℕ → Type 0) (more : (d : ℕ) (closing : List ℕ) → Q 
       gives-then (slots-give _ (slot-gives (d ∷ closing) q (closeDomain n (d ∷ closing)) (λ e t r. close-gives n (d ∷ closing) e t (more e (d ∷ closing) q) r)) (domainAt s d .locals .held) s p) (λ t r. freed d t r)
 
 -- any refusal
-all-gives : {A : Type 0} {P : A → Type 0} {m : Outcome A} → All P m → Gives P (λ r. Unit {0}) m
+pub all-gives : {A : Type 0} {P : A → Type 0} {m : Outcome A} → All P m → Gives P (λ r. Unit {0}) m
 all-gives (accepted p) = gives p
 all-gives refused = refuses tt
 

@@ -23,7 +23,7 @@ use Rattle.laws.specs.Tree.Facts.{named, not-root}
 use Rattle.laws.specs.Tree.Below.{Below}
 use Rattle.laws.specs.Tree.Steps.{region-at, domain-at}
 use Rattle.laws.specs.Capas.List.{count-written}
-use Rattle.laws.specs.Capas.Live.{handle-differs}
+use Rattle.laws.specs.Capas.Live.{live-handle, handle-differs}
 use Rattle.laws.specs.Capas.Held.{ownedBy, managedBy, capas-sound, others-sound}
 use Rattle.laws.specs.Capas.Change.{Plus, empty-held}
 use Rattle.laws.specs.Capas.Checks.{live-domain, capa-at, live-region}
@@ -48,6 +48,15 @@ emptied-sound s c l a t h =
     let own = ownedBy t in
     let man = managedBy t in
     listed-sound t (emptyCapa c l t) (others-sound t (h .sound)) (empty-listed t c l (h .domain) (h .is)) (empty-held own man t (capas-sound t (h .sound)) c (h .domain) (h .is) own man a l (h .at) (h .plus))
+
+-- THEOREM: what the accepted close of the domain with handle k leaves
+pub managed-closes : (s : State) → Sound s → (k : Handle) → All (λ t. T (isLive (s .domainPool) (s .domains) k) × Closes s (k .slot) t) (closeManaged k s)
+unfolding closeManaged
+managed-closes s h k =
+    bind (live-domain s k) (λ d o.
+    checked (not (closesRoot s d)) _ (λ u.
+    checked (not (closesRunning s d)) _ (λ w.
+    weaken (close-after-22 s h d (o .domain) (o .is) u) (λ t v. (o .live, subst (λ n. Closes s n t) (ap (λ (n : Handle). n .slot) (o .handle)) v)))))
 
 -- the slot of a handle is free
 region-gone : (t : State) (c : ℕ) (k : Handle) → atSlot (t .regions) (k .slot) ≡ none → Plus t c (region k) (ownedBy t) (managedBy t) (ownedBy t) (managedBy t)
@@ -93,22 +102,18 @@ module _ (s : State) (h : Sound s) (c l : ℕ) (x : Domain) (e : In (s .domains)
         let t : sameHandle i k ≡ _ = is-true (subst (λ w. T (sameHandle i w)) q (and-i (eqb d d) (eqb (i .generation) (i .generation)) (eqb-refl d) (eqb-refl (i .generation)))) in
         named (z .manager) c (omega (arith, count-written (isManagementOf i) (x .locals .held) l (management k) none at, ap oneIf t, h .outside .managers d z f .oneManagement c x e))
 
-    -- so the caller is not closed with it
+    -- so the caller is not closed with it: managers form no circle
     apart : (d : ℕ) (z : Domain) → In (s .domains) d z → z .manager ≡ some c → Leads (s .domains) d c → ⊥
     apart d z f m v = omega (arith, ranks-are s h .child d c z f m, leads-rank (s .domains) (ranks s h) (ranks-are s h) d c v)
 
-    -- what the accepted call closed, and that the caller is not of them
-    pub managed-closes : All (λ t. Closes s (k .slot) t × (Leads (s .domains) (k .slot) c → ⊥)) (closeManaged k s)
-    unfolding closeManaged
-    managed-closes =
-        bind (live-domain s k) (λ d o.
-        checked (not (closesRoot s d)) _ (λ u.
-        checked (not (closesRunning s d)) _ (λ w.
-        let q : d ≡ k .slot = ap (λ (n : Handle). n .slot) (o .handle) in
-        weaken (close-after-22 s h d (o .domain) (o .is) u) (λ t v. subst (λ n. Closes s n t × (Leads (s .domains) n c → ⊥)) q (v, apart d (o .domain) (o .is) (manages d (o .domain) (o .is) (o .handle)))))))
+    pub caller-stays : T (isLive (s .domainPool) (s .domains) k) → Leads (s .domains) (k .slot) c → ⊥
+    caller-stays t =
+        let (z, f) = live-is (atSlot (s .domains) (k .slot)) (search and-l) in
+        apart (k .slot) z f (manages (k .slot) z f (live-handle (s .domainPool) (s .domains) k t))
 
-    closed : (t : State) → Closes s (k .slot) t × (Leads (s .domains) (k .slot) c → ⊥) → Emptiable s c l (management k) t
-    closed t (v, n) =
+    closed : (t : State) → T (isLive (s .domainPool) (s .domains) k) × Closes s (k .slot) t → Emptiable s c l (management k) t
+    closed t (live, v) =
+        let n = caller-stays live in
         let (y, f, m) = domain-was (atSlot (s .domains) c) (atSlot (t .domains) c) x (sym (v .kept c n)) e in
         record { sound = v .sound; less = v .less; domain = y; is = f; at = subst (λ (w : LocalList). In (w .held) l (management k)) (sym (ap (λ (w : Domain). w .locals) m)) at; plus = domain-gone t c k (v .gone (k .slot) (Leads.here refl)) }
 
@@ -121,7 +126,7 @@ module _ (s : State) (h : Sound s) (c l : ℕ) (x : Domain) (e : In (s .domains)
   empties (regionRevoke k) at = branch-on (isLive (s .regionPool) (s .regions) k)
       (λ t. let (g, m) = live-is (atSlot (s .regions) (k .slot)) (search and-l) in weaken (unless-root (k .slot) g m) (λ u f. fell (regionRevoke k) at (k .slot) u (plus-none u c (regionRevoke k) _ _ (λ n. refl) (λ n. refl)) f))
       (λ t. accepted (stays (regionRevoke k) at (plus-none s c (regionRevoke k) _ _ (λ n. refl) (λ n. refl))))
-  empties (management k) at = weaken (managed-closes k at) (closed k at)
+  empties (management k) at = weaken (managed-closes s h k) (closed k at)
   empties (channel k) at = accepted (stays (channel k) at (plus-none s c (channel k) _ _ (λ n. refl) (λ n. refl)))
 
 -- what an accepted Revoke of slot l leaves: fewer regions and domains, and then the caller's slot emptied
