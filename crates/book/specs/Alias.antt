@@ -21,7 +21,7 @@ unfolding aliasRegion created give put added makeRoom
 alias-match b s h l a sound g =
     on-caller _ s h _ (λ v.
     bind (region-found b s _ _ (g .fits) (h .slot) l) (λ p f.
-    bind (room-match b s _ _ (h .slot) a (g .fits)) (λ s₁ q.
-    and-then _ (bind (child-match (makeRoom (h .slot) b) s₁ _ _ (h .slot) p (Alias (placeIn (heldAt b (h .slot) l))) (Alias p) a (s .sizes .regions) (once-after s s₁ (q .1) sound) (ap length (q .1 .regions) ∙ sound .outside .regionsLength) (q .0) (ap (λ (x : Handle). Kind.Alias (x .slot)) (f .here)) (λ k e. parent-below _ _ k (f .below) e) (λ k e. parent-lives b _ k (f .lives) e) (ap (λ gs. isSome (atSlot gs p)) (q .1 .regions) ∙ f .there)) (λ y r.
-    bind (activate-match _ _ _ [] (y .1) (h .slot) a (r .fits) (r .opens (h .slot) (q .1 .opens (h .slot) (live-opens s h v)))) (λ s₄ c.
+    bind (room-match b s _ _ (h .slot) a (g .fits) (live-opens s h v)) (λ s₁ q.
+    and-then _ (bind (child-match (makeRoom (h .slot) b) s₁ _ _ (h .slot) p (Alias (placeIn (heldAt b (h .slot) l))) (Alias p) a (s .sizes .regions) (once-after s s₁ (q .1) sound) (ap length (q .1 .regions) ∙ sound .outside .regionsLength) (q .0) (ap (λ (x : Handle). Kind.Alias (x .slot)) (f .here)) (λ k e. parent-below _ _ k (f .below) e) (λ k e. parent-lives b _ k (f .lives) e) (ap (λ gs. isSome (atSlot gs p)) (q .1 .regions) ∙ f .there) (q .1 .opens (h .slot) ∙ live-opens s h v)) (λ y r.
+    bind (activate-match _ _ _ [] (y .1) (h .slot) a (r .fits) (r .opens (h .slot) ∙ q .1 .opens (h .slot) ∙ live-opens s h v)) (λ s₄ c.
     accepted (matches _ _ _ _ (c .0))))))))

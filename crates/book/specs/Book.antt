@@ -5,7 +5,7 @@ use mathlib.Core.Option.{Option, none, some, Option·getD}
 use mathlib.Core.List.{List, [], _∷_, _++_}
 use lib.Dec.{eqb}
 use lib.ListN.{length, getD, set, replicate}
-use Rattle.model.specs.Lists.{if_then_else_, countUp, isEmpty, atSlot}
+use Rattle.model.specs.Lists.{if_then_else_, isSome, countIf, countUp, isEmpty, atSlot}
 use Rattle.rights.specs.Rights.{union}
 use Rattle.model.specs.State.{Sizes, Handle, Access, SendOptions, Kind, Root, Alias, Carve, parentOf}
 use Rattle.model.specs.Perform.{Step, Call, Value, Answer}
@@ -35,11 +35,16 @@ pub record Slots : Type 0 where
   pub held : List (Option Held)
   pub free : List ℕ
 
--- The making's sizes, the regions by place, and for each domain's number its slots (`none`: not opened).
+-- An open domain: the generation that its opening answered, and its slots.
+pub record Opened : Type 0 where
+  pub generation : ℕ
+  pub slots : Slots
+
+-- The making's sizes, the regions by place, and for each domain's number the domain that is open there (`none`: not opened, or closed again).
 pub record Book : Type 0 where
   pub sizes : Sizes
   pub regions : List Noted
-  pub lists : List (Option Slots)
+  pub lists : List (Option Opened)
 
 -- An empty book for tables of these sizes: no region, no domain opened.
 abbrev pub blank : Sizes → Book
@@ -51,19 +56,33 @@ blank z = record { sizes = z; regions = []; lists = replicate (z .domains) none 
 abbrev pub noNoted : Noted
 noNoted = record { kind = Root; owner = 0; start = 0; end = 0; rights = 0; alive = false }
 
+-- what a domain that is not open reads as; no accepted call meets it
+abbrev pub noOpened : Opened
+noOpened = record { generation = 0; slots = record { held = []; free = [] } }
+
 -- the region at a place; a domain's slots; what slot l of domain d holds
 abbrev pub noted : List Noted → ℕ → Noted
 noted rs k = getD rs k noNoted
 
+abbrev pub openAt : Book → ℕ → Opened
+openAt b d = Option·getD (atSlot (b .lists) d) noOpened
+
 abbrev pub slotsOf : Book → ℕ → Slots
-slotsOf b d = Option·getD (atSlot (b .lists) d) (record { held = []; free = [] })
+slotsOf b d = openAt b d .slots
 
 abbrev pub heldAt : Book → ℕ → ℕ → Option Held
 heldAt b d l = atSlot (slotsOf b d .held) l
 
--- the book with one domain's slots, or its regions, changed
+-- Is the domain of this handle open? Its number may have been given again since.
+abbrev pub isOpen : Book → Handle → Bool
+isOpen b h = elim (atSlot (b .lists) (h .slot)) [ none ↦ false | some o ↦ eqb (o .generation) (h .generation) ]
+
+-- the book with what is open at one number, one domain's slots, or its regions, changed
+abbrev pub withOpened : ℕ → Option Opened → Book → Book
+withOpened d o b = record { sizes = b .sizes; regions = b .regions; lists = set (b .lists) d o }
+
 abbrev pub withSlots : ℕ → Slots → Book → Book
-withSlots d l b = record { sizes = b .sizes; regions = b .regions; lists = set (b .lists) d (some l) }
+withSlots d l b = withOpened d (some (record { generation = openAt b d .generation; slots = l })) b
 
 abbrev pub withNoted : List Noted → Book → Book
 withNoted rs b = record { sizes = b .sizes; regions = rs; lists = b .lists }
@@ -79,27 +98,27 @@ abbrev pub freeSlots : List ℕ → Slots → Slots
 freeSlots [] l = l
 freeSlots (i ∷ is) l = freeSlots is (freeSlot i l)
 
--- "None or a dead handle". No call closes a domain.
-abbrev pub isDead : List Noted → Held → Bool
-isDead rs emptied = true
-isDead rs (regionOf k) = not (noted rs k .alive)
-isDead rs (revokeOf k) = not (noted rs k .alive)
-isDead rs (managementOf h) = false
-isDead rs (channelOf h) = false
+-- "None or a dead handle": of a region that is not alive, or a domain that is not open.
+abbrev pub isDead : Book → Held → Bool
+isDead b emptied = true
+isDead b (regionOf k) = not (noted (b .regions) k .alive)
+isDead b (revokeOf k) = not (noted (b .regions) k .alive)
+isDead b (managementOf h) = not (isOpen b h)
+isDead b (channelOf h) = not (isOpen b h)
 
 -- the slots that hold such a thing, rising; the first element is slot i
-abbrev pub deadSlots : List Noted → ℕ → List (Option Held) → List ℕ
-deadSlots rs i [] = []
-deadSlots rs i (none ∷ l) = deadSlots rs (suc i) l
-deadSlots rs i (some c ∷ l) = if isDead rs c then i ∷ deadSlots rs (suc i) l else deadSlots rs (suc i) l
+abbrev pub deadSlots : Book → ℕ → List (Option Held) → List ℕ
+deadSlots b i [] = []
+deadSlots b i (none ∷ l) = deadSlots b (suc i) l
+deadSlots b i (some c ∷ l) = if isDead b c then i ∷ deadSlots b (suc i) l else deadSlots b (suc i) l
 
 -- "When a list is full, slots holding None or a dead handle are freed in rising order."
-unfoldable pub swept : List Noted → Slots → Slots
-swept rs l = if isEmpty (l .free) then freeSlots (deadSlots rs 0 (l .held)) l else l
+unfoldable pub swept : Book → Slots → Slots
+swept b l = if isEmpty (l .free) then freeSlots (deadSlots b 0 (l .held)) l else l
 
 -- A domain's list before a slot in it is given.
 unfoldable pub makeRoom : ℕ → Book → Book
-makeRoom d b = withSlots d (swept (b .regions) (slotsOf b d)) b
+makeRoom d b = withSlots d (swept b (slotsOf b d)) b
 
 -- The slot that is given next.
 abbrev pub top : List ℕ → ℕ
@@ -125,9 +144,9 @@ giveNext d c b = let b₁ = makeRoom d b in put d (top (slotsOf b₁ d .free)) c
 
 -- ---- the calls
 
--- Opening: a list of free slots, 0 given first.
-unfoldable pub opened : ℕ → Book → Book
-opened d b = withSlots d (record { held = replicate (b .sizes .slots) none; free = countUp 0 (b .sizes .slots) }) b
+-- Opening, with the handle that was answered: a list of free slots, 0 given first.
+unfoldable pub opened : Handle → Book → Book
+opened h b = withOpened (h .slot) (some (record { generation = h .generation; slots = record { held = replicate (b .sizes .slots) none; free = countUp 0 (b .sizes .slots) } })) b
 
 -- "a live region of that kind, with the range and rights given, the caller's": it takes the next place.
 unfoldable pub added : Kind → ℕ → Access → Book → Book
@@ -190,14 +209,29 @@ dying t i (r ∷ rs) = record { kind = r .kind; owner = r .owner; start = r .sta
 unfoldable pub killed : ℕ → Book → Book
 killed k b = withNoted (dying (isUnder (b .regions) (mostAbove (b .regions)) k) 0 (b .regions)) b
 
--- the same by what the slot held: a region, or a RegionRevoke that names one
-unfoldable pub revoked : Option Held → Book → Book
-revoked none b = b
-revoked (some emptied) b = b
-revoked (some (regionOf k)) b = killed k b
-revoked (some (revokeOf k)) b = killed k b
-revoked (some (managementOf h)) b = b
-revoked (some (channelOf h)) b = b
+-- Document 02, request 5: "demand 3's book closes likewise, and what dies counts as revoked". One slot of a domain that is closed; `close` closes a further
+-- domain. A region that is dead already is killed again with all below it, which are dead too.
+unfoldable pub revoked : (ℕ → Book → Book) → Option Held → Book → Book
+revoked close none b = b
+revoked close (some emptied) b = b
+revoked close (some (regionOf k)) b = killed k b
+revoked close (some (revokeOf k)) b = killed k b
+revoked close (some (managementOf h)) b = if isOpen b h then close (h .slot) b else b
+revoked close (some (channelOf h)) b = b
+
+-- "its slots in rising order"
+unfoldable pub allRevoked : (Option Held → Book → Book) → List (Option Held) → Book → Book
+allRevoked f [] b = b
+allRevoked f (c ∷ cs) b = allRevoked f cs (f c b)
+
+-- Domain d is closed: all that its slots hold is revoked, and the domain is open no more. From the number of open domains on n is enough: a domain that a
+-- slot names is one step further down.
+unfoldable pub closed : ℕ → ℕ → Book → Book
+closed zero d b = b
+closed (suc n) d b = withOpened d none (allRevoked (revoked (closed n)) (slotsOf b d .held) b)
+
+abbrev pub openDomains : Book → ℕ
+openDomains b = countIf isSome (b .lists)
 
 -- "Revoke empties the slot, still in use"
 unfoldable pub emptySlot : ℕ → ℕ → Book → Book
@@ -249,8 +283,8 @@ unfoldable pub accept : Book → Call → Value → Book
 -- "Making empties it."
 accept b (Call.Make z) y = blank z
 -- "in a manager's list, opening" takes a slot that names the new domain
-accept b (Call.Do (Step.Open none cores)) y = opened (domainOf y .slot) b
-accept b (Call.Do (Step.Open (some m) cores)) y = giveNext (m .slot) (managementOf (domainOf y)) (opened (domainOf y .slot) b)
+accept b (Call.Do (Step.Open none cores)) y = opened (domainOf y) b
+accept b (Call.Do (Step.Open (some m) cores)) y = giveNext (m .slot) (managementOf (domainOf y)) (opened (domainOf y) b)
 -- "Channel, RegionRevoke .. take a slot that names their domain or region."
 accept b (Call.Do (Step.Channel h to)) y = give (h .slot) (localOf y) (channelOf to) b
 accept b (Call.Do (Step.CreateRevokeCapa h l)) y = give (h .slot) (localOf y) (revokeOf (placeIn (heldAt b (h .slot) l))) b
@@ -260,7 +294,7 @@ accept b (Call.Do (Step.Alias h l a)) y = created (Alias (placeIn (heldAt b (h .
 accept b (Call.Do (Step.Carve h l a)) y = created (Carve (placeIn (heldAt b (h .slot) l))) (h .slot) (localOf y) a b
 -- **Send** and **Revoke**
 accept b (Call.Do (Step.Send h l target o)) y = sent (h .slot) l (domainIn (heldAt b (h .slot) target)) (localOf y) o b
-accept b (Call.Do (Step.Revoke h l)) y = emptySlot (h .slot) l (revoked (heldAt b (h .slot) l) b)
+accept b (Call.Do (Step.Revoke h l)) y = emptySlot (h .slot) l (revoked (closed (openDomains b)) (heldAt b (h .slot) l) b)
 -- "pop, core maps and readings change nothing"
 accept b (Call.Do (Step.SetCoreMap h cores)) y = b
 accept b Call.Pop y = b

@@ -22,14 +22,14 @@ exchange-match : (b : Book) (at : ℕ → Handle) (place : ℕ → ℕ) (s : Sta
 unfolding exchangeRights
 exchange-match b at place s d old a m i =
     branch (eqb old (a .rights)) (accepted m)
-    (bind (deactivate-match b at place [] s d _ m i) (λ s₁ c. weaken (activate-match b at place [] s₁ d a (c .0) (c .1 .opens d i)) (λ t e. e .0)))
+    (bind (deactivate-match b at place [] s d _ m i) (λ s₁ c. weaken (activate-match b at place [] s₁ d a (c .0) (c .1 .opens d ∙ i)) (λ t e. e .0)))
 
 pub carve-match : (b : Book) (s : State) (h : Handle) (l : ℕ) (a : Access) → Sound s → Matches b s → All (λ x. Matches (created (Carve (placeIn (heldAt b (h .slot) l))) (h .slot) (x .0) a b) (x .1)) (carveRegion h l a s)
 unfolding carveRegion created give put added makeRoom
 carve-match b s h l a sound g =
     on-caller _ s h _ (λ v.
     bind (region-found b s _ _ (g .fits) (h .slot) l) (λ p f.
-    bind (room-match b s _ _ (h .slot) a (g .fits)) (λ s₁ q.
-    and-then _ (bind (child-match (makeRoom (h .slot) b) s₁ _ _ (h .slot) p (Carve (placeIn (heldAt b (h .slot) l))) (Carve p) a (s .sizes .regions) (once-after s s₁ (q .1) sound) (ap length (q .1 .regions) ∙ sound .outside .regionsLength) (q .0) (ap (λ (x : Handle). Kind.Carve (x .slot)) (f .here)) (λ k e. parent-below _ _ k (f .below) e) (λ k e. parent-lives b _ k (f .lives) e) (ap (λ gs. isSome (atSlot gs p)) (q .1 .regions) ∙ f .there)) (λ y r.
-    bind (exchange-match _ _ _ (y .1) (h .slot) _ a (r .fits) (r .opens (h .slot) (q .1 .opens (h .slot) (live-opens s h v)))) (λ s₄ c.
+    bind (room-match b s _ _ (h .slot) a (g .fits) (live-opens s h v)) (λ s₁ q.
+    and-then _ (bind (child-match (makeRoom (h .slot) b) s₁ _ _ (h .slot) p (Carve (placeIn (heldAt b (h .slot) l))) (Carve p) a (s .sizes .regions) (once-after s s₁ (q .1) sound) (ap length (q .1 .regions) ∙ sound .outside .regionsLength) (q .0) (ap (λ (x : Handle). Kind.Carve (x .slot)) (f .here)) (λ k e. parent-below _ _ k (f .below) e) (λ k e. parent-lives b _ k (f .lives) e) (ap (λ gs. isSome (atSlot gs p)) (q .1 .regions) ∙ f .there) (q .1 .opens (h .slot) ∙ live-opens s h v)) (λ y r.
+    bind (exchange-match _ _ _ (y .1) (h .slot) _ a (r .fits) (r .opens (h .slot) ∙ q .1 .opens (h .slot) ∙ live-opens s h v)) (λ s₄ c.
     accepted (matches _ _ _ _ c)))))))

@@ -10,7 +10,7 @@ use borrow.Author.Tests.{le-ltb, lt-ltb, eq-eqb}
 use Rattle.base.specs.Cases.{lt, ge, cmp}
 use Rattle.base.specs.Tests.{is-true}
 use Rattle.model.specs.Lists.{isSome, atSlot, countIf, oneIf}
-use Rattle.model.specs.Outcome.{Outcome, ok, _>>=_, _>>_, require}
+use Rattle.model.specs.Outcome.{Outcome, ok, refuse, _>>=_, _>>_, require}
 use Rattle.refusals.specs.declared.Refusal.{Refusal}
 use Rattle.model.specs.State.{State, Pool, Handle}
 use Rattle.model.specs.Pool.{isLive, allocate}
@@ -24,6 +24,11 @@ pub on-check : {B : Type 0} {Q : B → Type 0} (b : Bool) (r : Refusal) (i : ℕ
 unfolding require _>>_ _>>=_
 on-check true r i f h = h refl
 on-check false r i f h = refused
+
+-- with the outcome itself
+pub with-ok : {A : Type 0} {P : A → Type 0} (m : Outcome A) → All P m → All (λ t. P t × m ≡ ok t) m
+with-ok (ok a) (accepted p) = accepted (p, refl)
+with-ok (refuse r) refused = refused
 
 pub on-domain : {B : Type 0} {Q : B → Type 0} (s : State) (h : Handle) (f : ℕ → Outcome B) → (isLive (s .domainPool) (s .domains) h ≡ true → All Q (f (h .slot))) → All Q (liveDomain s h >>= f)
 unfolding liveDomain

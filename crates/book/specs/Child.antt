@@ -20,7 +20,7 @@ use Rattle.laws.specs.Accepted.{All, bind}
 use Rattle.book.specs.Book.{Book, Noted, noted}
 use Rattle.book.specs.Demand3.{kindBy}
 use Rattle.book.specs.Matches.{Regions, MatchesAt}
-use Rattle.book.specs.Tests.{some-below}
+use Rattle.book.specs.Tests.{set-some, some-below}
 use Rattle.book.specs.NewRegion.{new-region-match, RegionPut, slot-match}
 
 -- a region's node, all but its children
@@ -50,12 +50,6 @@ edit-regions rs p gs gs′ at place e n m = record {
 }
 
 module _ (gs : List (Option Region)) (q : ℕ) (g : Region) (i : isSome (atSlot gs q) ≡ true) (n : SameNode (Option·getD (atSlot gs q) noneRegion) g) where
-  set-some : (j : ℕ) → isSome (atSlot (set gs q (some g)) j) ≡ isSome (atSlot gs j)
-  set-some j = elim (test (eqb j q)) [
-    | holds t ↦ let e = eqb→eq j q (true-is t) in ap (λ c. isSome (atSlot (set gs q (some g)) c)) e ∙ ap isSome (getD-set-same gs q (some g) none (some-below gs q i)) ∙ sym i ∙ ap (λ c. isSome (atSlot gs c)) (sym e)
-    | fails t ↦ ap isSome (getD-set-other gs q j (some g) none (λ e. false-is t (true-is (eq-eqb j q e))))
-  ]
-
   node-at : (j : ℕ) → j ≡ q → SameNode (Option·getD (atSlot gs j) noneRegion) (Option·getD (atSlot (set gs q (some g)) j) noneRegion)
   node-at j e = rw e (node-as _ g _ (ap (λ o. Option·getD o noneRegion) (getD-set-same gs q (some g) none (some-below gs q i))) n)
 
@@ -66,17 +60,17 @@ module _ (gs : List (Option Region)) (q : ℕ) (g : Region) (i : isSome (atSlot 
   ]
 
   pub set-regions : (rs : List Noted) (p : Pool) (at : ℕ → Handle) (place : ℕ → ℕ) → Regions rs p gs at place → Regions rs p (set gs q (some g)) at place
-  set-regions rs p at place m = edit-regions rs p gs _ at place set-some set-node m
+  set-regions rs p at place m = edit-regions rs p gs _ at place (set-some gs q g i) set-node m
 
 -- the child list of a live region changes in the tables alone
 pub children-match : (b : Book) (s : State) (at : ℕ → Handle) (place : ℕ → ℕ) (q : ℕ) (cs : List ℕ) → isSome (atSlot (s .regions) q) ≡ true → MatchesAt b s at place → MatchesAt b (putRegion q (withChildren cs (regionAt s q)) s) at place
-children-match b s at place q cs i m = record { sizes = m .sizes; regions = set-regions (s .regions) q _ i (record { kind = refl; owner = refl; start = refl; end = refl; rights = refl }) (b .regions) (s .regionPool) at place (m .regions); lists = m .lists }
+children-match b s at place q cs i m = record { sizes = m .sizes; regions = set-regions (s .regions) q _ i (record { kind = refl; owner = refl; start = refl; end = refl; rights = refl }) (b .regions) (s .regionPool) at place (m .regions); lists = m .lists; generations = m .generations }
 
-pub child-match : (b : Book) (s : State) (at : ℕ → Handle) (place : ℕ → ℕ) (d p : ℕ) (k k′ : Kind) (a : Access) (n : ℕ) → OnceEach n (slotUses (s .regions)) (s .regionPool .free) → length (s .regions) ≡ n → MatchesAt b s at place → k′ ≡ kindBy (λ j. at j .slot) k → ((q : ℕ) → parentOf k ≡ some q → q < length (b .regions)) → ((q : ℕ) → parentOf k ≡ some q → noted (b .regions) q .alive ≡ true) → isSome (atSlot (s .regions) p) ≡ true → All (RegionPut b s d k a) (addChild d p k′ a s)
+pub child-match : (b : Book) (s : State) (at : ℕ → Handle) (place : ℕ → ℕ) (d p : ℕ) (k k′ : Kind) (a : Access) (n : ℕ) → OnceEach n (slotUses (s .regions)) (s .regionPool .free) → length (s .regions) ≡ n → MatchesAt b s at place → k′ ≡ kindBy (λ j. at j .slot) k → ((q : ℕ) → parentOf k ≡ some q → q < length (b .regions)) → ((q : ℕ) → parentOf k ≡ some q → noted (b .regions) q .alive ≡ true) → isSome (atSlot (s .regions) p) ≡ true → isSome (atSlot (s .domains) d) ≡ true → All (RegionPut b s d k a) (addChild d p k′ a s)
 unfolding addChild insertChild
-child-match b s at place d p k k′ a n once len m same parent parentLives i =
+child-match b s at place d p k k′ a n once len m same parent parentLives i j =
     bind (new-region-match b s at place d k k′ a n once len m same parent parentLives) (λ x g.
-    slot-match b s s _ d k a _ _ _ (children-match _ (x .1) _ _ p _ (ap isSome (g .slots p i) ∙ i) (g .fits)) (g .last) (g .domains))
+    slot-match b s _ d k a _ _ _ (children-match _ (x .1) _ _ p _ (ap isSome (g .slots p i) ∙ i) (g .fits)) (g .last) (g .domains) j)
 
 pub parent-lives : (b : Book) (k q : ℕ) → noted (b .regions) k .alive ≡ true → parentOf (Alias k) ≡ some q → noted (b .regions) q .alive ≡ true
 parent-lives b k q l e = ap (λ o. noted (b .regions) (Option·getD o 0) .alive) (sym e) ∙ l

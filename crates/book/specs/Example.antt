@@ -10,27 +10,27 @@ use Rattle.model.specs.Making.{emptyTables}
 use Rattle.model.specs.Perform.{Step, Call, run}
 use Rattle.model.specs.Checked.Compute.{computing}
 use Rattle.model.specs.Checked.Script.{dom, access, example}
-use Rattle.book.specs.Book.{Book, Noted, Held, emptied, regionOf, managementOf, channelOf, Slots, blank, swept, makeRoom, put, give, giveNext, opened, added, created, ownedBy, flagged, handedTo, freed, putAny, sent, killed, revoked, emptySlot, accept, note}
+use Rattle.book.specs.Book.{Book, Noted, Held, emptied, regionOf, managementOf, channelOf, Opened, blank, swept, makeRoom, put, give, giveNext, opened, added, created, ownedBy, flagged, handedTo, freed, putAny, sent, killed, revoked, allRevoked, closed, emptySlot, accept, note}
 use Rattle.book.specs.Demand3.{noteAll, bookCount, accepted}
 
 -- To compute with the book, name `noting` on an `unfolding` line.
 unfoldable pub noting : Unit {0}
-unfolding computing swept makeRoom put give giveNext opened added created ownedBy flagged handedTo freed putAny sent killed revoked emptySlot accept note noteAll
+unfolding computing swept makeRoom put give giveNext opened added created ownedBy flagged handedTo freed putAny sent killed revoked allRevoked closed emptySlot accept note noteAll
 noting = tt
 
 -- the book after a list of calls from empty tables
-abbrev bookAfter : Sizes → List Call → Book
+abbrev pub bookAfter : Sizes → List Call → Book
 bookAfter z cs = noteAll (blank z) cs (run (emptyTables z) cs .0)
 
 abbrev pub sizes : ℕ → ℕ → Sizes
 sizes d s = record { domains = d; slots = s; regions = 4; records = 8; updates = 4 }
 
--- kind, owner, start, end, rights, alive; slots with the free ones, the one given next first
+-- kind, owner, start, end, rights, alive; a domain opened once, its slots with the free ones, the one given next first
 abbrev pub reg : Kind → ℕ → ℕ → ℕ → ℕ → Bool → Noted
 reg k o s e r l = record { kind = k; owner = o; start = s; end = e; rights = r; alive = l }
 
-abbrev pub slots : List (Option Held) → List ℕ → Option Slots
-slots h f = some (record { held = h; free = f })
+abbrev pub slots : List (Option Held) → List ℕ → Option Opened
+slots h f = some (record { generation = 0; slots = record { held = h; free = f } })
 
 -- A holds B's Management in slot 0, the root in 1 and the alias in 3; the carve is B's, in slot 0; the last call was refused.
 abbrev exampleBook : Book

@@ -16,7 +16,7 @@ use Rattle.model.specs.Calls.{liveRegion, asRegion, regionHeld}
 use Rattle.laws.specs.Accepted.{All, accepted, refused, checked}
 use Rattle.book.specs.Book.{Book, Held, noted, heldAt, placeIn}
 use Rattle.book.specs.Tests.{and-left, and-right}
-use Rattle.book.specs.Matches.{both-at, SameHeld, sameFree, sameEmptied, sameRegion, sameRevoke, sameManagement, sameChannel, AtPlace, LiveDomain, MatchesAt}
+use Rattle.book.specs.Matches.{both-at, SameHeld, sameFree, sameEmptied, sameRegion, sameRevoke, sameManagement, sameChannel, AtPlace, MatchesAt}
 use Rattle.book.specs.Slots.{slots-of}
 
 -- A slot that holds x in the book holds region p in the tables, and the region lives.
@@ -30,16 +30,16 @@ live-handle : (s : State) (h : Handle) → isLive (s .regionPool) (s .regions) h
 live-handle s h e = let g = eqb→eq (getD (s .regionPool .gens) (h .slot) 0) (h .generation) (true-is (and-right (isSome (atSlot (s .regions) (h .slot))) _ e)) in λ t. record { slot = h .slot; generation = g t }
 
 module _ (b : Book) (s : State) (at : ℕ → Handle) (place : ℕ → ℕ) (m : MatchesAt b s at place) where
-  found-held : (x : Option Held) (y : Option Capa) → SameHeld (AtPlace (b .regions) at) (LiveDomain (s .domainPool) (s .domains)) x y → All (Found b s at x) (okOr y noSlot >>= λ c. asRegion c >>= λ h. liveRegion s h)
+  found-held : (x : Option Held) (y : Option Capa) → SameHeld (AtPlace (b .regions) at) x y → All (Found b s at x) (okOr y noSlot >>= λ c. asRegion c >>= λ h. liveRegion s h)
   unfolding okOr _>>=_ liveRegion
   found-held x y sameFree = refused
   found-held x y sameEmptied = refused
   found-held x y (sameRegion {k} {h} t) = checked _ _ (λ l. accepted (record { below = t .0; lives = m .regions .aliveIsLive k (t .0) ∙ ap (isLive (s .regionPool) (s .regions)) (sym (t .1)) ∙ is-true l; here = live-handle s h (is-true l) ∙ t .1; there = and-left (isSome (atSlot (s .regions) (h .slot))) _ (is-true l) }))
   found-held x y (sameRevoke t) = refused
-  found-held x y (sameManagement t) = refused
-  found-held x y (sameChannel t) = refused
+  found-held x y sameManagement = refused
+  found-held x y sameChannel = refused
 
-  pub held-same : (d l : ℕ) → SameHeld (AtPlace (b .regions) at) (LiveDomain (s .domainPool) (s .domains)) (heldAt b d l) (atSlot (domainAt s d .locals .held) l)
+  pub held-same : (d l : ℕ) → SameHeld (AtPlace (b .regions) at) (heldAt b d l) (atSlot (domainAt s d .locals .held) l)
   held-same d l = both-at none none l sameFree (slots-of b s at place m d .held)
 
   pub region-found : (d l : ℕ) → All (Found b s at (heldAt b d l)) (regionHeld s d l)

@@ -29,4 +29,5 @@ pub mod Claims
 pub mod Theorem
 pub mod Lent
 pub mod Example
+pub mod ClosedBooks
 pub mod ShutOut

@@ -7,10 +7,10 @@ use native.Mathlib.Omega.{arith}
 use lib.ListN.{replicate}
 use Rattle.base.specs.Tests.{true-is}
 use Rattle.model.specs.Lists.{isSome, atSlot}
-use Rattle.model.specs.State.{State, Sizes, Region}
+use Rattle.model.specs.State.{Sizes, Domain, Region}
 use Rattle.model.specs.Making.{makeTables, makeIn}
 use Rattle.laws.specs.Accepted.{All, accepted, bind, and-then}
-use Rattle.book.specs.Book.{Book, blank}
+use Rattle.book.specs.Book.{blank}
 use Rattle.book.specs.Matches.{both-fresh, notOpened, Matches}
 
 no-slot : (A : Type 0) (n i : ℕ) → isSome (atSlot {A = A} (replicate n none) i) ≡ true → ⊥
@@ -28,6 +28,7 @@ make-match z =
         sizes = refl;
         regions = record { aliveIsLive = λ k h. absurd (omega arith); deadIsOlder = λ k h e. absurd (omega arith); stored = λ k h e. absurd (omega arith); back = λ i h. absurd (no-slot Region (z .regions) i h); one = λ k h e. absurd (omega arith); parentEarlier = λ k q h e. absurd (omega arith); parentLives = λ k q h d e. absurd (omega arith); rootsLive = λ k h e. absurd (omega arith) };
         lists = both-fresh (z .domains) none none notOpened;
+        generations = λ d h. absurd (no-slot Domain (z .domains) d h);
       };
     }))
 

@@ -1,5 +1,5 @@
 -- Book and tables match: the relation that every call keeps, and from which the claims of demand 3 follow.
-use mathlib.Core.Path.{_≡_}
+use mathlib.Core.Path.{_≡_, refl, ap}
 use Prim.Native.Nat.{ℕ, zero, suc, _<_}
 use mathlib.Core.Bool.{true, false}
 use mathlib.Core.Option.{Option, none, some, Option·getD}
@@ -8,7 +8,7 @@ use lib.ListN.{length, getD, set, replicate}
 use Rattle.model.specs.Lists.{isSome, atSlot}
 use Rattle.model.specs.State.{State, Pool, Handle, Capa, noCapa, region, regionRevoke, management, channel, LocalList, Domain, Region, noneRegion, parentOf}
 use Rattle.model.specs.Pool.{isLive, handleOf}
-use Rattle.book.specs.Book.{Book, Noted, Held, emptied, regionOf, revokeOf, managementOf, channelOf, Slots, noted}
+use Rattle.book.specs.Book.{Book, Noted, Held, emptied, regionOf, revokeOf, managementOf, channelOf, Slots, Opened, noted, openAt}
 use Rattle.book.specs.Demand3.{SameRegion}
 
 -- ---- two lists, element by element
@@ -38,54 +38,56 @@ module _ {A B : Type 0} where
   both-right zero d y r (cons q h) = cons r h
   both-right (suc i) d y r (cons q h) = cons q (both-right i d y r h)
 
+  pub both-length : {R : A → B → Type 0} {xs : List A} {ys : List B} → Both R xs ys → length xs ≡ length ys
+  both-length nil = refl
+  both-length (cons r h) = ap suc (both-length h)
+
   pub both-fresh : {R : A → B → Type 0} (n : ℕ) (x : A) (y : B) → R x y → Both R (replicate n x) (replicate n y)
   both-fresh zero x y r = nil
   both-fresh (suc n) x y r = cons r (both-fresh n x y r)
 
 -- ---- slots
 
--- What a slot holds in the book and in the tables: P holds of a place and its region's handle, Q of a domain's handle.
-pub data SameHeld (P : ℕ → Handle → Type 0) (Q : Handle → Type 0) : Option Held → Option Capa → Type 0 where
-  sameFree : SameHeld P Q none none
-  sameEmptied : SameHeld P Q (some emptied) (some noCapa)
-  sameRegion : {k : ℕ} {h : Handle} → P k h → SameHeld P Q (some (regionOf k)) (some (region h))
-  sameRevoke : {k : ℕ} {h : Handle} → P k h → SameHeld P Q (some (revokeOf k)) (some (regionRevoke h))
-  sameManagement : {h : Handle} → Q h → SameHeld P Q (some (managementOf h)) (some (management h))
-  sameChannel : {h : Handle} → Q h → SameHeld P Q (some (channelOf h)) (some (channel h))
+-- What a slot holds in the book and in the tables: P holds of a place and its region's handle. A domain is named by the same handle on both sides.
+pub data SameHeld (P : ℕ → Handle → Type 0) : Option Held → Option Capa → Type 0 where
+  sameFree : SameHeld P none none
+  sameEmptied : SameHeld P (some emptied) (some noCapa)
+  sameRegion : {k : ℕ} {h : Handle} → P k h → SameHeld P (some (regionOf k)) (some (region h))
+  sameRevoke : {k : ℕ} {h : Handle} → P k h → SameHeld P (some (revokeOf k)) (some (regionRevoke h))
+  sameManagement : {h : Handle} → SameHeld P (some (managementOf h)) (some (management h))
+  sameChannel : {h : Handle} → SameHeld P (some (channelOf h)) (some (channel h))
 
-pub same-map : {P P′ : ℕ → Handle → Type 0} {Q Q′ : Handle → Type 0} → ((k : ℕ) (h : Handle) → P k h → P′ k h) → ((h : Handle) → Q h → Q′ h) → (x : Option Held) (y : Option Capa) → SameHeld P Q x y → SameHeld P′ Q′ x y
-same-map f g x y sameFree = sameFree
-same-map f g x y sameEmptied = sameEmptied
-same-map f g x y (sameRegion p) = sameRegion (f _ _ p)
-same-map f g x y (sameRevoke p) = sameRevoke (f _ _ p)
-same-map f g x y (sameManagement q) = sameManagement (g _ q)
-same-map f g x y (sameChannel q) = sameChannel (g _ q)
+pub same-map : {P P′ : ℕ → Handle → Type 0} → ((k : ℕ) (h : Handle) → P k h → P′ k h) → (x : Option Held) (y : Option Capa) → SameHeld P x y → SameHeld P′ x y
+same-map f x y sameFree = sameFree
+same-map f x y sameEmptied = sameEmptied
+same-map f x y (sameRegion p) = sameRegion (f _ _ p)
+same-map f x y (sameRevoke p) = sameRevoke (f _ _ p)
+same-map f x y sameManagement = sameManagement
+same-map f x y sameChannel = sameChannel
 
 -- slots that hold the same, and the same stack of free slots
-pub record SameSlots (P : ℕ → Handle → Type 0) (Q : Handle → Type 0) (l : Slots) (m : LocalList) : Type 0 where
-  pub held : Both (SameHeld P Q) (l .held) (m .held)
+pub record SameSlots (P : ℕ → Handle → Type 0) (l : Slots) (m : LocalList) : Type 0 where
+  pub held : Both (SameHeld P) (l .held) (m .held)
   pub stack : l .free ≡ m .free
 
-pub data SameList (P : ℕ → Handle → Type 0) (Q : Handle → Type 0) : Option Slots → Option Domain → Type 0 where
-  notOpened : SameList P Q none none
-  isOpened : {l : Slots} {x : Domain} → SameSlots P Q l (x .locals) → SameList P Q (some l) (some x)
+-- a domain is open in the book where it is live in the tables, with the same slots
+pub data SameList (P : ℕ → Handle → Type 0) : Option Opened → Option Domain → Type 0 where
+  notOpened : SameList P none none
+  isOpened : {o : Opened} {x : Domain} → SameSlots P (o .slots) (x .locals) → SameList P (some o) (some x)
 
-module _ {P P′ : ℕ → Handle → Type 0} {Q Q′ : Handle → Type 0} (f : (k : ℕ) (h : Handle) → P k h → P′ k h) (g : (h : Handle) → Q h → Q′ h) where
-  pub slots-map : (l : Slots) (m : LocalList) → SameSlots P Q l m → SameSlots P′ Q′ l m
-  slots-map l m h = record { held = both-map (same-map f g) (h .held); stack = h .stack }
+module _ {P P′ : ℕ → Handle → Type 0} (f : (k : ℕ) (h : Handle) → P k h → P′ k h) where
+  slots-map : (l : Slots) (m : LocalList) → SameSlots P l m → SameSlots P′ l m
+  slots-map l m h = record { held = both-map (same-map f) (h .held); stack = h .stack }
 
-  pub list-map : (x : Option Slots) (y : Option Domain) → SameList P Q x y → SameList P′ Q′ x y
+  pub list-map : (x : Option Opened) (y : Option Domain) → SameList P x y → SameList P′ x y
   list-map x y notOpened = notOpened
   list-map x y (isOpened h) = isOpened (slots-map _ _ h)
 
 -- ---- the relation
 
--- the place k stands at the handle h; the domain of the handle h is live
+-- the place k stands at the handle h
 abbrev pub AtPlace : List Noted → (ℕ → Handle) → ℕ → Handle → Type 0
 AtPlace rs at k h = (k < length rs) × h ≡ at k
-
-abbrev pub LiveDomain : Pool → List (Option Domain) → Handle → Type 0
-LiveDomain p ds h = isLive p ds h ≡ true
 
 -- `at` gives the slot and generation in which the region of a place stands or stood, `place` the place of what stands in a slot.
 pub record Regions (rs : List Noted) (p : Pool) (gs : List (Option Region)) (at : ℕ → Handle) (place : ℕ → ℕ) : Type 0 where
@@ -102,11 +104,12 @@ pub record Regions (rs : List Noted) (p : Pool) (gs : List (Option Region)) (at 
   -- no root dies: what the total of demand 3 needs
   pub rootsLive : (k : ℕ) → k < length rs → parentOf (noted rs k .kind) ≡ none → noted rs k .alive ≡ true
 
--- The same sizes, the regions matched, and each domain's slots the same.
+-- The same sizes, the regions matched, each domain's slots the same, and an open domain's generation that of its slot.
 pub record MatchesAt (b : Book) (s : State) (at : ℕ → Handle) (place : ℕ → ℕ) : Type 0 where
   pub sizes : b .sizes ≡ s .sizes
   pub regions : Regions (b .regions) (s .regionPool) (s .regions) at place
-  pub lists : Both (SameList (AtPlace (b .regions) at) (LiveDomain (s .domainPool) (s .domains))) (b .lists) (s .domains)
+  pub lists : Both (SameList (AtPlace (b .regions) at)) (b .lists) (s .domains)
+  pub generations : (d : ℕ) → isSome (atSlot (s .domains) d) ≡ true → openAt b d .generation ≡ getD (s .domainPool .gens) d 0
 
 -- Book and tables match: at some handles and places.
 pub record Matches (b : Book) (s : State) : Type 0 where

@@ -180,7 +180,8 @@ new-region-match b s at place d k k′ a n once len m same parent parentLives =
       fits = record {
         sizes = m .sizes;
         regions = add-region (b .regions) _ (s .regionPool) is (s .regions) _ at at′ place _ i _ _ (m .regions) (noted-length (b .regions) _) (noted-old (b .regions) _) (getD-append-seam (b .regions) _ [] _) was (getD-set-same (s .regions) i _ none in-range) (λ j v. getD-set-other (s .regions) i j _ none v) at-old (extend-here at N _) (extend-off place i N) (extend-here place i N) refl (record { kind = same; owner = refl; start = refl; end = refl; rights = refl }) parent parentLives;
-        lists = both-map (list-map (λ j h t. (let u = t .0 in let v = noted-length (b .regions) (record { kind = k; owner = d; start = a .start; end = a .end; rights = a .rights; alive = true }) in omega arith, t .1 ∙ sym (at-old j (t .0)))) (λ h q. q)) (m .lists);
+        lists = both-map (list-map (λ j h t. (let u = t .0 in let v = noted-length (b .regions) (record { kind = k; owner = d; start = a .start; end = a .end; rights = a .rights; alive = true }) in omega arith, t .1 ∙ sym (at-old j (t .0))))) (m .lists);
+        generations = m .generations;
       };
       last = sym (extend-here at N (handleOf (s .regionPool) i));
       olds = at-old;
@@ -191,22 +192,22 @@ new-region-match b s at place d k k′ a n once len m same parent parentLives =
 
 -- ---- its slot
 
-pub room-match : (b : Book) (s : State) (at : ℕ → Handle) (place : ℕ → ℕ) (d : ℕ) (a : Access) → MatchesAt b s at place → All (λ t. MatchesAt (makeRoom d b) t at place × OnlyDomains s t) (roomForRegion d a s)
+pub room-match : (b : Book) (s : State) (at : ℕ → Handle) (place : ℕ → ℕ) (d : ℕ) (a : Access) → MatchesAt b s at place → isSome (atSlot (s .domains) d) ≡ true → All (λ t. MatchesAt (makeRoom d b) t at place × OnlyDomains s t) (roomForRegion d a s)
 unfolding roomForRegion
-room-match b s at place d a m = and-then _ (bind (capacity-match b s at place m d) (λ s₁ q. and-then _ (accepted q)))
+room-match b s at place d a m i = and-then _ (bind (capacity-match b s at place m d i) (λ s₁ q. and-then _ (accepted q)))
 
 -- a region made, and its slot given: what the book has then
 pub record RegionPut (b : Book) (s : State) (d : ℕ) (k : Kind) (a : Access) (x : ℕ × State) : Type 0 where
   pub at : ℕ → Handle
   pub place : ℕ → ℕ
   pub fits : MatchesAt (put d (x .0) (regionOf (length (b .regions))) (added k d a b)) (x .1) at place
-  pub opens : (e : ℕ) → isSome (atSlot (s .domains) e) ≡ true → isSome (atSlot (x .1 .domains) e) ≡ true
+  pub opens : (e : ℕ) → isSome (atSlot (x .1 .domains) e) ≡ isSome (atSlot (s .domains) e)
 
-pub slot-match : (b : Book) (s s′ t : State) (d : ℕ) (k : Kind) (a : Access) (at : ℕ → Handle) (place : ℕ → ℕ) (h : Handle) → MatchesAt (added k d a b) t at place → h ≡ at (length (b .regions)) → t .domains ≡ s .domains → All (RegionPut b s d k a) (insertCapa d (region h) t)
+pub slot-match : (b : Book) (s t : State) (d : ℕ) (k : Kind) (a : Access) (at : ℕ → Handle) (place : ℕ → ℕ) (h : Handle) → MatchesAt (added k d a b) t at place → h ≡ at (length (b .regions)) → t .domains ≡ s .domains → isSome (atSlot (s .domains) d) ≡ true → All (RegionPut b s d k a) (insertCapa d (region h) t)
 unfolding added
-slot-match b s s′ t d k a at place h m e o =
-    weaken (insert-match (added k d a b) t at place m d (regionOf (length (b .regions))) (region h) (sameRegion (let v = noted-length (b .regions) (record { kind = k; owner = d; start = a .start; end = a .end; rights = a .rights; alive = true }) in omega arith, e))) (λ x r.
-    record { at = at; place = place; fits = r .0; opens = λ f i. r .1 .opens f (ap (λ ds. isSome (atSlot ds f)) o ∙ i) })
+slot-match b s t d k a at place h m e o i =
+    weaken (insert-match (added k d a b) t at place m d (ap (λ ds. isSome (atSlot ds d)) o ∙ i) (regionOf (length (b .regions))) (region h) (sameRegion (let v = noted-length (b .regions) (record { kind = k; owner = d; start = a .start; end = a .end; rights = a .rights; alive = true }) in omega arith, e))) (λ x r.
+    record { at = at; place = place; fits = r .0; opens = λ f. r .1 .opens f ∙ ap (λ ds. isSome (atSlot ds f)) o })
 
 once-as : (n : ℕ) (rs rs′ : List (Option Region)) (p p′ : Pool) → rs′ ≡ rs → p′ ≡ p → OnceEach n (slotUses rs) (p .free) → OnceEach n (slotUses rs′) (p′ .free)
 once-as n rs rs′ p p′ e d o = rw (e, d) o

@@ -24,8 +24,8 @@ pub root-match : (b : Book) (s : State) (h : Handle) (a : Access) → Sound s �
 unfolding createRootRegion created give put added makeRoom
 root-match b s h a sound g =
     on-domain s h _ (λ l.
-    bind (room-match b s _ _ (h .slot) a (g .fits)) (λ s₁ q.
+    bind (room-match b s _ _ (h .slot) a (g .fits) (live-opens s h l)) (λ s₁ q.
     bind (new-region-match (makeRoom (h .slot) b) s₁ _ _ (h .slot) Root Root a (s .sizes .regions) (once-after s s₁ (q .1) sound) (ap length (q .1 .regions) ∙ sound .outside .regionsLength) (q .0) refl (λ p e. absurd (no-parent p e)) (λ p e. absurd (no-parent p e))) (λ x w.
-    bind (slot-match (makeRoom (h .slot) b) s₁ s₁ (x .1) (h .slot) Root a _ _ _ (w .fits) (w .last) (w .domains)) (λ y r.
-    bind (activate-match _ _ _ [] (y .1) (h .slot) a (r .fits) (r .opens (h .slot) (q .1 .opens (h .slot) (live-opens s h l)))) (λ s₄ c.
+    bind (slot-match (makeRoom (h .slot) b) s₁ (x .1) (h .slot) Root a _ _ _ (w .fits) (w .last) (w .domains) (q .1 .opens (h .slot) ∙ live-opens s h l)) (λ y r.
+    bind (activate-match _ _ _ [] (y .1) (h .slot) a (r .fits) (r .opens (h .slot) ∙ q .1 .opens (h .slot) ∙ live-opens s h l)) (λ s₄ c.
     accepted (matches _ _ _ _ (c .0)))))))

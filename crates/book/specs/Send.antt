@@ -27,7 +27,7 @@ use Rattle.laws.specs.Accepted.{All, accepted, refused, bind, and-then, weaken}
 use Rattle.book.specs.Book.{Book, Noted, Held, emptied, regionOf, revokeOf, channelOf, noted, withNoted, heldAt, domainIn, makeRoom, put, putAny, freed, flagged, handedTo, ownedBy, sent}
 use Rattle.book.specs.Demand3.{SameRegion}
 use Rattle.book.specs.Tests.{and-left, some-is, some-below}
-use Rattle.book.specs.Matches.{both-map, SameHeld, sameFree, sameEmptied, sameRegion, sameRevoke, sameManagement, sameChannel, same-map, AtPlace, LiveDomain, Regions, MatchesAt, list-map, Matches, matches}
+use Rattle.book.specs.Matches.{both-map, SameHeld, sameFree, sameEmptied, sameRegion, sameRevoke, sameManagement, sameChannel, AtPlace, Regions, MatchesAt, list-map, Matches, matches}
 use Rattle.book.specs.Slots.{OnlyDomains, only-domains-then, slots-of, capacity-match, insert-match, put-match, put-only-domains, free-same}
 use Rattle.book.specs.Checks.{on-domain, on-caller, live-opens, on-region}
 use Rattle.book.specs.Trackers.{activate-match, deactivate-match}
@@ -98,7 +98,8 @@ module _ (b : Book) (s : State) (at : ℕ → Handle) (place : ℕ → ℕ) (k :
       record {
         sizes = m .sizes;
         regions = change-regions (b .regions) _ (s .regionPool) (s .regions) _ at place k i r g (m .regions) (length-set (b .regions) k r) (getD-set-same (b .regions) k r _ u) (λ j n. getD-set-other (b .regions) k j r _ n) alive kind u lives refl was (getD-set-same (s .regions) i _ none (some-below (s .regions) i was)) (λ j n. getD-set-other (s .regions) i j _ none n) same;
-        lists = both-map (list-map (λ j h t. at-place-set (b .regions) k r at j h t) (λ h q. q)) (m .lists);
+        lists = both-map (list-map (λ j h t. at-place-set (b .regions) k r at j h t)) (m .lists);
+        generations = m .generations;
       }
 
   -- it becomes domain `to`'s
@@ -119,11 +120,11 @@ module _ (b : Book) (s : State) (at : ℕ → Handle) (place : ℕ → ℕ) (k :
 
 pub ranges-match : (b : Book) (at : ℕ → Handle) (place : ℕ → ℕ) (old new r : ℕ) (xs : List Range) (s : State) → MatchesAt b s at place → isSome (atSlot (s .domains) old) ≡ true → isSome (atSlot (s .domains) new) ≡ true → All (λ t. MatchesAt b t at place × OnlyDomains s t) (sendRanges old new r xs s)
 unfolding sendRanges
-ranges-match b at place old new r [] s m i j = accepted (m, record { pool = refl; regions = refl; domainPool = refl; opens = λ d e. e; live = λ h e. e })
+ranges-match b at place old new r [] s m i j = accepted (m, record { pool = refl; regions = refl; domainPool = refl; opens = λ d. refl })
 ranges-match b at place old new r (x ∷ xs) s m i j =
     bind (deactivate-match b at place [] s old _ m i) (λ s₁ c.
-    bind (activate-match b at place [] s₁ new _ (c .0) (c .1 .opens new j)) (λ s₂ e.
-    weaken (ranges-match b at place old new r xs s₂ (e .0) (e .1 .opens old (c .1 .opens old i)) (e .1 .opens new (c .1 .opens new j))) (λ t f.
+    bind (activate-match b at place [] s₁ new _ (c .0) (c .1 .opens new ∙ j)) (λ s₂ e.
+    weaken (ranges-match b at place old new r xs s₂ (e .0) (e .1 .opens old ∙ c .1 .opens old ∙ i) (e .1 .opens new ∙ c .1 .opens new ∙ j)) (λ t f.
     (f .0, only-domains-then s s₂ t (f .1) (only-domains-then s s₁ s₂ (e .1) (c .1))))))
 
 -- ---- send
@@ -136,23 +137,23 @@ pub owned : (s : State) → Sound s → Owned s
 owned s sound i h = is-true (sound .outside .owners i (regionAt s i) (some-is (atSlot (s .regions) i) noneRegion h) .ownerLive)
 
 pub owned-after : (s t : State) → OnlyDomains s t → Owned s → Owned t
-owned-after s t q o i h = q .opens _ (o-as (atSlot (t .regions) i) (atSlot (s .regions) i) (ap (λ gs. atSlot gs i) (q .regions)) (o i (ap (λ gs. isSome (atSlot gs i)) (sym (q .regions)) ∙ h)))
+owned-after s t q o i h = q .opens _ ∙ (o-as (atSlot (t .regions) i) (atSlot (s .regions) i) (ap (λ gs. atSlot gs i) (q .regions)) (o i (ap (λ gs. isSome (atSlot gs i)) (sym (q .regions)) ∙ h)))
   where
     o-as : (x y : Option Region) → x ≡ y → isSome (atSlot (s .domains) (Option·getD y noneRegion .owner)) ≡ true → isSome (atSlot (s .domains) (Option·getD x noneRegion .owner)) ≡ true
     o-as x y e k = rw e k
 
--- t is matched, and live domains of s are live in it
+-- t is matched, and the live domains are those of s
 abbrev SentTo : State → (ℕ → Handle) → (ℕ → ℕ) → Book → State → Type 0
-SentTo s at place b t = MatchesAt b t at place × ((h : Handle) → isLive (s .domainPool) (s .domains) h ≡ true → isLive (t .domainPool) (t .domains) h ≡ true)
+SentTo s at place b t = MatchesAt b t at place × ((d : ℕ) → isSome (atSlot (t .domains) d) ≡ isSome (atSlot (s .domains) d))
 
 -- the domains of the state with the options applied are those it had
-options-live : (i : ℕ) (o : SendOptions) (t : State) (h : Handle) → isLive (t .domainPool) (t .domains) h ≡ true → isLive (applyOptions i o t .domainPool) (applyOptions i o t .domains) h ≡ true
+options-domains : (i : ℕ) (o : SendOptions) (t : State) → applyOptions i o t .domains ≡ t .domains
 unfolding applyOptions
-options-live i o t h e = go (o .flags)
+options-domains i o t = go (o .flags)
   where
-    go : (x : Option ℕ) → isLive (applyOptions i (record { flags = x; hash = o .hash }) t .domainPool) (applyOptions i (record { flags = x; hash = o .hash }) t .domains) h ≡ true
-    go none = e
-    go (some f) = e
+    go : (x : Option ℕ) → applyOptions i (record { flags = x; hash = o .hash }) t .domains ≡ t .domains
+    go none = refl
+    go (some f) = refl
 
 module _ (b : Book) (s : State) (at : ℕ → Handle) (place : ℕ → ℕ) (m : MatchesAt b s at place) (to : ℕ) (o : SendOptions) (open-to : isSome (atSlot (s .domains) to) ≡ true) (own : Owned s) where
   -- the region at place k lives on, domain `to`'s
@@ -167,7 +168,7 @@ module _ (b : Book) (s : State) (at : ℕ → Handle) (place : ℕ → ℕ) (m :
   region-at k u = on-region s (at k) _ (λ l. and-then _ (
       bind (ranges-match (ownedBy to k b) at place _ to _ _ _ (own-match b s at place k m u l to) (own (at k .slot) (and-left (isSome (atSlot (s .regions) (at k .slot))) _ l)) open-to) (λ t q.
       let (v, w) = lives-on k u l t (q .0) in
-      accepted (options-match (ownedBy to k b) t at place k (q .0) v w o, λ h e. options-live (at k .slot) o t h (q .1 .live h e)))))
+      accepted (options-match (ownedBy to k b) t at place k (q .0) v w o, λ d. ap (λ ds. isSome (atSlot ds d)) (options-domains (at k .slot) o t) ∙ q .1 .opens d))))
 
   region-any : (k : ℕ) (h : Handle) → h ≡ at k → k < length (b .regions) → All (SentTo s at place (flagged o k (ownedBy to k b))) (liveRegion s h >>= λ i. checkOptions o >> (sendRegion i to s >>= λ s₁. ok (applyOptions i o s₁)))
   region-any k h e u = rw e (region-at k u)
@@ -180,30 +181,30 @@ handed-at-place b at to k o h t = go (o .flags)
     go none = at-place-set (b .regions) k _ at k h t
     go (some f) = at-place-set (ownedBy to k b .regions) k _ at k h (at-place-set (b .regions) k _ at k h t)
 
-put-sent : (b : Book) (s : State) (at : ℕ → Handle) (place : ℕ → ℕ) (d l to : ℕ) (c : Held) (c′ : Capa) → MatchesAt b s at place → SameHeld (AtPlace (b .regions) at) (LiveDomain (s .domainPool) (s .domains)) (some c) (some c′) → All (λ z. Matches (put to (z .0) c (freed d l b)) (z .1)) (insertCapa to c′ (removeCapa d l s))
+put-sent : (b : Book) (s : State) (at : ℕ → Handle) (place : ℕ → ℕ) (d l to : ℕ) (c : Held) (c′ : Capa) → MatchesAt b s at place → isSome (atSlot (s .domains) d) ≡ true → isSome (atSlot (s .domains) to) ≡ true → SameHeld (AtPlace (b .regions) at) (some c) (some c′) → All (λ z. Matches (put to (z .0) c (freed d l b)) (z .1)) (insertCapa to c′ (removeCapa d l s))
 unfolding removeCapa freed
-put-sent b s at place d l to c c′ m q =
-    let m₁ = put-match b s at place m d _ _ (free-same l _ _ (slots-of b s at place m d)) in
-    weaken (insert-match _ _ at place m₁ to c c′ (same-map (λ k h t. t) (put-only-domains b s at place m d _ .live) _ _ q)) (λ z r. matches _ _ _ _ (r .0))
+put-sent b s at place d l to c c′ m i j q =
+    let m₁ = put-match b s at place m d i _ _ (free-same l _ _ (slots-of b s at place m d)) in
+    weaken (insert-match _ _ at place m₁ to (put-only-domains b s at place m d i _ .opens to ∙ j) c c′ q) (λ z r. matches _ _ _ _ (r .0))
 
-module _ (b : Book) (s : State) (at : ℕ → Handle) (place : ℕ → ℕ) (m : MatchesAt b s at place) (d l to : ℕ) (o : SendOptions) (open-to : isSome (atSlot (s .domains) to) ≡ true) (own : Owned s) where
-  send-held : (x : Option Held) (y : Option Capa) → SameHeld (AtPlace (b .regions) at) (LiveDomain (s .domainPool) (s .domains)) x y → All (λ z. Matches (putAny to (z .0) x (freed d l (handedTo to o x b))) (z .1)) (okOr y noSlot >>= λ c. sendCapa c to o s >>= λ s₂. insertCapa to c (removeCapa d l s₂))
+module _ (b : Book) (s : State) (at : ℕ → Handle) (place : ℕ → ℕ) (m : MatchesAt b s at place) (d l to : ℕ) (o : SendOptions) (open-d : isSome (atSlot (s .domains) d) ≡ true) (open-to : isSome (atSlot (s .domains) to) ≡ true) (own : Owned s) where
+  send-held : (x : Option Held) (y : Option Capa) → SameHeld (AtPlace (b .regions) at) x y → All (λ z. Matches (putAny to (z .0) x (freed d l (handedTo to o x b))) (z .1)) (okOr y noSlot >>= λ c. sendCapa c to o s >>= λ s₂. insertCapa to c (removeCapa d l s₂))
   unfolding okOr _>>=_ sendCapa putAny handedTo
   send-held x y sameFree = refused
-  send-held x y sameEmptied = put-sent b s at place d l to emptied noCapa m sameEmptied
-  send-held x y (sameRegion {k} {h} t) = bind (region-any b s at place m to o open-to own k h (t .1) (t .0)) (λ s₂ r. put-sent (flagged o k (ownedBy to k b)) s₂ at place d l to (regionOf k) (region h) (r .0) (sameRegion (handed-at-place b at to k o h t)))
-  send-held x y (sameRevoke {k} {h} t) = put-sent b s at place d l to (revokeOf k) (regionRevoke h) m (sameRevoke t)
-  send-held x y (sameManagement q) = refused
-  send-held x y (sameChannel {h} q) = put-sent b s at place d l to (channelOf h) (channel h) m (sameChannel q)
+  send-held x y sameEmptied = put-sent b s at place d l to emptied noCapa m open-d open-to sameEmptied
+  send-held x y (sameRegion {k} {h} t) = bind (region-any b s at place m to o open-to own k h (t .1) (t .0)) (λ s₂ r. put-sent (flagged o k (ownedBy to k b)) s₂ at place d l to (regionOf k) (region h) (r .0) (r .1 d ∙ open-d) (r .1 to ∙ open-to) (sameRegion (handed-at-place b at to k o h t)))
+  send-held x y (sameRevoke {k} {h} t) = put-sent b s at place d l to (revokeOf k) (regionRevoke h) m open-d open-to (sameRevoke t)
+  send-held x y sameManagement = refused
+  send-held x y (sameChannel {h}) = put-sent b s at place d l to (channelOf h) (channel h) m open-d open-to sameChannel
 
-on-target : {B : Type 0} {Q : B → Type 0} (s : State) (P : ℕ → Handle → Type 0) (x : Option Held) (y : Option Capa) (f : ℕ → Outcome B) → SameHeld P (LiveDomain (s .domainPool) (s .domains)) x y → ((k : Handle) → isLive (s .domainPool) (s .domains) k ≡ true → k .slot ≡ domainIn x → All Q (f (k .slot))) → All Q (okOr y noSlot >>= λ t. asTarget t >>= λ k. liveDomain s k >>= f)
+on-target : {B : Type 0} {Q : B → Type 0} (s : State) (P : ℕ → Handle → Type 0) (x : Option Held) (y : Option Capa) (f : ℕ → Outcome B) → SameHeld P x y → ((k : Handle) → isLive (s .domainPool) (s .domains) k ≡ true → k .slot ≡ domainIn x → All Q (f (k .slot))) → All Q (okOr y noSlot >>= λ t. asTarget t >>= λ k. liveDomain s k >>= f)
 unfolding okOr _>>=_
 on-target s P x y f sameFree g = refused
 on-target s P x y f sameEmptied g = refused
 on-target s P x y f (sameRegion t) g = refused
 on-target s P x y f (sameRevoke t) g = refused
-on-target s P x y f (sameManagement {h = k} q) g = on-domain s k f (λ l. g k l refl)
-on-target s P x y f (sameChannel {h = k} q) g = on-domain s k f (λ l. g k l refl)
+on-target s P x y f (sameManagement {h = k}) g = on-domain s k f (λ l. g k l refl)
+on-target s P x y f (sameChannel {h = k}) g = on-domain s k f (λ l. g k l refl)
 
 sent-as : (b : Book) (s : State) (d l n to to′ : ℕ) (o : SendOptions) → to ≡ to′ → Matches (sent d l to n o b) s → Matches (sent d l to′ n o b) s
 sent-as b s d l n to to′ o e g = rw e at g
@@ -217,6 +218,6 @@ unfolding send capaAt
 send-match b s h l target o sound g =
     on-caller _ s h _ (λ v.
     on-target s (AtPlace (b .regions) (g .at)) _ _ _ (held-same b s _ _ (g .fits) (h .slot) target) (λ k w e.
-    bind (capacity-match b s _ _ (g .fits) (k .slot)) (λ s₁ q.
-    weaken (send-held (makeRoom (k .slot) b) s₁ _ _ (q .0) (h .slot) l (k .slot) o (q .1 .opens (k .slot) (live-opens s k w)) (owned-after s s₁ (q .1) (owned s sound)) _ _ (held-same (makeRoom (k .slot) b) s₁ _ _ (q .0) (h .slot) l)) (λ x r.
+    bind (capacity-match b s _ _ (g .fits) (k .slot) (live-opens s k w)) (λ s₁ q.
+    weaken (send-held (makeRoom (k .slot) b) s₁ _ _ (q .0) (h .slot) l (k .slot) o (q .1 .opens (h .slot) ∙ live-opens s h v) (q .1 .opens (k .slot) ∙ live-opens s k w) (owned-after s s₁ (q .1) (owned s sound)) _ _ (held-same (makeRoom (k .slot) b) s₁ _ _ (q .0) (h .slot) l)) (λ x r.
     sent-as b (x .1) (h .slot) l (x .0) (k .slot) _ o e (sent-is b (x .1) (h .slot) l (x .0) (k .slot) o r)))))

@@ -11,4 +11,4 @@ use Rattle.book.specs.Checks.{on-domain, live-opens}
 
 pub cores-match : (b : Book) (s : State) (h : Handle) (c : ℕ) → Matches b s → All (λ t. Matches b t) (setCoreMap h c s)
 unfolding setCoreMap
-cores-match b s h c g = on-domain s h _ (λ k. accepted (matches _ _ _ _ (domain-match b s _ _ (g .fits) (h .slot) _ (live-opens s h k) refl)))
+cores-match b s h c g = on-domain s h _ (λ k. accepted (matches _ _ _ _ (domain-match b s _ _ (g .fits) (h .slot) (live-opens s h k) _ refl)))

@@ -5,7 +5,7 @@ use mathlib.Core.Bool.{Bool, true, false, _&&_, _||_}
 use mathlib.Core.Option.{Option, none, some, Option·getD}
 use mathlib.Core.List.{List, [], _∷_}
 use native.Mathlib.Omega.{arith}
-use lib.ListN.{length}
+use lib.ListN.{length, set}
 use Rattle.base.specs.Tests.{true-is}
 use Rattle.model.specs.Lists.{isSome, atSlot}
 use Rattle.book.specs.Book.{Noted, noted}
@@ -37,6 +37,14 @@ iff false false f g = refl
 pub some-is : {A : Type 0} (x : Option A) (d : A) → isSome x ≡ true → x ≡ some (Option·getD x d)
 some-is none d h = absurd (true-is h)
 some-is (some a) d h = refl
+
+-- a slot in use is given another value
+pub set-some : {A : Type 0} (gs : List (Option A)) (q : ℕ) (g : A) → isSome (atSlot gs q) ≡ true → (j : ℕ) → isSome (atSlot (set gs q (some g)) j) ≡ isSome (atSlot gs j)
+set-some [] q g i j = refl
+set-some (x ∷ gs) zero g i zero = sym i
+set-some (x ∷ gs) zero g i (suc j) = refl
+set-some (x ∷ gs) (suc q) g i zero = refl
+set-some (x ∷ gs) (suc q) g i (suc j) = set-some gs q g i j
 
 pub some-below : {A : Type 0} (gs : List (Option A)) (q : ℕ) → isSome (atSlot gs q) ≡ true → q < length gs
 some-below [] q h = absurd (true-is h)

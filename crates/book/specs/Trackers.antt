@@ -21,7 +21,7 @@ module _ (b : Book) (at : ℕ → Handle) (place : ℕ → ℕ) where
   MatchesAfter s t = MatchesAt b t at place × OnlyDomains s t
 
   queue-match : (s₀ s : State) (q : Queue) → MatchesAfter s₀ s → MatchesAfter s₀ (withQueue q s)
-  queue-match s₀ s q c = (record { sizes = c .0 .sizes; regions = c .0 .regions; lists = c .0 .lists }, record { pool = c .1 .pool; regions = c .1 .regions; domainPool = c .1 .domainPool; opens = c .1 .opens; live = c .1 .live })
+  queue-match s₀ s q c = (record { sizes = c .0 .sizes; regions = c .0 .regions; lists = c .0 .lists; generations = c .0 .generations }, record { pool = c .1 .pool; regions = c .1 .regions; domainPool = c .1 .domainPool; opens = c .1 .opens })
 
   push-match : (s₀ s : State) (u : Update) → MatchesAfter s₀ s → All (MatchesAfter s₀) (push u s)
   unfolding push
@@ -35,9 +35,9 @@ module _ (b : Book) (at : ℕ → Handle) (place : ℕ → ℕ) where
   unfolding putWalk
   walk-match closing s d w m i =
       let x = withTracker (w .records) (domainAt s d) in
-      let n = domain-match b s at place m d x i refl in
-      let k = put-only-domains b s at place m d x in
-      let c : MatchesAfter s (withRecordPool (w .pool) (putDomain d x s)) = (record { sizes = n .sizes; regions = n .regions; lists = n .lists }, record { pool = k .pool; regions = k .regions; domainPool = k .domainPool; opens = k .opens; live = k .live }) in
+      let n = domain-match b s at place m d i x refl in
+      let k = put-only-domains b s at place m d i x in
+      let c : MatchesAfter s (withRecordPool (w .pool) (putDomain d x s)) = (record { sizes = n .sizes; regions = n .regions; lists = n .lists; generations = n .generations }, record { pool = k .pool; regions = k .regions; domainPool = k .domainPool; opens = k .opens }) in
       branch (exists (eqb d) closing || eqb (w .marks) 0) (accepted c) (permission-match s _ d (w .marks) c)
 
   pub activate-match : (closing : List ℕ) → (s : State) (d : ℕ) (a : Access) → MatchesAt b s at place → isSome (atSlot (s .domains) d) ≡ true → All (MatchesAfter s) (activate closing d a s)

@@ -1,18 +1,16 @@
 -- On two states that are the same but for marks each step of a call does the same: no check reads a mark.
-use mathlib.Core.Path.{_≡_, refl, sym, subst}
-use Prim.Native.Nat.{ℕ, zero, suc}
+use mathlib.Core.Path.{refl, sym, subst}
+use Prim.Native.Nat.{ℕ}
 use mathlib.Core.Option.{Option, none, some}
-use mathlib.Core.List.{List, [], _∷_}
+use mathlib.Core.List.{[]}
 use lib.Dec.{eqb}
-use Rattle.rights.specs.Rights.{has, CLEANUP}
-use Rattle.model.specs.State.{State, Handle, Capa, noCapa, region, regionRevoke, management, channel, Region, Kind, Root, Alias, Carve, Access, SendOptions, Queue, withQueue, regionAt}
-use Rattle.model.specs.Pool.{isLive}
+use Rattle.model.specs.State.{Handle, Capa, noCapa, region, regionRevoke, management, channel, Kind, Root, Alias, Carve, Access, SendOptions}
 use Rattle.model.specs.Locals.{capaAt, removeCapa, emptyCapa}
-use Rattle.model.specs.Tree.{accessOf, insertChild, removeChild}
-use Rattle.model.specs.Regions.{deactivate, freeRegion, giveBack, leaveParent, revokeLeaf, revokeRegion}
-use Rattle.model.specs.Calls.{liveDomain, callerWith, liveRegion, regionHeld, roomForRegion, newDomain, openDomain, openChannel, setCoreMap, setInterface, freezeInterface, createRootRegion, addChild, aliasRegion, exchangeRights, carveRegion, sendCapa, send, revokeUnlessRoot, revokeCapa, revoke, createRevokeCapa}
-use Rattle.interface.specs.Outcomes.{Both, accepted, refused, bind-same, and-same, branch}
-use Rattle.converted.specs.Alike.{SameQueue, Alike, Same, Same₁, bind-alike, bind-alike₁, capacity-alike, insert-alike, push-alike, activate-alike, deactivate-alike, new-alike, send-region-alike, options-alike, options-queue}
+use Rattle.model.specs.Tree.{insertChild}
+use Rattle.model.specs.Calls.{liveDomain, callerWith, liveRegion, regionHeld, roomForRegion, newDomain, openDomain, openChannel, setCoreMap, setInterface, freezeInterface, createRootRegion, addChild, aliasRegion, exchangeRights, carveRegion, sendCapa, send, revoke, createRevokeCapa}
+use Rattle.interface.specs.Outcomes.{accepted, refused, bind-same, and-same, branch}
+use Rattle.converted.specs.AlikeRevoke.{revoke-capa-alike}
+use Rattle.converted.specs.Alike.{SameQueue, Same, Same₁, bind-alike, bind-alike₁, capacity-alike, insert-alike, activate-alike, deactivate-alike, new-alike, send-region-alike, options-alike, options-queue}
 
 -- ---- domains and channels
 
@@ -109,62 +107,6 @@ send-alike h l target o s q e =
     insert-alike to c (removeCapa d l s₂) q₂ e₂)))))))
 
 -- ---- revoke
-
-leave-alike : (i : ℕ) (k : Kind) (s : State) (q : Queue) → regionAt s i .kind ≡ k → leaveParent i (withQueue q s) ≡ withQueue q (leaveParent i s)
-unfolding leaveParent removeChild
-leave-alike i Root s q e = rw (e, leaveParent)
-leave-alike i (Alias p) s q e = rw (e, leaveParent)
-leave-alike i (Carve p) s q e = rw (e, leaveParent)
-
-leave-queue : (i : ℕ) (k : Kind) (s : State) → regionAt s i .kind ≡ k → leaveParent i s .queue ≡ s .queue
-unfolding leaveParent removeChild
-leave-queue i Root s e = rw (e, leaveParent)
-leave-queue i (Alias p) s e = rw (e, leaveParent)
-leave-queue i (Carve p) s e = rw (e, leaveParent)
-
-give-alike : (closing : List ℕ) → (g : Region) (k : Kind) → g .kind ≡ k → Same (giveBack closing g)
-unfolding giveBack
-give-alike closing g Root k s q e = rw (k, giveBack) (accepted (q, e, refl))
-give-alike closing g (Alias p) k s q e = rw (k, giveBack) (accepted (q, e, refl))
-give-alike closing g (Carve p) k s q e = rw (k, giveBack) (activate-alike closing _ _ s q e)
-
-free-alike : (i : ℕ) → Same (freeRegion i)
-unfolding freeRegion
-free-alike i s q e = bind-same refl (λ p. accepted (q, e, refl))
-
-leaf-alike : (closing : List ℕ) → (i : ℕ) → Same (revokeLeaf closing i)
-unfolding revokeLeaf
-leaf-alike closing i s q e =
-    let g = regionAt s i in
-    let out = leaveParent i s in
-    let f = deactivate closing (g .owner) (accessOf g) in
-    let left : Both Alike (f out) (f (leaveParent i (withQueue q s))) =
-    subst (λ t. Both Alike (f out) (f t)) (sym (leave-alike i (g .kind) s q refl)) (deactivate-alike closing (g .owner) (accessOf g) out q (subst (λ r. SameQueue r q) (sym (leave-queue i (g .kind) s refl)) e)) in
-    bind-alike _ left (λ s₁ q₁ e₁.
-    bind-alike _ (give-alike closing g _ refl s₁ q₁ e₁) (λ s₂ q₂ e₂.
-    bind-alike _ (free-alike i s₂ q₂ e₂) (λ s₃ q₃ e₃.
-    branch (has (g .rights) CLEANUP) (push-alike _ s₃ q₃ e₃) (accepted (q₃, e₃, refl)))))
-
-revoke-region-alike : (closing : List ℕ) → (n i : ℕ) → Same (revokeRegion closing n i)
-unfolding revokeRegion
-revoke-region-alike closing zero i s q e = accepted (q, e, refl)
-revoke-region-alike closing (suc n) i s q e = go (regionAt s i .children) refl (revoke-region-alike closing n)
-  where
-    go : (cs : List ℕ) → regionAt s i .children ≡ cs → ((j : ℕ) → Same (revokeRegion closing n j)) → Both Alike (revokeRegion closing (suc n) i s) (revokeRegion closing (suc n) i (withQueue q s))
-    go [] k ih = rw (k, revokeRegion) (leaf-alike closing i s q e)
-    go (c ∷ cs) k ih = rw (k, revokeRegion) (bind-alike _ (ih c s q e) (λ s₁ q₁ e₁. ih i s₁ q₁ e₁))
-
-unless-alike : (i : ℕ) → Same (revokeUnlessRoot i)
-unfolding revokeUnlessRoot
-unless-alike i s q e = and-same refl (revoke-region-alike [] _ i s q e)
-
-revoke-capa-alike : (c : Capa) → Same (revokeCapa c)
-unfolding revokeCapa liveRegion
-revoke-capa-alike noCapa s q e = accepted (q, e, refl)
-revoke-capa-alike (region h) s q e = bind-same refl (λ i. unless-alike i s q e)
-revoke-capa-alike (regionRevoke h) s q e = branch (isLive (s .regionPool) (s .regions) h) (unless-alike (h .slot) s q e) (accepted (q, e, refl))
-revoke-capa-alike (management h) s q e = refused
-revoke-capa-alike (channel h) s q e = accepted (q, e, refl)
 
 pub revoke-alike : (h : Handle) (l : ℕ) → Same (revoke h l)
 unfolding revoke liveDomain capaAt emptyCapa

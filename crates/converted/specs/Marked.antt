@@ -82,4 +82,4 @@ sound-marked s h = let o = h .outside in record {
 -- ---- the book
 
 pub matches-marked : (b : Book) (s : State) → Matches b s → Matches b (withAllMarks s)
-matches-marked b s m = let f = m .fits in matches b (withAllMarks s) (m .at) (m .place) (record { sizes = f .sizes; regions = f .regions; lists = f .lists })
+matches-marked b s m = let f = m .fits in matches b (withAllMarks s) (m .at) (m .place) (record { sizes = f .sizes; regions = f .regions; lists = f .lists; generations = f .generations })

@@ -22,7 +22,8 @@ use Rattle.model.specs.Perform.{Step, Call, perform, performStep}
 use Rattle.interface.specs.Fewer.{FewerDomain, free, used, Fewer}
 use Rattle.interface.specs.Outcomes.{Both, accepted, refused, Any, bind, bind-same}
 use Rattle.interface.specs.NoBits.{noBits, noBitsIn, Alike, same-refusals}
-use Rattle.interface.specs.Calls.{live-domain-same, aliasBy, carveBy, sendBy, alias-same, carve-same, send-same, channel-same, cores-same, interface-same, freeze-same, root-same, revoke-same, make-revoke-same, open-same, reading-same}
+use Rattle.interface.specs.Closing.{live-domain-same}
+use Rattle.interface.specs.Calls.{aliasBy, carveBy, sendBy, alias-same, carve-same, send-same, channel-same, cores-same, interface-same, freeze-same, root-same, revoke-same, make-revoke-same, open-same, reading-same}
 
 -- ---- where the first outcome is a refusal so is the second: the same one, or 20
 

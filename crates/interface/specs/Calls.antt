@@ -5,7 +5,7 @@ use mathlib.Core.Bool.{not}
 use mathlib.Core.Option.{Option, none, some}
 use mathlib.Core.List.{List, [], _∷_, map}
 use lib.ListN.{set}
-use Rattle.refusals.specs.Refusals.{noDomain, beyond, isFrozen}
+use Rattle.refusals.specs.Refusals.{beyond, isFrozen}
 use Rattle.model.specs.Outcome.{Outcome, ok, _>>=_, _>>_, require}
 use Rattle.model.specs.State.{State, Handle, management, Root, Alias, Carve, Access, SendOptions, Domain, regionAt, withDomains}
 use Rattle.model.specs.Pool.{handleOf}
@@ -16,12 +16,9 @@ use Rattle.model.specs.Calls.{liveDomain, liveRegion, asRegion, asTarget, regio
 use Rattle.model.specs.Readings.{permissions, getRefcount, coreMap}
 use Rattle.model.specs.Perform.{Reading, readTables}
 use Rattle.interface.specs.Outcomes.{Both, accepted, By, Any, bind, bind-by, bind-same, and-same}
-use Rattle.interface.specs.NoBits.{noBits, noBits₁, noBitsIn, Alike, same-refusals, domain-at, live-same, capacity-same, capa-same, insert-same, remove-same, empty-same, activate-same}
-use Rattle.interface.specs.Regions.{new-same, child-same, room-same, exchange-same, send-capa-same, revoke-capa-same}
-
-pub live-domain-same : (s : State) (h : Handle) → liveDomain (noBits s) h ≡ liveDomain s h
-unfolding liveDomain
-live-domain-same s h = ap (λ b. require b noDomain >> ok (h .slot)) (live-same s h)
+use Rattle.interface.specs.NoBits.{noBits, noBits₁, noBitsIn, Alike, same-refusals, domain-at, capacity-same, capa-same, insert-same, remove-same, empty-same, activate-same}
+use Rattle.interface.specs.Closing.{live-domain-same, revoke-capa-same}
+use Rattle.interface.specs.Regions.{new-same, child-same, room-same, exchange-same, send-capa-same}
 
 held-same : (s : State) (d l : ℕ) → regionHeld (noBits s) d l ≡ regionHeld s d l
 unfolding regionHeld liveRegion

@@ -6,10 +6,9 @@ use mathlib.Core.List.{List, [], _∷_}
 use lib.Dec.{eqb}
 use Rattle.rights.specs.Rights.{has, CLEANUP}
 use Rattle.model.specs.State.{State, Region, Kind, Root, Alias, Carve, Access, SendOptions, Capa, noCapa, region, regionRevoke, management, channel, Handle, regionAt, putRegion, withOwner}
-use Rattle.model.specs.Pool.{isLive}
 use Rattle.model.specs.Tree.{Range, accessOf, effectiveRanges, insertChild, removeChild}
 use Rattle.model.specs.Regions.{deactivate, newRegion, freeRegion, sendRanges, sendRegion, applyOptions, giveBack, leaveParent, revokeLeaf, revokeRegion}
-use Rattle.model.specs.Calls.{liveRegion, roomForRegion, addChild, exchangeRights, sendCapa, revokeUnlessRoot, revokeCapa}
+use Rattle.model.specs.Calls.{liveRegion, roomForRegion, addChild, exchangeRights, sendCapa}
 use Rattle.interface.specs.Outcomes.{Both, accepted, refused, By, bind-by, bind-same, and-same, branch}
 use Rattle.interface.specs.NoBits.{noBits, noBits₁, capacity-same, insert-same, push-same, activate-same, deactivate-same}
 
@@ -97,7 +96,7 @@ leaf-same closing i s =
     bind-by _ (free-same i s₂) (λ s₃.
     branch (has (g .rights) CLEANUP) (push-same _ s₃) (accepted refl))))
 
-revoke-region-same : (closing : List ℕ) → (n i : ℕ) (s : State) → Both (By noBits) (revokeRegion closing n i s) (revokeRegion closing n i (noBits s))
+pub revoke-region-same : (closing : List ℕ) → (n i : ℕ) (s : State) → Both (By noBits) (revokeRegion closing n i s) (revokeRegion closing n i (noBits s))
 unfolding revokeRegion
 revoke-region-same closing zero i s = accepted refl
 revoke-region-same closing (suc n) i s = go (regionAt s i .children) refl (λ j t. revoke-region-same closing n j t)
@@ -105,15 +104,3 @@ revoke-region-same closing (suc n) i s = go (regionAt s i .children) refl (λ j 
     go : (cs : List ℕ) → regionAt s i .children ≡ cs → ((j : ℕ) (t : State) → Both (By noBits) (revokeRegion closing n j t) (revokeRegion closing n j (noBits t))) → Both (By noBits) (revokeRegion closing (suc n) i s) (revokeRegion closing (suc n) i (noBits s))
     go [] e ih = rw (e, revokeRegion) (leaf-same closing i s)
     go (c ∷ cs) e ih = rw (e, revokeRegion) (bind-by _ (ih c s) (λ s₁. ih i s₁))
-
-unless-same : (i : ℕ) (s : State) → Both (By noBits) (revokeUnlessRoot i s) (revokeUnlessRoot i (noBits s))
-unfolding revokeUnlessRoot
-unless-same i s = and-same refl (revoke-region-same [] _ i s)
-
-pub revoke-capa-same : (c : Capa) (s : State) → Both (By noBits) (revokeCapa c s) (revokeCapa c (noBits s))
-unfolding revokeCapa
-revoke-capa-same noCapa s = accepted refl
-revoke-capa-same (region h) s = bind-same (live-region-same s h) (λ i. unless-same i s)
-revoke-capa-same (regionRevoke h) s = branch (isLive (s .regionPool) (s .regions) h) (unless-same (h .slot) s) (accepted refl)
-revoke-capa-same (management h) s = refused
-revoke-capa-same (channel h) s = accepted refl

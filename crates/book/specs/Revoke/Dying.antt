@@ -11,7 +11,7 @@ use Rattle.base.specs.Options.{none-some}
 use Rattle.model.specs.Lists.{if_then_else_, isSome, atSlot}
 use Rattle.model.specs.State.{Handle, LocalList, Domain, Kind, Root, Alias, Carve, parentOf, withTracker}
 use Rattle.laws.specs.Keep.SameDomains.{untracked}
-use Rattle.book.specs.Book.{Noted, Slots, noted, dying}
+use Rattle.book.specs.Book.{Noted, Opened, noted, dying}
 use Rattle.book.specs.Demand3.{kindBy}
 use Rattle.book.specs.Matches.{Both, nil, cons, SameList, notOpened, isOpened}
 use Rattle.book.specs.Slots.{slots-as}
@@ -57,13 +57,13 @@ same-locals : (w v : Domain) → untracked (some w) ≡ untracked (some v) → w
 unfolding locals-of
 same-locals w v e = ap locals-of e
 
-list-untracked : {P : ℕ → Handle → Type 0} {Q : Handle → Type 0} (x : Option Slots) (y z : Option Domain) → untracked z ≡ untracked y → SameList P Q x y → SameList P Q x z
+list-untracked : {P : ℕ → Handle → Type 0} (x : Option Opened) (y z : Option Domain) → untracked z ≡ untracked y → SameList P x y → SameList P x z
 list-untracked x y none e notOpened = notOpened
 list-untracked x y (some w) e notOpened = absurd (none-some none (withTracker [] w) refl (sym e))
 list-untracked x y none e (isOpened {x = v} h) = absurd (none-some none (withTracker [] v) refl e)
-list-untracked x y (some w) e (isOpened {l} {x = v} h) = isOpened (slots-as l (v .locals) (w .locals) (same-locals w v e) h)
+list-untracked x y (some w) e (isOpened {o} {x = v} h) = isOpened (slots-as (o .slots) (v .locals) (w .locals) (same-locals w v e) h)
 
-pub lists-untracked : {P : ℕ → Handle → Type 0} {Q : Handle → Type 0} (ls : List (Option Slots)) (ds es : List (Option Domain)) → length es ≡ length ds → ((d : ℕ) → untracked (atSlot es d) ≡ untracked (atSlot ds d)) → Both (SameList P Q) ls ds → Both (SameList P Q) ls es
+pub lists-untracked : {P : ℕ → Handle → Type 0} (ls : List (Option Opened)) (ds es : List (Option Domain)) → length es ≡ length ds → ((d : ℕ) → untracked (atSlot es d) ≡ untracked (atSlot ds d)) → Both (SameList P) ls ds → Both (SameList P) ls es
 lists-untracked ls ds [] n e nil = nil
 lists-untracked ls ds (y ∷ es) n e nil = absurd (omega arith)
 lists-untracked ls ds [] n e (cons r h) = absurd (omega arith)

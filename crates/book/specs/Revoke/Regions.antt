@@ -1,9 +1,9 @@
 -- Revoking a live region: it and all below it die, in the book and in the tables.
 use mathlib.Core.Path.{_≡_, refl, sym, ap, _∙_}
 use Prim.Native.Nat.{ℕ, zero, suc, _+_, _≤_, _<_}
-use mathlib.Core.Bool.{Bool, true, false, not, _&&_}
+use mathlib.Core.Bool.{Bool, true, false, _&&_}
 use mathlib.Core.Option.{Option, none, some, Option·getD}
-use mathlib.Core.List.{List, []}
+use mathlib.Core.List.{List}
 use native.Mathlib.Omega.{arith}
 use lib.Dec.{eqb, eqb→eq}
 use lib.ListN.{length, getD}
@@ -12,24 +12,18 @@ use Rattle.base.specs.Cases.{holds, fails, test}
 use Rattle.base.specs.Tests.{true-is, true-false}
 use Rattle.base.specs.Options.{none-some, some-same}
 use Rattle.model.specs.Lists.{isSome, atSlot, In, if_then_else_}
-use Rattle.model.specs.State.{State, Handle, Domain, Region, parentOf, noneRegion, regionAt}
+use Rattle.model.specs.State.{State, Handle, Region, parentOf, noneRegion, regionAt}
 use Rattle.model.specs.Pool.{isLive, handleOf}
-use Rattle.model.specs.Tree.{isRootKind}
-use Rattle.model.specs.Calls.{revokeUnlessRoot}
-use Rattle.model.specs.Sound.{Sound}
-use Rattle.laws.specs.Accepted.{All, checked, weaken, both}
 use Rattle.laws.specs.Tree.Change.{bare, same-bare}
 use Rattle.laws.specs.Tree.Below.{Below, Revoked}
 use Rattle.laws.specs.Keep.SameDomains.{SameDomains}
-use Rattle.laws.specs.Keep.Agreement.{sound-agree}
-use Rattle.laws.specs.Keep.RevokeRegion.{revoke-region-agree}
-use Rattle.laws.specs.Tree.Facts.{not-root}
-use Rattle.book.specs.Book.{Book, Noted, Slots, noted, isUnder, mostAbove, dying, killed}
+use Rattle.laws.specs.Tree.Generations.{GensAfter}
+use Rattle.laws.specs.Close.Revoke.{Fell}
+use Rattle.book.specs.Book.{Book, Noted, noted, isUnder, mostAbove, dying, killed}
 use Rattle.book.specs.Demand3.{SameRegion, kindBy}
 use Rattle.book.specs.Tests.{and-left, and-right, or-left, or-right, or-else, some-is, lives-below}
-use Rattle.book.specs.Matches.{Both, nil, cons, SameList, AtPlace, LiveDomain, Regions, MatchesAt, list-map}
+use Rattle.book.specs.Matches.{both-map, Regions, MatchesAt, list-map}
 use Rattle.book.specs.NewRegion.{old-is-dead}
-use Rattle.book.specs.Revoke.Generations.{GensAfter, revoke-gens}
 use Rattle.book.specs.Revoke.Dying.{parent-at, parent-of, diesIf, dying-length, noted-dying, dies-if-alive, lists-untracked, some-untracked}
 
 most-above : (rs : List Noted) → length rs ≤ mostAbove rs
@@ -212,30 +206,18 @@ module _ (b : Book) (s t : State) (at : ℕ → Handle) (place : ℕ → ℕ) (m
       same-handle : (i : ℕ) → isSome (atSlot (t .regions) i) ≡ true → handleOf (s .regionPool) i ≡ handleOf (t .regionPool) i
       same-handle i h = ap (λ c. record { slot = i; generation = c }) (sym (gens .kept i h))
 
-  live-on : (h : Handle) → LiveDomain (s .domainPool) (s .domains) h → LiveDomain (t .domainPool) (t .domains) h
-  live-on h q = ap (λ p. isLive p (t .domains) h) (others .domainPool) ∙ ap (λ c. c && eqb (getD (s .domainPool .gens) (h .slot) 0) (h .generation)) (some-untracked (atSlot (t .domains) (h .slot)) (atSlot (s .domains) (h .slot)) (others .domains (h .slot))) ∙ q
-
   pub killed-match : MatchesAt (killed k b) t at place
   unfolding killed
   killed-match = record {
     sizes = m .sizes ∙ sym (others .sizes);
     regions = killed-regions;
-    lists = both-lists (lists-untracked (b .lists) (s .domains) (t .domains) (others .size) (others .domains) (m .lists));
+    lists = both-map (list-map (λ j x q. let u = q .0 in (omega (arith, size′), q .1))) (lists-untracked (b .lists) (s .domains) (t .domains) (others .size) (others .domains) (m .lists));
+    generations = λ d i. m .generations d (sym (some-untracked (atSlot (t .domains) d) (atSlot (s .domains) d) (others .domains d)) ∙ i) ∙ ap (λ p. getD (p .gens) d 0) (sym (others .domainPool));
   }
-    where
-      both-lists : {ls : List (Option Slots)} {ds : List (Option Domain)} → Both (SameList (AtPlace (b .regions) at) (LiveDomain (s .domainPool) (s .domains))) ls ds → Both (SameList (AtPlace rs′ at) (LiveDomain (t .domainPool) (t .domains))) ls ds
-      both-lists nil = nil
-      both-lists (cons r h) = cons (list-map (λ j x q. let u = q .0 in (omega (arith, size′), q .1)) live-on _ _ r) (both-lists h)
 
--- THEOREM: after an accepted revoke of a live region the book in which it and all below it died matches
-pub revoke-region-match : (b : Book) (s : State) (at : ℕ → Handle) (place : ℕ → ℕ) (k : ℕ) → Sound s → MatchesAt b s at place → k < length (b .regions) → isLive (s .regionPool) (s .regions) (at k) ≡ true → All (λ t. MatchesAt (killed k b) t at place) (revokeUnlessRoot (at k .slot) s)
-unfolding revokeUnlessRoot
-revoke-region-match b s at place k sound m u l =
-    checked (not (isRootKind (regionAt s (at k .slot) .kind))) _ (λ r.
-    let i = at k .slot in
+-- THEOREM: a live region that is no root has gone with all below it, and the book in which they died matches
+pub fell-match : (b : Book) (s t : State) (at : ℕ → Handle) (place : ℕ → ℕ) (k p : ℕ) → MatchesAt b s at place → k < length (b .regions) → isLive (s .regionPool) (s .regions) (at k) ≡ true → parentOf (regionAt s (at k .slot) .kind) ≡ some p → Fell s (at k .slot) t → MatchesAt (killed k b) t at place
+fell-match b s t at place k p m u l n f =
     let a : noted (b .regions) k .alive ≡ true = m .regions .aliveIsLive k u ∙ l in
-    let e = some-is (atSlot (s .regions) i) noneRegion (and-left (isSome (atSlot (s .regions) i)) _ l) in
-    let n = not-root (regionAt s i .kind) r in
-    let q = parent-of (λ j. at j .slot) (noted (b .regions) k .kind) (n .0) (ap parentOf (sym (m .regions .stored k u a .kind)) ∙ n .1) in
-    weaken (both (revoke-region-agree [] s (sound-agree s sound) i (n .0) (regionAt s i) e (n .1)) (revoke-gens [] s (sound .outside .regionPool .gensLength ∙ sym (sound .outside .regionsLength)) (sound .outside .regions) i (n .0) (regionAt s i) e (n .1)))
-    (λ t z. killed-match b s t at place m k u a (q .0) (q .1) (z .0 .0 .1) (z .1 .0) (z .1 .1)))
+    let q = parent-of (λ j. at j .slot) (noted (b .regions) k .kind) p (ap parentOf (sym (m .regions .stored k u a .kind)) ∙ n) in
+    killed-match b s t at place m k u a (q .0) (q .1) (f .sameDomains) (f .generations) (f .revoked)
