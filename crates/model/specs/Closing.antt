@@ -58,14 +58,14 @@ revokeSlots f [] s = ok s
 revokeSlots f (c ∷ cs) s = f c s >>= λ s₁. revokeSlots f cs s₁
 
 -- "last in its turn its slot is freed, its generation raised" (16). The record goes with its slot list, which "is as a making leaves it"; its tracker is
--- empty by then (`close-closes`, crate laws).
+-- empty by then (`idle`, crate laws).
 unfoldable pub freeDomain : ℕ → State → Outcome State
 freeDomain d s = do
   p ← free d (s .domainPool)
   ok (withDomains p (set (s .domains) d none) s)
 
 -- A domain below stands one step further from the domain that the call closes, so that from the number of live domains on the first equation is never
--- reached (`close-sound`, crate laws). No step of a close changes the list that is gone through.
+-- reached (`close-sound`, crate laws). No step of a close changes the list that is gone through (`still-there`, crate laws).
 unfoldable pub closeDomain : ℕ → List ℕ → ℕ → State → Outcome State
 closeDomain zero closing d s = ok s
 closeDomain (suc n) closing d s = do
