@@ -1,5 +1,5 @@
--- Revoke keeps `Tracks` of the live domains: the region goes with all below it, or the managed domain with all that it manages. The caller is not closed, so that
--- the slot that is emptied is a live domain's.
+-- Revoke keeps `Tracks` of the live domains: the region goes with all below it, or the managed domain with all that it manages. The caller is not
+-- closed, so that the slot that is emptied is a live domain's.
 use mathlib.Core.Path.{sym, ap, subst, _∙_}
 use Prim.Native.Nat.{ℕ}
 use mathlib.Core.Bool.{not}
