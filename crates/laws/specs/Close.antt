@@ -8,6 +8,7 @@ pub mod Between
 pub mod Visit
 pub mod Close
 pub mod Induction
+pub mod Fuel
 pub mod Closes
 pub mod AnyTables
 pub mod Stops

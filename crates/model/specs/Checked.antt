@@ -8,4 +8,5 @@ pub mod SendHash
 pub mod HashAlone
 pub mod Interface
 pub mod Marks
+pub mod Closing
 pub mod Example

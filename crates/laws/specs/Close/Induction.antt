@@ -1,10 +1,11 @@
 -- Induction along a close. `C n closing s d x` is what is to be shown of `closeDomain n closing d s`, where domain d is x; `S n closing s d x u k cs` what is
 -- to be shown of the rest of its turn, `restOf n closing d cs u`: the turn began in s, the first k slots are done, cs are left, and the tables are u.
 -- The steps (`Steps`) give at each slot what is known there: the tables between two slots are sound, the closing domain is live and has the list that it
--- had (`Visit`), a region that is revoked is live and no root, a domain that is closed in turn is d's, and a domain that is freed is `Idle`.
--- A property of one run is `close-keeps`. For two runs side by side take for C and S "for every other state that is related to s (to u) the two outcomes
--- are related": the other run's close is followed by its own equations, the model's by `close-begins` and `rest-..` below, and where the step on a region,
--- or the close in turn, is accepted with t the last premise of `revokes` and `closes` goes on from t.
+-- had (`Visit`, with `still-there` of Between), a region that is revoked is live and no root, a domain that is closed in turn is d's, and a domain that is
+-- freed is `Idle`. A property of one run is `close-keeps`; where it holds of any tables `close-any` (AnyTables) asks less.
+-- For two runs side by side take for C and S "for every other state that is related to s (to u) the two outcomes are related", as Fuel does: the model's
+-- run is followed by `close-begins` and `rest-..` below, the other by its own equations; where the revoke of a region, or the close in turn, is accepted with
+-- t, the last premise of `revokes` and `closes` goes on from t, and the premise `All ..` before it says what t is.
 use mathlib.Core.Path.{_≡_, refl, sym, ap, subst, _∙_}
 use Prim.Native.Nat.{ℕ, zero, suc, _≤_}
 use mathlib.Core.Bool.{Bool, true, false, not}

@@ -2,7 +2,7 @@
 -- the next one's begins (`Visit`): whatever a slot that had its turn names is gone for good (`Past`), so nothing needs to be counted.
 use mathlib.Core.Path.{_≡_, refl, sym, ap, subst, _∙_}
 use mathlib.Core.Logic.{_≢_}
-use Prim.Native.Nat.{ℕ, suc, _<_}
+use Prim.Native.Nat.{ℕ, suc, _+_, _<_}
 use mathlib.Core.Bool.{Bool, true, false}
 use mathlib.Core.Option.{Option, none, some}
 use mathlib.Core.List.{List, [], _∷_}
@@ -10,7 +10,7 @@ use native.Mathlib.Omega.{arith}
 use native.Mathlib.Decide.{ℕ-discrete}
 use lib.Dec.{T, not-T}
 use lib.Ieee.Fits.{and-l}
-use lib.ListN.{take, drop}
+use lib.ListN.{length, take, drop}
 use borrow.Author.Tests.{eq-eqb}
 use Rattle.base.specs.Cases.{lt, ge, cmp}
 use Rattle.base.specs.Tests.{true-false}
@@ -44,9 +44,10 @@ pub record Visit (s : State) (d : ℕ) (x : Domain) (u : State) (k : ℕ) (cs : 
   pub between : Between s d u
   pub past : Each (Past u) (take k (x .locals .held))
   pub left : drop k (x .locals .held) ≡ cs
+  pub place : k + length cs ≡ length (x .locals .held)
 
 pub first-visit : (s : State) (d : ℕ) (x : Domain) → Turn s d x → Visit s d x s 0 (x .locals .held)
-first-visit s d x b = record { turn = b; between = record { sound = b .sound; less = less-self s; kept = λ k o. refl; past = λ k y e z. absurd (none-some (atSlot (s .domains) k) y z e); regions = λ i o. refl }; past = tt; left = refl }
+first-visit s d x b = record { turn = b; between = record { sound = b .sound; less = less-self s; kept = λ k o. refl; past = λ k y e z. absurd (none-some (atSlot (s .domains) k) y z e); regions = λ i o. refl }; past = tt; left = refl; place = omega arith }
 
 -- ---- at slot c
 
@@ -76,7 +77,7 @@ module _ (s : State) (d : ℕ) (x : Domain) (u : State) (k : ℕ) (c : Option Ca
 
   -- the next slot's turn, where this one's left t
   next : (t : State) → Between s d t → Less u t → Past t c → Visit s d x t (suc k) cs
-  next t b₁ l p = record { turn = v .turn; between = b₁; past = take-next (Past t) k (x .locals .held) c cs (v .left) p (pasts-on u t l (take k (x .locals .held)) (v .past)); left = drop-next k (x .locals .held) c cs (v .left) }
+  next t b₁ l p = record { turn = v .turn; between = b₁; past = take-next (Past t) k (x .locals .held) c cs (v .left) p (pasts-on u t l (take k (x .locals .held)) (v .past)); left = drop-next k (x .locals .held) c cs (v .left); place = omega (arith, v .place) }
 
   -- nothing is done
   pub passed : Past u c → Visit s d x u (suc k) cs
