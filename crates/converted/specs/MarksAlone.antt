@@ -1,5 +1,6 @@
 -- Marks influence nothing else: from two states that are the same but for the marks of queued domains, any calls give the same answers but for a popped
--- update's marks, and lead to two such states. So the last delivery, which lacked the marks and nothing else, has the same calls.
+-- update's marks, and lead to two such states. So the last delivery, which lacked the marks, has the same calls but for the
+-- close (document 02, request 5): it refused a revoke of a Management capability, which left its tables, so that its lists are those without such calls.
 use mathlib.Core.Path.{_≡_, refl, sym, ap, ap₂, subst, _∙_}
 use Prim.Native.Nat.{_+_, _%_}
 use mathlib.Core.Option.{Option, none, some}

@@ -26,9 +26,9 @@ use Rattle.converted.specs.Unique.{convertible-words}
 
 -- ---- what is claimed
 
--- s is made and changed by calls; the last delivery's tables of it are all its words but the marks, since marks are all that the last delivery lacked;
--- these words become t₁ by the converter; then calls lead from t₁ to t₂. `run-marks-alone` says why the first calls are the last delivery's: marks
--- influence nothing else.
+-- s is made and changed by calls; the last delivery's tables of it are all its words but the marks, since marks are all the words that the last delivery
+-- lacked; these words become t₁ by the converter; then calls lead from t₁ to t₂. `run-marks-alone` says why the first calls are the last delivery's: marks
+-- influence nothing else. It closed no domain: what it refused for that is not in cs₀.
 abbrev pub Demand3Converted : Type 0
 Demand3Converted = (z : Sizes) (s : State) (cs₀ cs : List Call) (ys : List Answer) (o t v w t₁ v₁ w₁ t₂ : List ℕ)
     → makeTables z ≡ ok s → Each CallWords cs₀ → o ≡ formerWords (run s cs₀ .1)

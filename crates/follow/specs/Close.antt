@@ -1,5 +1,5 @@
--- A close keeps `Tracks` of the live domains that are not closing. A domain's turn begins: nothing is claimed of it from then on. Its slot is freed: of an empty slot
--- nothing is claimed, and every other domain has its tracker and its handle as before.
+-- A close keeps `Tracks` of the live domains that are not closing. A domain's turn begins: nothing is claimed of it from then on. Its slot is freed: of
+-- an empty slot nothing is claimed, and every other domain has its tracker and its handle as before.
 use mathlib.Core.Path.{_≡_, refl, sym, subst}
 use mathlib.Core.Logic.{_≢_}
 use Prim.Native.Nat.{ℕ, zero, suc, _≤_}

@@ -1,5 +1,5 @@
--- Every call on sound tables keeps `Tracks` of the live domains, of what is seen after it. No call but making, opening and revoke makes a domain live or frees one:
--- the domain pool stays, and in sound tables the slots in use are those that it does not have as free.
+-- Every call on sound tables keeps `Tracks` of the live domains, of what is seen after it. No call but making, opening and revoke makes a domain live or
+-- frees one: the domain pool stays, and in sound tables the slots in use are those that it does not have as free.
 use mathlib.Core.Path.{_≡_, refl, ap}
 use Prim.Native.Nat.{ℕ, _<_}
 use mathlib.Core.Bool.{Bool}

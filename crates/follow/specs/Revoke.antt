@@ -1,5 +1,5 @@
--- Revoke keeps `Tracks` of the live domains: the region goes with all below it, or the managed domain with all that it manages. The caller is not closed, so that
--- the slot that is emptied is a live domain's.
+-- Revoke keeps `Tracks` of the live domains: the region goes with all below it, or the managed domain with all that it manages. The caller is not
+-- closed, so that the slot that is emptied is a live domain's.
 use mathlib.Core.Path.{sym, ap, subst, _∙_}
 use Prim.Native.Nat.{ℕ}
 use mathlib.Core.Bool.{not}
@@ -25,8 +25,8 @@ use Rattle.laws.specs.Keep.BaseSteps.{Live}
 use Rattle.laws.specs.Keep.Checks.{domain-live, region-live}
 use Rattle.laws.specs.Keep.Whole.{live-slot}
 use Rattle.laws.specs.Close.Less.{domain-was}
-use Rattle.laws.specs.Close.Closes.{rootless}
-use Rattle.laws.specs.Close.Call.{managed-closes}
+use Rattle.laws.specs.Close.Closes.{first-turn}
+use Rattle.laws.specs.Close.Call.{managed-closes, caller-stays}
 use Rattle.follow.specs.Writer.{Seen}
 use Rattle.follow.specs.Steps.{Tracks, tracks-fewer}
 use Rattle.follow.specs.Calls.{emptied-tracks}
@@ -49,11 +49,11 @@ module _ (v : Seen) (s : State) (sound : Sound s) (h : Tracking [] v s) (c : ℕ
 
   managed-tracks : (k : Handle) → All (Tracking [] v) (closeManaged k s)
   unfolding closeManaged
-  managed-tracks k = bind (domain-live s k) (λ d (z, f). checked (not (closesRoot s d)) _ (λ u. and-then _ (close-tracks v s d z (record { sound = sound; is = f; noRoot = rootless s sound d u }) (liveDomains s) (omega arith) h)))
+  managed-tracks k = bind (domain-live s k) (λ d (z, f). checked (not (closesRoot s d)) _ (λ u. and-then _ (close-tracks v s d z (first-turn s sound d z f u) (liveDomains s) (omega arith) h)))
 
   managed-follows : (k : Handle) → In (x .locals .held) l (management k) → All Left (closeManaged k s)
-  managed-follows k at = weaken (both (managed-tracks k) (managed-closes s sound c l x e k at)) (λ t (g, (v, n)).
-      let (y, f, q) = domain-was (atSlot (s .domains) c) (atSlot (t .domains) c) x (sym (v .kept c n)) e in
+  managed-follows k at = weaken (both (managed-tracks k) (managed-closes s sound k)) (λ t (g, (i, w)).
+      let (y, f, q) = domain-was (atSlot (s .domains) c) (atSlot (t .domains) c) x (sym (w .kept c (caller-stays s sound c l x e k at i))) e in
       (g, is-live (atSlot (t .domains) c) y f))
 
   revoke-capa : (a : Capa) → In (x .locals .held) l a → All Left (revokeCapa a s)

@@ -1,5 +1,5 @@
--- The domains that a revoke speaks of: those that are live and not closing. A revoke of a region keeps `Tracks` of them: the domains that gain and lose are live
--- (`revoke-whole`, crate laws), so that no slot comes to be spoken of.
+-- The domains that a revoke speaks of: those that are live and not closing. A revoke of a region keeps `Tracks` of them: the domains that gain and lose
+-- are live (`revoke-whole`, crate laws), so that no slot comes to be spoken of.
 use mathlib.Core.Path.{_≡_, sym, subst}
 use Prim.Native.Nat.{ℕ}
 use mathlib.Core.Bool.{not}

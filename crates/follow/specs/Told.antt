@@ -1,5 +1,5 @@
--- The calls that tell the writer something keep `Tracks` of what is seen after them: a making leaves nothing stored and nothing seen, an opening voids what was
--- seen of a slot whose tracker is empty, and a pop takes an update out of the queue and reads the counts that it marks, if its domain is live.
+-- The calls that tell the writer something keep `Tracks` of what is seen after them: a making leaves nothing stored and nothing seen, an opening voids
+-- what was seen of a slot whose tracker is empty, and a pop takes an update out of the queue and reads the counts that it marks, if its domain is live.
 use mathlib.Core.Path.{_≡_, refl, sym, subst, _∙_}
 use mathlib.Core.Logic.{_⊎_, inl, inr, _≢_}
 use Prim.Native.Nat.{ℕ, zero, suc, _+_, _%_}
