@@ -1,8 +1,8 @@
-// Domains: the five words before the slots, loaded and stored; a slot, loaded by itself.
+// Domains: the five words before the slots, loaded and stored; a slot, loaded by itself; all words of one, cleared.
 ghost use mathlib.Core.Path.{_≡_};
 ghost use lib.ListN.{length};
 ghost use Rattle.sizes.specs.Sizes.{headWidth, slotWidth};
-ghost use Rattle.tables.specs.Tables.{headAt, slotAt, withHead};
+ghost use Rattle.tables.specs.Tables.{headAt, slotAt, withHead, withoutDomain};
 ghost use Rattle.tables.specs.View.{view, Sized, Left, headOf, slotOf};
 ghost use Rattle.tables.specs.Domains.{domainPlace, slotPlace};
 use sizes::HEAD_WIDTH;
@@ -56,6 +56,20 @@ pub fn store_head(t: &mut [u64], i: usize, h: DomainHead)
 {
     let a = domain_at(t, i);
     words::store(t, a, &[h.manager, h.cores, h.tracker, h.head, h.count]);
+}
+
+// Makes the words of domain i 0, its slots' too; nothing where there is no such domain.
+pub fn clear_domain(t: &mut [u64], i: usize)
+    requires { ⌜ Sized (now t) ⌝ }
+    ensures { λ _. ⌜ Left (now (t .exit)) (withoutDomain (view (now (t .entry))) i) ⌝ }
+{
+    let z = sizes::read_sizes(t);
+    let w = sizes::domain_width(z);
+    if i < z.domains {
+        let start = domain_at(t, i);
+        let end = start + w;
+        words::clear(&mut t[start..end]);
+    }
 }
 
 // ---- Slot j of domain i

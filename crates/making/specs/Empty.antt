@@ -4,14 +4,10 @@ use mathlib.Core.List.{List}
 use Prim.Native.Nat.{ℕ, _+_}
 use lib.ListN.{replicate}
 use Rattle.sizes.specs.declared.Sizes.{Sizes}
-use Rattle.tables.specs.Tables.{Tables, Domain, noHead, noSlot, noRegion, noRecord, noUpdate, noHash, noInterface}
+use Rattle.tables.specs.Tables.{Tables, emptyDomain, noRegion, noRecord, noUpdate, noHash, noInterface}
 use Rattle.tables.specs.View.{view, Sized}
 use Rattle.sizes.specs.Sizes.{sizesOf}
 use Rattle.arena.specs.Arena.{newArena}
-
--- the record of a domain that is not open
-unfoldable pub emptyDomain : Sizes → Domain
-emptyDomain z = record { head = noHead; slots = replicate (z .slots) noSlot }
 
 unfoldable pub empty : Sizes → Tables
 empty z =

@@ -7,16 +7,17 @@ use lib.ListN.{length, getD, take, drop, replicate, length-replicate, getD-repli
 use lib.Seq.{sets, sets-eq, length-sets, getD-append-add}
 use Rattle.words.specs.Runs.{stored, stored-in, drop-sets-lt}
 use Rattle.words.specs.Cuts.{cuts, offset}
-use Rattle.words.specs.Zeros.{zeros, take-zeros, drop-zeros, rows-zeros, cuts-zeros}
+use Rattle.words.specs.Zeros.{zeros, drop-zeros, rows-zeros, cuts-zeros}
 use Rattle.sizes.specs.declared.Sizes.{Sizes}
 use Rattle.tables.specs.Tables.{Tables, withDomainPool, withRegionPool, withRecordPool}
 use Rattle.sizes.specs.Limits.{Limits}
-use Rattle.sizes.specs.Sizes.{sections, sizesOf, widths, stride, total, headerWidth, headWidth, slotWidth, regionWidth, recordWidth, updateWidth, hashWidth, interfaceWidth, markWidth}
-use Rattle.tables.specs.View.{view, ofParts, Left, layout, domainOf, slotOf, regionOf, recordOf, updateOf, hashOf, interfaceOf, markOf}
+use Rattle.sizes.specs.Sizes.{sections, sizesOf, widths, stride, total, headerWidth, regionWidth, recordWidth, updateWidth, hashWidth, interfaceWidth, markWidth}
+use Rattle.tables.specs.View.{view, ofParts, Left, layout, domainOf, regionOf, recordOf, updateOf, hashOf, interfaceOf, markOf}
+use Rattle.tables.specs.Domains.{domain-zeros}
 use Rattle.tables.specs.Header.{read-is, write-is, sizes-seen}
 use Rattle.tables.specs.Layout.{words-are}
 use Rattle.arena.specs.Arena.{newArena}
-use Rattle.making.specs.Empty.{empty, emptyDomain, Blank}
+use Rattle.making.specs.Empty.{empty, Blank}
 
 abbrev sizeWords : Sizes → List ℕ
 sizeWords z = z .domains ∷ z .slots ∷ z .regions ∷ z .records ∷ z .updates ∷ []
@@ -28,10 +29,6 @@ later z = drop 1 (widths z)
 -- how many they are
 abbrev behindHeader : ℕ
 behindHeader = sections - 1
-
-domain-zeros : (z : Sizes) → domainOf (z .slots) (zeros (stride z)) ≡ emptyDomain z
-unfolding domainOf emptyDomain
-domain-zeros z = rw (take-zeros headWidth (z .slots * slotWidth), drop-zeros headWidth (z .slots * slotWidth), rows-zeros slotWidth (z .slots) slotOf)
 
 -- ---- cleared words with the sizes in front
 

@@ -1,11 +1,11 @@
--- Freeing a slot also makes the words of its record 0, and those of a region's hash.
+-- Freeing a slot also makes the words of its record 0, and those of a region's hash or a domain's interface.
 use mathlib.Core.Path.{_≡_, refl, sym, ap, _∙_}
 use mathlib.Core.Bool.{Bool, true, false}
 use mathlib.Core.List.{List}
 use Prim.Native.Nat.{ℕ}
 use Rattle.base.specs.Cases.{pick}
 use Rattle.base.specs.Tests.{both}
-use Rattle.tables.specs.Tables.{Tables, noRegion, noRecord, noHash, withDomainPool, withRegionPool, withRecordPool, withRegion, withRecord, withHash}
+use Rattle.tables.specs.Tables.{Tables, noRegion, noRecord, noHash, noInterface, withDomainPool, withRegionPool, withRecordPool, withRegion, withRecord, withHash, withInterface, withoutDomain}
 use Rattle.tables.specs.View.{view, Left}
 use Rattle.arena.specs.declared.Freed.{Freed}
 use Rattle.arena.specs.declared.Freed.the-variants.{Done, Spent, NotHeld}
@@ -15,7 +15,7 @@ use Rattle.pools.specs.declared.Pool.the-variants.{Domains, Regions, Rec
 use Rattle.pools.specs.Pools.{poolOf, withPool}
 
 abbrev pub wiped : Tables → Pool → ℕ → Tables
-wiped s Domains i = s
+wiped s Domains i = withInterface (withoutDomain s i) i noInterface
 wiped s Regions i = withHash (withRegion s i noRegion) i noHash
 wiped s Records i = withRecord s i noRecord
 

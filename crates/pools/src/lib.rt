@@ -2,7 +2,7 @@
 ghost use mathlib.Core.Path.{_≡_};
 ghost use lib.ListN.{getD};
 ghost use Rattle.words.specs.Cuts.{offset};
-ghost use Rattle.tables.specs.Tables.{noRegion, noHash, withDomainPool, withRegionPool, withRecordPool, withRegion, withHash};
+ghost use Rattle.tables.specs.Tables.{noRegion, noHash, noInterface, withDomainPool, withRegionPool, withRecordPool, withRegion, withHash, withInterface, withoutDomain};
 ghost use Rattle.sizes.specs.Sizes.{sizesOf, widths};
 ghost use Rattle.tables.specs.View.{view, Sized, Left};
 ghost use Rattle.arena.specs.Arena.{given, allocated, answerTo, freed, isFreeB, liveB, capacityOf, newArena};
@@ -96,13 +96,22 @@ fn wipe_region(t: &mut [u64], i: usize)
     hash_rows::store_hash(t, i, tables::no_hash());
 }
 
-// Makes the words of record i 0. A domain is never freed, so its record stays.
+// A domain's record with its slots, and its interface (document 02, request 5: its list is as a making leaves it).
+fn wipe_domain(t: &mut [u64], i: usize)
+    requires { ⌜ Sized (now t) ⌝ }
+    ensures { λ _. ⌜ Left (now (t .exit)) (withInterface (withoutDomain (view (now (t .entry))) i) i noInterface) ⌝ }
+{
+    domain_rows::clear_domain(t, i);
+    interface_rows::store_interface(t, i, tables::no_interface());
+}
+
+// Makes the words of record i 0.
 fn wipe(t: &mut [u64], q: Pool, i: usize)
     requires { ⌜ Sized (now t) ⌝ }
     ensures { λ _. ⌜ Left (now (t .exit)) (wiped (view (now (t .entry))) q i) ⌝ }
 {
     match q {
-        Pool::Domains => {}
+        Pool::Domains => wipe_domain(t, i),
         Pool::Regions => wipe_region(t, i),
         Pool::Records => record_rows::store_record(t, i, tables::no_record()),
     }
@@ -212,6 +221,14 @@ pub fn allocate_record(t: &mut [u64]) -> Given
     allocate_in(t, Pool::Records)
 }
 
+pub fn free_domain(t: &mut [u64], i: usize) -> Freed
+    requires { ⌜ Sized (now t) ⌝ }
+    ensures { λ r. ⌜ r ≡ answerTo (view (now (t .entry)) .domainPool) i ⌝ }
+    ensures { λ _. ⌜ Left (now (t .exit)) (slotFreed (view (now (t .entry))) Pool.Domains i) ⌝ }
+{
+    free_in(t, Pool::Domains, i)
+}
+
 pub fn free_region(t: &mut [u64], i: usize) -> Freed
     requires { ⌜ Sized (now t) ⌝ }
     ensures { λ r. ⌜ r ≡ answerTo (view (now (t .entry)) .regionPool) i ⌝ }
@@ -275,6 +292,13 @@ pub fn region_generation(t: &[u64], i: usize) -> u64
     ensures { λ r. ⌜ r ≡ getD (view (now (t .entry)) .regionPool .gens) i 0 ⌝ }
 {
     generation_in(t, Pool::Regions, i)
+}
+
+pub fn domain_count(t: &[u64]) -> u64
+    requires { ⌜ Sized (now t) ⌝ }
+    ensures { λ r. ⌜ r ≡ view (now (t .entry)) .domainPool .count ⌝ }
+{
+    count_in(t, Pool::Domains)
 }
 
 pub fn region_count(t: &[u64]) -> u64

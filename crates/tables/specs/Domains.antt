@@ -1,4 +1,4 @@
--- A domain's five words, loaded and stored, and its slots, loaded each by itself: parts of one row.
+-- A domain's five words, loaded and stored, and its slots, loaded each by itself: parts of one row. The whole row, cleared.
 use mathlib.Core.Path.{_≡_, refl, sym, ap, _∙_}
 use mathlib.Core.List.{List, []}
 use Prim.Native.Nat.{ℕ, _+_, _-_, _*_, _≤_, _<_}
@@ -6,15 +6,18 @@ use native.Mathlib.Nat.{mul-le-mul-right}
 use native.Mathlib.Omega.{arith}
 use borrow.Author.Tests.{lt-ltb, le-ltb}
 use lib.Dec.{ltb}
-use lib.ListN.{length, getD, set, take, drop, length-take, List·getD-eq-default}
-use lib.Seq.{sets}
+use lib.ListN.{length, getD, set, take, drop, length-take, length-replicate, List·getD-eq-default}
+use borrow.Rule.Slice.PartMut.{putMid}
+use lib.Seq.{sets, set-out}
 use Rattle.base.specs.Cases.{pick, cmp, lt, ge}
-use Rattle.words.specs.Runs.{part, part-part, part-drop, length-part, fetched, fetched-out, stored, sets-all, take-sets-lt, drop-sets-lt}
+use Rattle.words.specs.Runs.{part, part-part, part-drop, length-part, fetched, fetched-out, stored, stored-in, lent-back, sets-all, take-sets-lt, drop-sets-lt}
 use Rattle.words.specs.Rows.{rows, length-rows, getD-rows}
-use Rattle.words.specs.Cuts.{cuts}
+use Rattle.words.specs.Cuts.{cuts, offset}
+use Rattle.words.specs.Zeros.{zeros, take-zeros, drop-zeros, rows-zeros}
+use Rattle.sizes.specs.declared.Sizes.{Sizes}
 use Rattle.tables.specs.declared.DomainHead.{DomainHead}
-use Rattle.tables.specs.Tables.{Domain, noDomain, noSlot, headAt, slotAt, putHead, withDomains, withHead}
-use Rattle.sizes.specs.Sizes.{sizesOf, stride, headWidth, slotWidth, domainsSection}
+use Rattle.tables.specs.Tables.{Domain, noDomain, noSlot, emptyDomain, headAt, slotAt, putHead, withDomains, withHead, withoutDomain}
+use Rattle.sizes.specs.Sizes.{sizesOf, widths, stride, headWidth, slotWidth, domainsSection}
 use Rattle.tables.specs.View.{view, ofParts, Sized, Left, domainOf, headOf, headWords, slotOf}
 use Rattle.sizes.specs.Limits.{mostWords}
 use Rattle.sizes.specs.Tests.{total-fits}
@@ -61,6 +64,10 @@ put-head n p h hp =
     let e : take 5 (sets p 0 (headWords h)) ≡ headWords h =
     take-sets-lt (headWords h) p 5 0 (omega arith) ∙ sets-all (headWords h) (take 5 p) (simp length-take (omega arith)) in
     rw (e, drop-sets-lt (headWords h) p 5 0 (omega arith))
+
+pub domain-zeros : (z : Sizes) → domainOf (z .slots) (zeros (stride z)) ≡ emptyDomain z
+unfolding domainOf emptyDomain
+domain-zeros z = rw (take-zeros headWidth (z .slots * slotWidth), drop-zeros headWidth (z .slots * slotWidth), rows-zeros slotWidth (z .slots) slotOf)
 
 -- ---- in the tables
 
@@ -141,3 +148,39 @@ module _ (t : List ℕ) (s : Sized t) (i a : ℕ) where
       let z : a ≡ domainPlace t i + 0 = omega arith in
       domain-stored u (headWords h) 0 (putHead (getD (view t .domains) i noDomain) h) (omega arith) (omega arith) (rw z at eu)
       (λ q. rw (domain-at t i q) (put-head (sizesOf t .slots) (domainPart t i) h (domain-long q)))
+
+  -- w words for each domain, by the sizes z
+  module _ (z : Sizes) (w : ℕ) (ez : z ≡ sizesOf t) (ew : w ≡ stride z) where
+    wide : w ≡ stride (sizesOf t)
+    wide = ew ∙ ap stride ez
+
+    here : i < z .domains → i < sizesOf t .domains
+    here h = rw ez at h
+
+    pub domain-inside : i < z .domains → a ≡ domainPlace t i → a + w ≤ length t
+    unfolding rowAt
+    domain-inside h ea =
+        let e : domainPlace t i ≡ offset (widths (sizesOf t)) domainsSection + i * stride (sizesOf t) = rw (lt-ltb i (sizesOf t .domains) (here h)) in
+        omega (arith, wide, section-inside t domainsSection s, mul-le-mul-right (stride (sizesOf t)) (here h))
+
+    -- what comes back of the row that was lent to be cleared
+    pub domain-cleared : (p : List ℕ) → i < z .domains → a ≡ domainPlace t i → p ≡ zeros (length (take (a + w - a) (drop a t)))
+        → Left (putMid a (a + w - a) t p) (withoutDomain (view t) i)
+    unfolding withoutDomain part view ofParts
+    domain-cleared p h ea ep =
+        let n = stride (sizesOf t) in
+        let inside = domain-inside h ea in
+        let b : a ≡ domainPlace t i + 0 = omega arith in
+        let lent : length (take (a + w - a) (drop a t)) ≡ n = length-part t a (a + w - a) (omega arith) ∙ omega (arith, wide) in
+        let q : p ≡ zeros n = ep ∙ ap zeros lent in
+        let long : length p ≡ n = ap length q ∙ length-replicate n 0 in
+        let u : putMid a (a + w - a) t p ≡ stored t (domainPlace t i + 0) p =
+        lent-back t p a (a + w - a) n (omega (arith, wide)) long (omega (arith, wide)) ∙ sym (stored-in t a p (omega (arith, wide))) ∙ rw b in
+        domain-stored (putMid a (a + w - a) t p) p 0 (emptyDomain (sizesOf t)) (omega arith) (omega arith) u
+        (λ k. ap (domainOf (sizesOf t .slots)) (sets-all p (domainPart t i) (domain-long k ∙ sym long) ∙ q) ∙ domain-zeros (sizesOf t))
+
+    pub no-domain-cleared : z .domains ≤ i → Left t (withoutDomain (view t) i)
+    unfolding withoutDomain withDomains view ofParts
+    no-domain-cleared h =
+        let e : set (view t .domains) i (emptyDomain (sizesOf t)) ≡ view t .domains = set-out (view t .domains) i _ (rw length-rows (rw ez at h)) in
+        record { seen = sym (ap (withDomains (view t)) e); sized = s }

@@ -1,7 +1,7 @@
 -- The tables as a structured value: each field mirrors words of docs/TABLES.md.
 use Prim.Native.Nat.{ℕ}
 use mathlib.Core.List.{List, []}
-use lib.ListN.{set, getD}
+use lib.ListN.{set, getD, replicate}
 use Rattle.sizes.specs.declared.Sizes.{Sizes}
 use Rattle.tables.specs.declared.DomainHead.{DomainHead}
 use Rattle.tables.specs.declared.Slot.{Slot}
@@ -49,6 +49,10 @@ noSlot = record { kind = 0; handle = record { slot = 0; generation = 0 } }
 
 abbrev pub noDomain : Domain
 noDomain = record { head = noHead; slots = [] }
+
+-- the record of a domain that is not open, as long as any other
+unfoldable pub emptyDomain : Sizes → Domain
+emptyDomain z = record { head = noHead; slots = replicate (z .slots) noSlot }
 
 abbrev pub noRegion : RegionCapa
 noRegion = record { kind = 0; owner = 0; parent = 0; start = 0; end = 0; rights = 0; child = 0; next = 0 }
@@ -166,6 +170,9 @@ withHead s i h = withDomains s (set (s .domains) i (putHead (getD (s .domains) i
 
 unfoldable pub withSlot : Tables → ℕ → ℕ → Slot → Tables
 withSlot s i j x = withDomains s (set (s .domains) i (putSlot (getD (s .domains) i noDomain) j x))
+
+unfoldable pub withoutDomain : Tables → ℕ → Tables
+withoutDomain s i = withDomains s (set (s .domains) i (emptyDomain (s .sizes)))
 
 unfoldable pub withRegion : Tables → ℕ → RegionCapa → Tables
 withRegion s i r = withRegions s (set (s .regions) i r)

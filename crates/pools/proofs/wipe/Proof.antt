@@ -1,12 +1,14 @@
 -- Each arm stores what is all zero.
 use Rattle.arena.specs.Arena.{given}
 use borrow.Author.Needs.{needs}
-use mathlib.Core.Path.{refl}
 use Rattle.pools.proofs.wipe.Statement.{statement}
 use Rattle.pools.proofs.wipe.Tie as tie
 
 enum-told : tie.Need-enum-told
 enum-told c = search needs
+
+wipe-domain-requires : tie.Need-wipe-domain-requires
+wipe-domain-requires c κs = search needs
 
 enum-told-2 : tie.Need-enum-told-2
 enum-told-2 c = search needs
@@ -23,17 +25,20 @@ no-record-requires c κs = search needs
 store-record-requires : tie.Need-store-record-requires
 store-record-requires c κs = search needs
 
-returns : tie.Need-returns
-returns c = rw (c .enum-told .given .1) (record { seen = refl; sized = (c .before .before .before .pre) })
-
 same-length : tie.Need-same-length
 same-length c = search needs
+
+returns : tie.Need-returns
+returns c = rw (c .before .before .before .before .enum-told .given .1) (c .before .before .wipe-domain .ensures)
+
+same-length-2 : tie.Need-same-length-2
+same-length-2 c = search needs
 
 returns-2 : tie.Need-returns-2
 returns-2 c = rw (c .before .before .before .before .enum-told2 .given .1) (c .before .before .wipe-region .ensures)
 
-same-length-2 : tie.Need-same-length-2
-same-length-2 c = search needs
+same-length-3 : tie.Need-same-length-3
+same-length-3 c = search needs
 
 returns-3 : tie.Need-returns-3
 returns-3 c = rw (c .before .before .before .before .before .enum-told3 .given .1) (rw (c .before .before .before .no-record .ensures) at (c .before .before .store-record .ensures))
@@ -43,13 +48,15 @@ wipe-spec =
     tie.close
     (tie.spec
     enum-told
+    wipe-domain-requires
     enum-told-2
     wipe-region-requires
     enum-told-3
     no-record-requires
     store-record-requires
-    returns
     same-length
-    returns-2
+    returns
     same-length-2
+    returns-2
+    same-length-3
     returns-3)
