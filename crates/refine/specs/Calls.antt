@@ -1,6 +1,7 @@
 -- The calls: what they share, then a file for each call, then all of them as one statement (`call-refines`).
 pub mod Sequence
 pub mod Bounds
+pub mod ClosingSet
 pub mod Activate
 pub mod Checks
 pub mod KeptLists

@@ -14,10 +14,10 @@ use Rattle.model.specs.Layout.{words, slotOr0, freeLink, atPlace}
 use Rattle.model.specs.Pool.{freshPool}
 use Rattle.model.specs.Making.{emptyTables}
 use Rattle.laws.specs.Parts.{up-length}
-use Rattle.tables.specs.Tables.{noRegion, noRecord, noUpdate, noHash, noInterface}
+use Rattle.tables.specs.Tables.{emptyDomain, noRegion, noRecord, noUpdate, noHash, noInterface}
 use Rattle.tables.specs.View.{layout}
 use Rattle.arena.specs.Arena.{freshLink, linksFrom, newArena}
-use Rattle.making.specs.Empty.{empty, emptyDomain}
+use Rattle.making.specs.Empty.{empty}
 use Rattle.decoded.specs.Rows.{same-up, replicate-up}
 use Rattle.laws.specs.Empty.{free-slot}
 use Rattle.decoded.specs.Links.{up-link, up-last}
