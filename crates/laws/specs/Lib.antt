@@ -9,6 +9,7 @@ pub mod Stack
 pub mod Fields
 pub mod Tracker
 pub mod Gather
+pub mod Ranks
 pub mod Tree
 pub mod Options
 pub mod Kept
@@ -19,6 +20,7 @@ pub mod StepRefusals
 pub mod CallRefusals
 pub mod Codes
 pub mod Capas
+pub mod Close
 pub mod SoundKept
 pub mod Empty
 pub mod Making

@@ -27,4 +27,5 @@ pub mod Send
 pub mod Rank
 pub mod Below
 pub mod Revoke
+pub mod Generations
 pub mod Holders
