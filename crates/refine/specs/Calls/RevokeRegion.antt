@@ -14,10 +14,7 @@ use Rattle.model.specs.State.{State, parentOf}
 use Rattle.model.specs.Regions as model
 use Rattle.model.specs.Regions.{liveCount}
 use Rattle.model.specs.Layout.{link}
-use Rattle.model.specs.Sound.{slotUses}
 use Rattle.laws.specs.Stack.{one}
-use Rattle.laws.specs.Tree.Sum.{sum}
-use Rattle.laws.specs.Tree.Slots.{count-sum}
 use Rattle.laws.specs.Tree.Facts.{under}
 use Rattle.laws.specs.Tree.Shape.{child-of}
 use Rattle.laws.specs.Tree.Rank.{Ranked, rank, ranked, rank-low}
@@ -32,13 +29,13 @@ use Rattle.tables.specs.Tables.{Tables, regionAt}
 use Rattle.answers.specs.Answers.{andThen}
 use Rattle.revocation.specs.Revoke.{revokeLeaf, revokeRegion, revoke}
 use Rattle.refine.specs.Agrees.{Agrees, agrees-step, agrees-call, agrees-state, bind-assoc}
-use Rattle.decoded.specs.Free.{all-slots}
 use Rattle.decoded.specs.Tree.Regions.{region-read}
+use Rattle.refine.specs.Arenas.Pools.{count-is}
 use Rattle.refine.specs.Tree.Search.{regions-children}
 use Rattle.laws.specs.Accepted.{all-ok}
 use Rattle.refine.specs.Calls.ClosingSet.{SameClosing}
 use Rattle.refine.specs.Calls.RevokeLeaf.{revoke-leaf-refines}
-use Rattle.decoded.specs.Tables.{poolOf, tablesOf}
+use Rattle.decoded.specs.Tables.{tablesOf}
 use Rattle.refine.specs.Calls.Activate.{plain}
 
 -- ---- one turn
@@ -126,14 +123,8 @@ module _ (closing : ℕ) (ls : List ℕ) (same : SameClosing closing ls) (r : �
 
 module _ (closing : ℕ) (ls : List ℕ) (same : SameClosing closing ls) (s : State) (whole : Whole s) (i p : ℕ) (g : state.Region) (e : In (s .regions) i g) (n : parentOf (g .kind) ≡ some p) where
   count-word : tablesOf s .regionPool .count ≡ liveCount s
-  unfolding tablesOf poolOf
-  count-word =
-      omega (
-        arith,
-        all-slots (s .sizes .regions) (slotUses (s .regions)) (s .regionPool .free) (whole .1 .regions .pool .once),
-        count-sum isSome (s .regions),
-        ap (sum (slotUses (s .regions))) (whole .1 .regions .size),
-      )
+  unfolding tablesOf
+  count-word = count-is (s .sizes .regions) (s .regions) (s .regionPool) (whole .1 .regions .pool) (whole .1 .regions .size)
 
   pub revoke-region-refines : Agrees (revoke closing i (tablesOf s)) (model.revokeRegion ls (liveCount s) i s >>= λ s₁. ok (0, s₁))
   unfolding revoke Turns
