@@ -12,7 +12,7 @@ use Rattle.model.specs.Lists.{exists}
 use Rattle.model.specs.Outcome.{Outcome, refuse, _>>=_, _>>_, okOr}
 use Rattle.rights.specs.Rights.{allowed}
 use Rattle.refusals.specs.declared.Refusal.{Refusal}
-use Rattle.refusals.specs.Refusals.{number, memory, sizes, noDomain, noSlot, wrongKind, stale, badRange, beyond, isRoot, notCarried, noRegion, noLocal, noTracker, ringFull, noDomainRoom, spent, badFlag, noHash, notAllowed, isFrozen}
+use Rattle.refusals.specs.Refusals.{number, memory, sizes, noDomain, noSlot, wrongKind, stale, badRange, beyond, isRoot, notCarried, noRegion, noLocal, noTracker, ringFull, noDomainRoom, spent, badFlag, noHash, notAllowed, isFrozen, holdsRoot, running}
 use Rattle.model.specs.State.{State, Sizes, Handle, Access, Kind, SendOptions, Capa, noCapa, region, regionRevoke, management, channel, domainAt}
 use Rattle.model.specs.Pool.{isLive}
 use Rattle.model.specs.Locals.{insertLocal, insertCapa, hasCapacity, capaAt}
@@ -37,7 +37,7 @@ stepRefusals (Root h a) = noDomain ∷ noRegion ∷ noLocal ∷ badRange ∷ noT
 stepRefusals (Alias h l a) = noDomain ∷ notAllowed ∷ noSlot ∷ wrongKind ∷ stale ∷ noRegion ∷ noLocal ∷ badRange ∷ beyond ∷ noTracker ∷ ringFull ∷ spent ∷ []
 stepRefusals (Carve h l a) = noDomain ∷ notAllowed ∷ noSlot ∷ wrongKind ∷ stale ∷ noRegion ∷ noLocal ∷ badRange ∷ beyond ∷ noTracker ∷ ringFull ∷ spent ∷ []
 stepRefusals (Send h l target o) = noDomain ∷ notAllowed ∷ noSlot ∷ wrongKind ∷ noLocal ∷ notCarried ∷ stale ∷ badFlag ∷ noHash ∷ noTracker ∷ ringFull ∷ spent ∷ []
-stepRefusals (Revoke h l) = noDomain ∷ noSlot ∷ notCarried ∷ stale ∷ isRoot ∷ noTracker ∷ ringFull ∷ spent ∷ []
+stepRefusals (Revoke h l) = noDomain ∷ noSlot ∷ holdsRoot ∷ running ∷ stale ∷ isRoot ∷ noTracker ∷ ringFull ∷ spent ∷ []
 stepRefusals (CreateRevokeCapa h l) = noDomain ∷ noSlot ∷ wrongKind ∷ stale ∷ isRoot ∷ noLocal ∷ []
 
 abbrev pub readingRefusals : Reading → List Refusal
@@ -97,7 +97,7 @@ unfolding revoke
 revoke-within h l s =
     domain-within tt s h andThen (λ d.
     slot-within tt s d l andThen (λ c.
-    revoked-within (tt, tt, tt) (tt, tt, tt) c s andThen (λ t. gives tt)))
+    revoked-within (tt, tt, tt) (tt, tt) (tt, tt, tt) c s andThen (λ t. gives tt)))
 
 create-revoke-capa-within : (h : Handle) (l : ℕ) (s : State) → Within (Of (Do (CreateRevokeCapa h l))) (createRevokeCapa h l s)
 unfolding createRevokeCapa

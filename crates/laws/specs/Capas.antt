@@ -1,6 +1,6 @@
 -- Laws of the capability lists: one list, the clauses of Sound about pools, lists, owners, managers and the queue, and that every call keeps them.
 -- First what the calls share, then a file for each call (`CALL-capas`; of a call that changes neither a region nor a tracker, `CALL-sound`: it keeps
--- Sound whole), then all of them (`perform-capas`).
+-- Sound whole; so does Revoke, `revoke-call-sound` of Close), then all of them (`perform-capas`).
 pub mod Slots
 pub mod List
 pub mod Live
@@ -27,7 +27,6 @@ pub mod Alias
 pub mod Carve
 pub mod Send
 pub mod RevokeLeaf
-pub mod Revoke
 pub mod CreateRevokeCapa
 pub mod Pop
 pub mod Perform

@@ -9,4 +9,9 @@ pub mod Visit
 pub mod Close
 pub mod Induction
 pub mod Closes
+pub mod AnyTables
 pub mod Stops
+pub mod Call
+pub mod Interfaces
+pub mod Silent
+pub mod Reopen

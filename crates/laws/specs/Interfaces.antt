@@ -1,7 +1,7 @@
--- A law: no call but making, opening, setting and freezing changes the interface of a domain that is there, or the domain pool. Each step puts a domain
--- back as it was read, with another list, tracker or core map.
+-- A law: no call but making, opening, setting, freezing and revoking changes the interface of a domain that is there, or the domain pool. Each step puts a
+-- domain back as it was read, with another list, tracker or core map.
 use mathlib.Core.Path.{_≡_, refl, sym, ap, _∙_}
-use Prim.Native.Nat.{ℕ, zero, suc}
+use Prim.Native.Nat.{ℕ}
 use mathlib.Core.Option.{Option, none, some}
 use mathlib.Core.List.{List, [], _∷_}
 use native.Mathlib.Decide.{ℕ-discrete}
@@ -9,16 +9,15 @@ use mathlib.Core.Bool.{_||_}
 use lib.Dec.{eqb}
 use lib.ListN.{set}
 use lib.Seq.{getD-set-same, getD-set-other}
-use Rattle.rights.specs.Rights.{has, CLEANUP}
 use Rattle.model.specs.Lists.{exists, In}
-use Rattle.model.specs.State.{State, Sizes, Pool, Handle, Capa, noCapa, region, regionRevoke, management, channel, Domain, Region, Kind, Root, Alias, Carve, Access, Update, SendOptions, domainAt, regionAt, putDomain}
-use Rattle.model.specs.Pool.{handleOf, isLive}
+use Rattle.model.specs.State.{State, Sizes, Pool, Handle, Capa, noCapa, region, regionRevoke, management, channel, Domain, Kind, Root, Alias, Carve, Access, Update, SendOptions, domainAt, putDomain}
+use Rattle.model.specs.Pool.{handleOf}
 use Rattle.model.specs.Locals.{hasCapacity, insertCapa, removeCapa, emptyCapa}
 use Rattle.model.specs.Updates.{isPermissionOf, push, pushPermission, pop}
 use Rattle.model.specs.Tracker.{Walk}
-use Rattle.model.specs.Tree.{Range, insertChild, removeChild}
-use Rattle.model.specs.Regions.{putWalk, activate, deactivate, newRegion, freeRegion, sendRanges, sendRegion, applyOptions, giveBack, leaveParent, revokeLeaf, revokeRegion}
-use Rattle.model.specs.Calls.{roomForRegion, openChannel, setCoreMap, createRootRegion, addChild, aliasRegion, exchangeRights, carveRegion, sendCapa, send, revokeUnlessRoot, revokeCapa, revoke, createRevokeCapa}
+use Rattle.model.specs.Tree.{Range, insertChild}
+use Rattle.model.specs.Regions.{putWalk, activate, deactivate, newRegion, sendRanges, sendRegion, applyOptions}
+use Rattle.model.specs.Calls.{roomForRegion, openChannel, setCoreMap, createRootRegion, addChild, aliasRegion, exchangeRights, carveRegion, sendCapa, send, createRevokeCapa}
 use Rattle.model.specs.Perform.{Step, Call, performStep, perform}
 use Rattle.laws.specs.Accepted.{All, accepted, refused, bind, bind-any, and-then, branch}
 use Rattle.laws.specs.Tree.Slots.{in-length}
@@ -108,10 +107,6 @@ module _ (s₀ : State) where
   unfolding newRegion
   new-region-kept d k a s h = bind-any _ (λ x. accepted h)
 
-  free-region-kept : (i : ℕ) (s : State) → Keeps s₀ s → All (Keeps s₀) (freeRegion i s)
-  unfolding freeRegion
-  free-region-kept i s h = bind-any _ (λ p. accepted h)
-
   ranges-kept : (old new r : ℕ) (xs : List Range) (s : State) → Keeps s₀ s → All (Keeps s₀) (sendRanges old new r xs s)
   unfolding sendRanges
   ranges-kept old new r [] s h = accepted h
@@ -128,34 +123,6 @@ module _ (s₀ : State) where
       go : (x : Option ℕ) → Keeps s₀ (applyOptions i (record { flags = x; hash = o .hash }) s)
       go none = h
       go (some f) = h
-
-  give-back-kept : (closing : List ℕ) → (g : Region) (k : Kind) (s : State) → g .kind ≡ k → Keeps s₀ s → All (Keeps s₀) (giveBack closing g s)
-  unfolding giveBack
-  give-back-kept closing g Root s e h = rw (e, giveBack) (accepted h)
-  give-back-kept closing g (Alias p) s e h = rw (e, giveBack) (accepted h)
-  give-back-kept closing g (Carve p) s e h = rw (e, giveBack) (activate-kept closing _ _ s h)
-
-  leave-kept : (i : ℕ) (k : Kind) (s : State) → regionAt s i .kind ≡ k → Keeps s₀ s → Keeps s₀ (leaveParent i s)
-  unfolding leaveParent removeChild
-  leave-kept i Root s e h = rw (e, leaveParent) h
-  leave-kept i (Alias p) s e h = rw (e, leaveParent) h
-  leave-kept i (Carve p) s e h = rw (e, leaveParent) h
-
-  leaf-kept : (closing : List ℕ) → (i : ℕ) (s : State) → Keeps s₀ s → All (Keeps s₀) (revokeLeaf closing i s)
-  unfolding revokeLeaf
-  leaf-kept closing i s h =
-      bind (deactivate-kept closing _ _ _ (leave-kept i _ s refl h)) (λ s₁ j.
-      bind (give-back-kept closing (regionAt s i) _ s₁ refl j) (λ s₂ k.
-      bind (free-region-kept i s₂ k) (λ s₃ l. branch (has (regionAt s i .rights) CLEANUP) (push-kept _ s₃ l) (accepted l))))
-
-  revoke-region-kept : (closing : List ℕ) → (n i : ℕ) (s : State) → Keeps s₀ s → All (Keeps s₀) (revokeRegion closing n i s)
-  unfolding revokeRegion
-  revoke-region-kept closing zero i s h = accepted h
-  revoke-region-kept closing (suc n) i s h = go (regionAt s i .children) refl (λ j t k. revoke-region-kept closing n j t k)
-    where
-      go : (cs : List ℕ) → regionAt s i .children ≡ cs → ((j : ℕ) (t : State) → Keeps s₀ t → All (Keeps s₀) (revokeRegion closing n j t)) → All (Keeps s₀) (revokeRegion closing (suc n) i s)
-      go [] e ih = rw (e, revokeRegion) (leaf-kept closing i s h)
-      go (c ∷ cs) e ih = rw (e, revokeRegion) (bind (ih c s h) (λ s₁ k. ih i s₁ k))
 
   room-kept : (d : ℕ) (a : Access) (s : State) → Keeps s₀ s → All (Keeps s₀) (roomForRegion d a s)
   unfolding roomForRegion
@@ -225,22 +192,6 @@ module _ (s₀ : State) where
       bind-any _ (λ c′.
       bind (send-capa-kept c′ to o s₁ i) (λ s₂ j. insert-kept to c′ _ (remove-kept d l s₂ j))))))))
 
-  unless-root-kept : (i : ℕ) (s : State) → Keeps s₀ s → All (Keeps s₀) (revokeUnlessRoot i s)
-  unfolding revokeUnlessRoot
-  unless-root-kept i s q = and-then _ (revoke-region-kept [] _ i s q)
-
-  revoke-capa-kept : (c : Capa) (s : State) → Keeps s₀ s → All (Keeps s₀) (revokeCapa c s)
-  unfolding revokeCapa
-  revoke-capa-kept noCapa s q = accepted q
-  revoke-capa-kept (region h) s q = bind-any _ (λ i. unless-root-kept i s q)
-  revoke-capa-kept (regionRevoke h) s q = branch (isLive (s .regionPool) (s .regions) h) (unless-root-kept (h .slot) s q) (accepted q)
-  revoke-capa-kept (management h) s q = refused
-  revoke-capa-kept (channel h) s q = accepted q
-
-  revoke-kept : (h : Handle) (l : ℕ) (s : State) → Keeps s₀ s → All (Keeps s₀) (revoke h l s)
-  unfolding revoke
-  revoke-kept h l s q = bind-any _ (λ d. bind-any _ (λ c. bind (revoke-capa-kept c s q) (λ s₁ k. accepted (empty-kept d l s₁ k))))
-
   create-revoke-capa-kept : (h : Handle) (l : ℕ) (s : State) → Keeps s₀ s → All (Keeps₁ s₀) (createRevokeCapa h l s)
   unfolding createRevokeCapa
   create-revoke-capa-kept h l s q = bind-any _ (λ d. bind-any _ (λ i. and-then _ (bind (capacity-kept d s q) (λ s₁ k. insert-kept d _ s₁ k))))
@@ -252,12 +203,14 @@ module _ (s₀ : State) where
 
 -- ---- all calls
 
--- What a call can do to interfaces: four kinds of calls have a law of their own, and every other keeps those that are there.
+-- What a call can do to interfaces: five kinds of calls have a law of their own, and every other keeps those that are there. A revoke may close domains;
+-- its law is `revoke-interfaces` (Close/Interfaces).
 pub data InterfaceCase (s : State) : Call → Type 0 where
   making : (z : Sizes) → InterfaceCase s (Call.Make z)
   opening : (m : Option Handle) (cores : ℕ) → InterfaceCase s (Call.Do (Step.Open m cores))
   setting : (h : Handle) (word : ℕ) → InterfaceCase s (Call.Do (Step.SetInterface h word))
   freezing : (h : Handle) → InterfaceCase s (Call.Do (Step.FreezeInterface h))
+  revoking : (h : Handle) (l : ℕ) → InterfaceCase s (Call.Do (Step.Revoke h l))
   keeping : (c : Call) → All (Keeps₁ s) (perform s c) → InterfaceCase s c
 
 pub interface-case : (s : State) (c : Call) → InterfaceCase s c
@@ -266,13 +219,13 @@ interface-case s (Call.Make z) = making z
 interface-case s (Call.Do (Step.Open m cores)) = opening m cores
 interface-case s (Call.Do (Step.SetInterface h word)) = setting h word
 interface-case s (Call.Do (Step.FreezeInterface h)) = freezing h
+interface-case s (Call.Do (Step.Revoke h l)) = revoking h l
 interface-case s (Call.Do (Step.Channel h to)) = keeping _ (bind (channel-kept s h to s (kept-self s)) (λ x k. accepted k))
 interface-case s (Call.Do (Step.SetCoreMap h cores)) = keeping _ (bind (set-core-map-kept s h cores s (kept-self s)) (λ x k. accepted k))
 interface-case s (Call.Do (Step.Root h a)) = keeping _ (bind (root-kept s h a s (kept-self s)) (λ x k. accepted k))
 interface-case s (Call.Do (Step.Alias h l a)) = keeping _ (bind (alias-kept s h l a s (kept-self s)) (λ x k. accepted k))
 interface-case s (Call.Do (Step.Carve h l a)) = keeping _ (bind (carve-kept s h l a s (kept-self s)) (λ x k. accepted k))
 interface-case s (Call.Do (Step.Send h l t o)) = keeping _ (bind (send-kept s h l t o s (kept-self s)) (λ x k. accepted k))
-interface-case s (Call.Do (Step.Revoke h l)) = keeping _ (bind (revoke-kept s h l s (kept-self s)) (λ x k. accepted k))
 interface-case s (Call.Do (Step.CreateRevokeCapa h l)) = keeping _ (bind (create-revoke-capa-kept s h l s (kept-self s)) (λ x k. accepted k))
 interface-case s Call.Pop = keeping _ (bind {P = Keeps₁ s} (accepted (pop-kept s s _ refl (kept-self s))) (λ x k. accepted k))
 interface-case s (Call.Read r) = keeping _ (bind-any _ (λ x. accepted (kept-self s)))

@@ -1,5 +1,6 @@
 -- The trackers, the pools and the update ring through the calls: the stored counts stay those of the regions, and the ring and the pools stay sound.
--- First what the calls share, then a file for each call (its law is `CALL-keeps`), then all of them (`perform-keeps`).
+-- First what the calls share, then a file for each call (its law is `CALL-keeps`; of Revoke, `revoke-call-sound` of Close),
+-- then all of them (`perform-keeps`).
 pub mod Slots
 pub mod SameDomains
 pub mod Outside
@@ -26,7 +27,6 @@ pub mod Options
 pub mod Send
 pub mod RevokeLeaf
 pub mod RevokeRegion
-pub mod Revoke
 pub mod CreateRevokeCapa
 pub mod Pop
 pub mod Perform

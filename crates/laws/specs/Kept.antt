@@ -23,7 +23,7 @@ use Rattle.model.specs.Regions.{putWalk, activate, deactivate, newRegion, freeR
 -- ---- pools
 
 -- as many generations; in a result, behind another thing, or in a walk
-abbrev SamePool : Pool → Pool → Type 0
+abbrev pub SamePool : Pool → Pool → Type 0
 SamePool p q = length (q .gens) ≡ length (p .gens)
 
 abbrev Same₁ : {A : Type 0} → Pool → A × Pool → Type 0
@@ -34,7 +34,7 @@ unfolding allocate
 allocate-same r gs [] = refused
 allocate-same r gs (i ∷ is) = accepted refl
 
-free-same : (i : ℕ) (p : Pool) → All (SamePool p) (free i p)
+pub free-same : (i : ℕ) (p : Pool) → All (SamePool p) (free i p)
 unfolding free
 free-same i p = and-then _ (accepted (length-set (p .gens) i _))
 

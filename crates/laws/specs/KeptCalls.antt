@@ -12,10 +12,12 @@ use Rattle.model.specs.State.{State, Handle, Capa, noCapa, region, regionRevoke
 use Rattle.model.specs.Pool.{free, isLive}
 use Rattle.model.specs.Updates.{pop}
 use Rattle.model.specs.Tree.{insertChild}
-use Rattle.model.specs.Calls.{roomForRegion, newDomain, openDomain, openChannel, setCoreMap, setInterface, freezeInterface, createRootRegion, addChild, aliasRegion, exchangeRights, carveRegion, sendCapa, send, revokeUnlessRoot, revokeCapa, revoke, createRevokeCapa}
+use Rattle.model.specs.Calls.{roomForRegion, newDomain, openDomain, openChannel, setCoreMap, setInterface, freezeInterface, createRootRegion, addChild, aliasRegion, exchangeRights, carveRegion, sendCapa, send, revokeUnlessRoot, closeManaged, revokeCapa, revoke, createRevokeCapa}
+use Rattle.model.specs.Closing.{freeDomain}
 use Rattle.model.specs.Perform.{Step, Call, Value, performStep, perform, after, step, run}
 use Rattle.model.specs.Memory.{NotMake}
-use Rattle.laws.specs.Kept.{Kept, allocate-same, same, trans, Kept₁, put-domain, put-region, capacity-kept, insert-kept, remove-kept, empty-kept, activate-kept, deactivate-kept, and-so, and-so₁, new-region-kept, send-region-kept, options-kept, revoke-region-kept}
+use Rattle.laws.specs.Kept.{Kept, allocate-same, free-same, same, trans, Kept₁, put-domain, put-region, capacity-kept, insert-kept, remove-kept, empty-kept, activate-kept, deactivate-kept, and-so, and-so₁, new-region-kept, send-region-kept, options-kept, revoke-region-kept}
+use Rattle.laws.specs.Close.AnyTables.{close-any}
 
 room-kept : (d : ℕ) (a : Access) (s : State) → All (Kept s) (roomForRegion d a s)
 unfolding roomForRegion
@@ -109,12 +111,20 @@ unless-root-kept : (i : ℕ) (s : State) → All (Kept s) (revokeUnlessRoot i s)
 unfolding revokeUnlessRoot
 unless-root-kept i s = and-then _ (revoke-region-kept [] _ i s)
 
+free-domain-kept : (d : ℕ) (s : State) → All (Kept s) (freeDomain d s)
+unfolding freeDomain
+free-domain-kept d s = bind (free-same d (s .domainPool)) (λ p h. accepted (record { sizes = refl; domains = length-set (s .domains) d none; regions = refl; domainGens = h; regionGens = refl; recordGens = refl }))
+
+close-managed-kept : (h : Handle) (s : State) → All (Kept s) (closeManaged h s)
+unfolding closeManaged
+close-managed-kept h s = bind-any _ (λ d. and-then _ (and-then _ (close-any (Kept s) (λ closing n i t k. and-so k (revoke-region-kept closing n i t)) (λ e t k. and-so k (free-domain-kept e t)) _ [] d s (same s))))
+
 revoke-capa-kept : (c : Capa) (s : State) → All (Kept s) (revokeCapa c s)
 unfolding revokeCapa
 revoke-capa-kept noCapa s = accepted (same s)
 revoke-capa-kept (region h) s = bind-any _ (λ i. unless-root-kept i s)
 revoke-capa-kept (regionRevoke h) s = branch (isLive (s .regionPool) (s .regions) h) (unless-root-kept (h .slot) s) (accepted (same s))
-revoke-capa-kept (management h) s = refused
+revoke-capa-kept (management h) s = close-managed-kept h s
 revoke-capa-kept (channel h) s = accepted (same s)
 
 revoke-kept : (h : Handle) (l : ℕ) (s : State) → All (Kept s) (revoke h l s)

@@ -7,14 +7,15 @@ use mathlib.Core.List.{List, [], _∷_}
 use Rattle.model.specs.Outcome.{Outcome, _>>=_, _>>_, okOr}
 use Rattle.rights.specs.Rights.{allowed}
 use Rattle.refusals.specs.declared.Refusal.{Refusal}
-use Rattle.refusals.specs.Refusals.{noDomain, noSlot, wrongKind, stale, badRange, beyond, isRoot, notCarried, noRegion, noLocal, noTracker, ringFull, noDomainRoom, spent, badFlag, noHash, notAllowed}
+use Rattle.refusals.specs.Refusals.{noDomain, noSlot, wrongKind, stale, badRange, beyond, isRoot, notCarried, noRegion, noLocal, noTracker, ringFull, noDomainRoom, spent, badFlag, noHash, notAllowed, holdsRoot, running}
 use Rattle.model.specs.State.{State, Handle, Access, Kind, SendOptions, Capa, noCapa, region, regionRevoke, management, channel, SEND, ALIAS, CARVE, domainAt}
 use Rattle.model.specs.Pool.{isLive}
 use Rattle.model.specs.Locals.{insertLocal, insertCapa, hasCapacity, capaAt}
 use Rattle.model.specs.Regions.{newRegion}
-use Rattle.model.specs.Calls.{liveDomain, callerWith, liveRegion, asRegion, asTarget, regionHeld, roomForRegion, newDomain, addChild, aliasRegion, carveRegion, checkOptions, sendCapa, send, revokeUnlessRoot, revokeCapa}
+use Rattle.model.specs.Calls.{liveDomain, callerWith, liveRegion, asRegion, asTarget, regionHeld, roomForRegion, newDomain, addChild, aliasRegion, carveRegion, checkOptions, sendCapa, send, revokeUnlessRoot, closeManaged, revokeCapa}
 use Rattle.laws.specs.Answers.{Gives, gives, refuses, gives-then, gives-branch, gives-checked, gives-checked-both}
 use Rattle.laws.specs.Keep.Refusals.{MayStop, activate-stops, exchange-stops, send-stops, revoke-stops, allocate-stops, new-stops}
+use Rattle.laws.specs.Close.Stops.{close-stops}
 
 -- The outcome is accepted, or a refusal with R.
 abbrev pub Within : {A : Type 0} → (Refusal → Type 0) → Outcome A → Type 0
@@ -127,13 +128,17 @@ module _ {R : Refusal → Type 0} where
   unfolding revokeUnlessRoot
   unless-root i j n s = gives-checked _ _ i (λ t. late j (revoke-stops [] _ n s))
 
-  pub revoked-within : R notCarried × R stale × R isRoot → R noTracker × R spent × R ringFull → (c : Capa) (s : State) → Within R (revokeCapa c s)
+  closed-within : R noDomain × R holdsRoot × R running → R noTracker × R spent × R ringFull → (h : Handle) (s : State) → Within R (closeManaged h s)
+  unfolding closeManaged
+  closed-within i j h s = domain-within (i .0) s h andThen (λ d. gives-checked _ _ (i .1) (λ t. gives-checked _ _ (i .2) (λ u. late j (close-stops _ [] d s))))
+
+  pub revoked-within : R noDomain × R holdsRoot × R running → R stale × R isRoot → R noTracker × R spent × R ringFull → (c : Capa) (s : State) → Within R (revokeCapa c s)
   unfolding revokeCapa
-  revoked-within i j noCapa s = gives tt
-  revoked-within i j (region h) s = region-within (i .1) s h andThen (λ n. unless-root (i .2) j n s)
-  revoked-within i j (regionRevoke h) s = gives-branch (isLive (s .regionPool) (s .regions) h) (unless-root (i .2) j _ s) (gives tt)
-  revoked-within i j (management h) s = refuses (i .0)
-  revoked-within i j (channel h) s = gives tt
+  revoked-within k i j noCapa s = gives tt
+  revoked-within k i j (region h) s = region-within (i .0) s h andThen (λ n. unless-root (i .1) j n s)
+  revoked-within k i j (regionRevoke h) s = gives-branch (isLive (s .regionPool) (s .regions) h) (unless-root (i .1) j _ s) (gives tt)
+  revoked-within k i j (management h) s = closed-within k j h s
+  revoked-within k i j (channel h) s = gives tt
 
   -- ---- alias, carve and send behind the caller's check
 

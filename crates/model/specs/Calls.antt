@@ -224,7 +224,7 @@ revokeCapa (region h) s = do
   i ← liveRegion s h  -- 6
   revokeUnlessRoot i s  -- 9, then 13, 14, 16
 revokeCapa (regionRevoke h) s = if isLive (s .regionPool) (s .regions) h then revokeUnlessRoot (h .slot) s else ok s
-revokeCapa (management h) s = refuse notCarried  -- 10
+revokeCapa (management h) s = closeManaged h s  -- 3, 22, 23, then 13, 14, 16
 revokeCapa (channel h) s = ok s
 
 -- **Revoke** (`revoke`).

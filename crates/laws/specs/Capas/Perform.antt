@@ -19,7 +19,7 @@ use Rattle.laws.specs.Capas.Root.{root-capas}
 use Rattle.laws.specs.Capas.Alias.{alias-capas}
 use Rattle.laws.specs.Capas.Carve.{carve-capas}
 use Rattle.laws.specs.Capas.Send.{send-capas}
-use Rattle.laws.specs.Capas.Revoke.{revoke-capas}
+use Rattle.laws.specs.Close.Call.{revoke-call-sound}
 
 -- a state that is sound whole has these clauses
 whole : {A : Type 0} {m : Outcome (A × State)} → All (λ x. Sound (x .1)) m → All (λ x. CapasSound (x .1)) m
@@ -38,7 +38,7 @@ step-capas s (Step.Root m a) h w = bind (root-capas m a s (capas-sound s h)) (λ
 step-capas s (Step.Alias m l a) h w = bind (alias-capas m l a s (capas-sound s h)) (λ x k. accepted k)
 step-capas s (Step.Carve m l a) h w = bind (carve-capas m l a s (capas-sound s h)) (λ x k. accepted k)
 step-capas s (Step.Send m l t p) h w = bind (send-capas m l t p s (capas-sound s h)) (λ x k. accepted k)
-step-capas s (Step.Revoke m l) h w = bind (revoke-capas m l s (capas-sound s h) (h .outside .regions)) (λ x k. accepted k)
+step-capas s (Step.Revoke m l) h w = bind (revoke-call-sound m l s h) (λ x k. accepted (capas-sound x k))
 step-capas s (Step.CreateRevokeCapa m l) h w = bind (whole (create-revoke-capa-sound s m l h)) (λ x k. accepted k)
 
 pub perform-capas : (s : State) (c : Call) → Sound s → CallWords c → All (λ x. CapasSound (x .1)) (perform s c)

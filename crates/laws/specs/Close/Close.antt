@@ -1,6 +1,6 @@
 -- A close keeps the tables sound and closes the domain. Measure: n falls by one as the rank among the managers rises by one, and no rank reaches the
 -- number of live domains, so that the equation of `closeDomain` for 0 is never reached.
-use mathlib.Core.Path.{_≡_, ap, _∙_}
+use mathlib.Core.Path.{_≡_}
 use Prim.Native.Nat.{ℕ, zero, suc, _+_, _≤_, _<_}
 use mathlib.Core.Option.{Option, none, some}
 use mathlib.Core.List.{List, [], _∷_}

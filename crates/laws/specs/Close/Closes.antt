@@ -1,39 +1,45 @@
--- The domains that are live after a close are exactly those whose managers do not lead to the closed one, each with the list, manager and core map it
--- had; a region dies exactly if it or one above it is a closed domain's or named by a RegionRevoke in a closed domain's list. And the tests before a close: 22 says that no domain to be closed holds a root.
+-- The domains that are live after a close are exactly those whose managers do not lead to the closed one, each with the list, manager, core map and
+-- interface it had; a region dies exactly if it or one above it is a closed domain's or named by a RegionRevoke in a closed domain's list. And the tests
+-- before a close: 22 says that no domain to be closed holds a root, 23 that none has a core map.
 use mathlib.Core.Path.{_≡_, refl, sym, ap, subst, _∙_}
-use Prim.Native.Nat.{ℕ, zero, suc, _≤_}
-use mathlib.Core.Bool.{Bool, true, false, not, _||_}
+use Prim.Native.Nat.{ℕ, zero, suc, _+_, _≤_, _<_}
+use mathlib.Core.Bool.{Bool, not, _&&_}
 use mathlib.Core.Option.{Option, none, some}
 use mathlib.Core.List.{List, [], _∷_}
 use native.Mathlib.Omega.{arith}
-use lib.Dec.{T, T-not, eqb→eq}
+use native.Mathlib.Decide.{ℕ-discrete}
+use lib.Dec.{T, T-not, eqb, eqb→eq}
 use lib.Ieee.Fits.{and-r, and-i}
 use lib.ListN.{length, getD}
+use borrow.Author.Tests.{ne-eqb}
+use Rattle.base.specs.Cases.{lt, ge, cmp}
 use Rattle.base.specs.Options.{none-some, some-same}
 use Rattle.base.specs.Tests.{or-l, or-r}
-use Rattle.model.specs.Lists.{isSome, exists, countIf, atSlot, In}
-use Rattle.model.specs.State.{State, Domain, Region, parentOf, withTracker}
+use Rattle.model.specs.Lists.{isSome, exists, countIf, countUp, atSlot, In}
+use Rattle.model.specs.State.{State, Domain, Region, parentOf, withTracker, domainAt}
 use Rattle.model.specs.Tree.{isRootKind}
 use Rattle.model.specs.Sound.{Sound}
+use Rattle.model.specs.Closing.{closeDomain, liveDomains, isClosed, rootToClose, closesRoot, closesRunning}
 use Rattle.laws.specs.Accepted.{All, weaken}
 use Rattle.laws.specs.Stack.{one-at-most}
-use Rattle.laws.specs.Tree.Slots.{live-is}
+use Rattle.laws.specs.Tree.Slots.{in-length, live-is}
 use Rattle.laws.specs.Tree.Change.{bare}
+use Rattle.laws.specs.Tree.Steps.{domain-at}
 use Rattle.laws.specs.Tree.Below.{Below}
 use Rattle.laws.specs.Capas.Slots.{count-none}
 use Rattle.laws.specs.Keep.SameDomains.{untracked}
-use Rattle.model.specs.Closing.{closeDomain, liveDomains, isClosed, rootToClose, closesRoot}
 use Rattle.laws.specs.Close.Managers.{Leads, ranks, ranks-are, ranks-low, leads-found}
 use Rattle.laws.specs.Close.Less.{Less, had, Past}
 use Rattle.laws.specs.Close.Doomed.{isRevokeOf, not-revoke, Doomed}
 use Rattle.laws.specs.Close.Between.{NoRoot, Closed}
+use Rattle.laws.specs.Close.Visit.{Turn}
 use Rattle.laws.specs.Close.Close.{close-sound}
 
 pub record Closes (s : State) (d : ℕ) (t : State) : Type 0 where
   pub sound : Sound t
-  -- regions and domains that are left are as they were, and no generation falls
+  -- regions and domains that are left are as they were, no generation falls, and that of who is gone has risen
   pub less : Less s t
-  -- whoever is closed with d is gone, whoever is not stays, with list, manager and core map
+  -- whoever is closed with d is gone, whoever is not stays, with list, manager, core map and interface
   pub gone : (k : ℕ) → Leads (s .domains) d k → atSlot (t .domains) k ≡ none
   pub kept : (k : ℕ) → (Leads (s .domains) d k → ⊥) → untracked (atSlot (t .domains) k) ≡ untracked (atSlot (s .domains) k)
   -- "Afterwards every region such a domain owned is dead"
@@ -111,6 +117,30 @@ rootless s h d t i g e n l =
     let (x, f) = live-is (atSlot (s .domains) (g .owner)) (h .outside .owners i g e .ownerLive) in
     T-not (exists (rootToClose s d) (s .regions)) t (exists-in (rootToClose s d) (s .regions) i g e (and-i (isRootKind (g .kind)) (isClosed s d (g .owner)) n (closed-found s h d (g .owner) x f l)))
 
--- What the call asks (3 and 22) is enough.
+-- so with 3 and 22 passed the turn of the domain can begin
+pub first-turn : (s : State) → Sound s → (d : ℕ) (x : Domain) → In (s .domains) d x → T (not (closesRoot s d)) → Turn s d x
+first-turn s h d x e t = record { sound = h; is = e; noRoot = rootless s h d t }
+
+-- THEOREM: what the call asks (3 and 22) is enough
 pub close-after-22 : (s : State) → Sound s → (d : ℕ) (x : Domain) → In (s .domains) d x → T (not (closesRoot s d)) → All (Closes s d) (closeDomain (liveDomains s) [] d s)
 close-after-22 s h d x e t = close-closes (liveDomains s) [] s h d x e (rootless s h d t) (omega arith)
+
+-- ---- 23
+
+exists-up : (p : ℕ → Bool) (n i k : ℕ) → i ≤ k → k < i + n → T (p k) → T (exists p (countUp i n))
+exists-up p zero i k a b t = absurd (omega arith)
+exists-up p (suc n) i k a b t = elim (cmp i k) [
+  | lt u ↦ or-r (p i) (exists p (countUp (suc i) n)) (exists-up p n (suc i) k u (omega arith) t)
+  | ge u ↦ let e : k ≡ i = omega arith in or-l (p i) (exists p (countUp (suc i) n)) (subst (λ j. T (p j)) e t)
+]
+
+-- no domain to be closed has a core map
+pub not-running : (s : State) → Sound s → (d : ℕ) → T (not (closesRunning s d)) → (k : ℕ) (x : Domain) → In (s .domains) k x → Leads (s .domains) d k → x .cores ≡ 0
+unfolding closesRunning
+not-running s h d t k x e l = elim (ℕ-discrete (x .cores) 0) [
+  | yes o ↦ o
+  | no o ↦
+      let n : T (not (eqb (domainAt s k .cores) 0)) = rw (domain-at s k x e, ne-eqb (x .cores) 0 o) tt in
+      let p : ℕ → Bool = λ j. not (eqb (domainAt s j .cores) 0) && isClosed s d j in
+      absurd (T-not (exists p (countUp 0 (s .sizes .domains))) t (exists-up p (s .sizes .domains) 0 k (omega arith) (omega (arith, in-length (s .domains) k x e, h .outside .domainsLength)) (and-i (not (eqb (domainAt s k .cores) 0)) (isClosed s d k) n (closed-found s h d k x e l))))
+]

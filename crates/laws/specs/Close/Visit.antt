@@ -2,8 +2,8 @@
 -- the next one's begins (`Visit`): whatever a slot that had its turn names is gone for good (`Past`), so nothing needs to be counted.
 use mathlib.Core.Path.{_≡_, refl, sym, ap, subst, _∙_}
 use mathlib.Core.Logic.{_≢_}
-use Prim.Native.Nat.{ℕ, zero, suc, _<_}
-use mathlib.Core.Bool.{Bool, true, false, not}
+use Prim.Native.Nat.{ℕ, suc, _<_}
+use mathlib.Core.Bool.{Bool, true, false}
 use mathlib.Core.Option.{Option, none, some}
 use mathlib.Core.List.{List, [], _∷_}
 use native.Mathlib.Omega.{arith}
@@ -15,11 +15,11 @@ use borrow.Author.Tests.{eq-eqb}
 use Rattle.base.specs.Cases.{lt, ge, cmp}
 use Rattle.base.specs.Tests.{true-false}
 use Rattle.base.specs.Options.{none-some, some-same}
-use Rattle.model.specs.Lists.{oneIf, countIf, Each, atSlot, In}
+use Rattle.model.specs.Lists.{countIf, Each, atSlot, In}
 use Rattle.model.specs.State.{State, Handle, Capa, region, regionRevoke, management, LocalList, Domain, Region, parentOf, withTracker}
 use Rattle.model.specs.Pool.{handleOf, isLive, sameHandle}
 use Rattle.model.specs.Tree.{isRootKind}
-use Rattle.model.specs.Sound.{Sound, HandleFit, RevokeFit, names, isRegionOf, isManagementOf}
+use Rattle.model.specs.Sound.{Sound, HandleFit, RevokeFit, isRegionOf, isManagementOf}
 use Rattle.laws.specs.Lists.{none-pass, each-next, drop-next, take-next}
 use Rattle.laws.specs.Tree.Slots.{live-is}
 use Rattle.laws.specs.Tree.Facts.{same, named, not-root}

@@ -16,7 +16,7 @@ use Rattle.laws.specs.Keep.Root.{root-keeps}
 use Rattle.laws.specs.Keep.Alias.{alias-keeps}
 use Rattle.laws.specs.Keep.Carve.{carve-keeps}
 use Rattle.laws.specs.Keep.Send.{send-keeps}
-use Rattle.laws.specs.Keep.Revoke.{revoke-keeps}
+use Rattle.laws.specs.Close.Call.{revoke-call-sound}
 use Rattle.laws.specs.Keep.Open.{open-keeps}
 use Rattle.laws.specs.Keep.Channel.{channel-keeps}
 use Rattle.laws.specs.Keep.SetCoreMap.{set-core-map-keeps}
@@ -40,7 +40,7 @@ module _ (s : State) (sound : Sound s) where
   step-keeps (Step.Alias h l a) w = bind (alias-keeps s sound h a l) (λ (n, t) k. accepted k)
   step-keeps (Step.Carve h l a) w = bind (carve-keeps s sound h a l) (λ (n, t) k. accepted k)
   step-keeps (Step.Send h l target p) w = bind (send-keeps s whole h l target p (w .3 .1)) (λ (n, t) k. accepted k)
-  step-keeps (Step.Revoke h l) w = bind (revoke-keeps s whole h l) (λ t k. accepted k)
+  step-keeps (Step.Revoke h l) w = bind (revoke-call-sound h l s sound) (λ t k. accepted (sound-agree t k, sound-base t k))
   step-keeps (Step.CreateRevokeCapa h l) w = bind (create-revoke-capa-keeps s whole h l) (λ (n, t) k. accepted k)
 
   pub perform-keeps : (c : Call) → CallWords c → All After (perform s c)

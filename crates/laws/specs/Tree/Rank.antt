@@ -1,7 +1,6 @@
 -- How many regions stand above a live region: its rank. A child's is its parent's and one, and a rank lies below the number of live regions.
-use mathlib.Core.Path.{_≡_}
 use Prim.Native.Nat.{ℕ, _<_}
-use mathlib.Core.Option.{Option, some}
+use mathlib.Core.Option.{Option}
 use mathlib.Core.List.{List}
 use Rattle.model.specs.Lists.{isSome, countIf, In}
 use Rattle.model.specs.State.{Region, parentOf}
