@@ -19,7 +19,7 @@ use Rattle.region_calls.specs.Calls.{addChild}
 -- the range is lost with the parent's rights and gained with its own, where these differ
 unfoldable pub exchangeRights : ℕ → ℕ → AccessRights → Tables → Effect
 exchangeRights d old a s =
-    pick (eqb old (a .ops .0)) (done 0 s) (andThen (deactivate d (access (a .start) (a .end) old) s) (λ v. activate d a))
+    pick (eqb old (a .ops .0)) (done 0 s) (andThen (deactivate 0 d (access (a .start) (a .end) old) s) (λ v. activate 0 d a))
 
 unfoldable pub carveRegion : Handle → ℕ → AccessRights → Tables → Effect
 carveRegion h l a s =

@@ -20,8 +20,8 @@ fn exchange_rights(t: &mut [u64], d: usize, old: u64, a: AccessRights) -> Answer
     if old == ops.0 as u64 {
         return Answer::Done(0);
     }
-    match domain::deactivate_region(t, d, segment::access(a.start, a.end, old)) {
-        Answer::Done(v) => domain::activate_region(t, d, a),
+    match domain::deactivate_region(t, d, segment::access(a.start, a.end, old), 0) {
+        Answer::Done(v) => domain::activate_region(t, d, a, 0),
         Answer::Refused(r) => Answer::Refused(r),
     }
 }

@@ -1,5 +1,5 @@
 -- Steps on a domain: room in its list, a capability put there, and a range gained or lost with the update that this queues (domain.rs).
-use mathlib.Core.Bool.{Bool, true, false}
+use mathlib.Core.Bool.{Bool, true, false, _||_}
 use Prim.Native.Nat.{ℕ}
 use lib.Dec.{eqb}
 use lib.ListN.{getD}
@@ -19,6 +19,7 @@ use Rattle.slot_list.specs.declared.Inserted.{Inserted}
 use Rattle.slot_list.specs.declared.Inserted.the-variants.{At, Full}
 use Rattle.slot_list.specs.Lists.{giveSlot}
 use Rattle.stored_slots.specs.Record.{listAt}
+use Rattle.closing_set.specs.Closing.{closingB}
 use Rattle.slots.specs.Capas.{roomB, withCapacity, withCapa}
 
 -- done where the test holds
@@ -50,13 +51,13 @@ cleanup a b s =
     let p = pushOf (ringOf s) (cleanupOf a b) in
     record { answer = orRefused ringFull (p .ok); tables = withRingOf s (p .ring) }
 
--- any mark queues domain d
-abbrev pub notifyIf : ℕ → ℕ → Tables → Effect
-notifyIf d m s = pick (eqb m 0) (done 0 s) (notify d m s)
+-- any mark queues domain d, unless it is closing
+abbrev pub notifyIf : ℕ → ℕ → ℕ → Tables → Effect
+notifyIf closing d m s = pick (closingB closing d || eqb m 0) (done 0 s) (notify d m s)
 
--- domain d gains, or loses, the range (the model's activate and deactivate)
-unfoldable pub activate : ℕ → AccessRights → Tables → Effect
-activate d a s = andThen (addRegion d a s) (notifyIf d)
+-- domain d gains, or loses, the range, while the domains in `closing` are closing (the model's activate and deactivate)
+unfoldable pub activate : ℕ → ℕ → AccessRights → Tables → Effect
+activate closing d a s = andThen (addRegion d a s) (notifyIf closing d)
 
-unfoldable pub deactivate : ℕ → AccessRights → Tables → Effect
-deactivate d a s = andThen (removeRegion d a s) (notifyIf d)
+unfoldable pub deactivate : ℕ → ℕ → AccessRights → Tables → Effect
+deactivate closing d a s = andThen (removeRegion d a s) (notifyIf closing d)

@@ -64,38 +64,41 @@ pub fn cleanup(t: &mut [u64], start: u64, end: u64) -> Answer
     or_refused(queued, Refusal::RING_FULL)
 }
 
-// Where a count left or came to 0 (`PermissionChange`).
-fn notify_if(t: &mut [u64], d: usize, marks: u64) -> Answer
+// Where a count left or came to 0 (`PermissionChange`). A closing domain queues nothing (document 02, request 5).
+fn notify_if(t: &mut [u64], d: usize, marks: u64, closing: u64) -> Answer
     requires { ⌜ Sized (now t) ⌝ }
-    ensures { λ r. ⌜ r ≡ notifyIf d marks (view (now (t .entry))) .answer ⌝ }
-    ensures { λ _. ⌜ Left (now (t .exit)) (notifyIf d marks (view (now (t .entry))) .tables) ⌝ }
+    ensures { λ r. ⌜ r ≡ notifyIf closing d marks (view (now (t .entry))) .answer ⌝ }
+    ensures { λ _. ⌜ Left (now (t .exit)) (notifyIf closing d marks (view (now (t .entry))) .tables) ⌝ }
 {
+    if closing_set::is_closing(closing, d) {
+        return Answer::Done(0);
+    }
     if marks == 0 {
         return Answer::Done(0);
     }
     notify(t, d, marks)
 }
 
-// ---- A range gained and lost
+// ---- A range gained and lost; `closing` has the domains that are closing
 
-pub fn activate_region(t: &mut [u64], d: usize, a: AccessRights) -> Answer
+pub fn activate_region(t: &mut [u64], d: usize, a: AccessRights, closing: u64) -> Answer
     requires { ⌜ Sized (now t) ⌝ }
-    ensures { λ r. ⌜ r ≡ activate d a (view (now (t .entry))) .answer ⌝ }
-    ensures { λ _. ⌜ Left (now (t .exit)) (activate d a (view (now (t .entry))) .tables) ⌝ }
+    ensures { λ r. ⌜ r ≡ activate closing d a (view (now (t .entry))) .answer ⌝ }
+    ensures { λ _. ⌜ Left (now (t .exit)) (activate closing d a (view (now (t .entry))) .tables) ⌝ }
 {
     match tracker::add_region(t, d, a) {
-        Answer::Done(marks) => notify_if(t, d, marks),
+        Answer::Done(marks) => notify_if(t, d, marks, closing),
         Answer::Refused(r) => Answer::Refused(r),
     }
 }
 
-pub fn deactivate_region(t: &mut [u64], d: usize, a: AccessRights) -> Answer
+pub fn deactivate_region(t: &mut [u64], d: usize, a: AccessRights, closing: u64) -> Answer
     requires { ⌜ Sized (now t) ⌝ }
-    ensures { λ r. ⌜ r ≡ deactivate d a (view (now (t .entry))) .answer ⌝ }
-    ensures { λ _. ⌜ Left (now (t .exit)) (deactivate d a (view (now (t .entry))) .tables) ⌝ }
+    ensures { λ r. ⌜ r ≡ deactivate closing d a (view (now (t .entry))) .answer ⌝ }
+    ensures { λ _. ⌜ Left (now (t .exit)) (deactivate closing d a (view (now (t .entry))) .tables) ⌝ }
 {
     match tracker::remove_region(t, d, a) {
-        Answer::Done(marks) => notify_if(t, d, marks),
+        Answer::Done(marks) => notify_if(t, d, marks, closing),
         Answer::Refused(r) => Answer::Refused(r),
     }
 }

@@ -25,7 +25,7 @@ createRootRegion h a s =
     andThen (roomForRegion d a s₁) (λ u s₂.
     andThen (newRegion (capaFor d ROOT 0 a) s₂) (λ i s₃.
     andThen (heldRegion d i s₃) (λ l s₄.
-    andThen (activate d a s₄) (λ v. done l)))))
+    andThen (activate 0 d a s₄) (λ v. done l)))))
 
 -- a child of region p, an alias or a carve by that kind
 unfoldable pub addChild : ℕ → ℕ → ℕ → AccessRights → Tables → Effect
@@ -36,4 +36,4 @@ aliasRegion h l a s =
     andThen (callerWith interface.ALIAS h s) (λ d s₁.
     andThen (regionHeld d l s₁) (λ p s₂.
     andThen (roomForRegion d a s₂) (λ u s₃.
-    pick (checkChild true s₃ p a) (andThen (addChild d p ALIAS a s₃) (λ n s₄. andThen (activate d a s₄) (λ v. done n))) (refused beyond s₃))))
+    pick (checkChild true s₃ p a) (andThen (addChild d p ALIAS a s₃) (λ n s₄. andThen (activate 0 d a s₄) (λ v. done n))) (refused beyond s₃))))

@@ -18,11 +18,11 @@ use Rattle.region_calls.specs.Calls.{heldRegion, createRootRegion, addCh
 
 unfoldable pub rooted : ℕ → AccessRights → Tables → Effect
 rooted d a s =
-    andThen (newRegion (capaFor d ROOT 0 a) s) (λ i s₁. andThen (heldRegion d i s₁) (λ l s₂. andThen (activate d a s₂) (λ v. done l)))
+    andThen (newRegion (capaFor d ROOT 0 a) s) (λ i s₁. andThen (heldRegion d i s₁) (λ l s₂. andThen (activate 0 d a s₂) (λ v. done l)))
 
 unfoldable pub aliased : ℕ → ℕ → AccessRights → Tables → Effect
 aliased d p a s =
-    pick (checkChild true s p a) (andThen (addChild d p ALIAS a s) (λ n s₁. andThen (activate d a s₁) (λ v. done n))) (refused beyond s)
+    pick (checkChild true s p a) (andThen (addChild d p ALIAS a s) (λ n s₁. andThen (activate 0 d a s₁) (λ v. done n))) (refused beyond s)
 
 pub root-is : (h : Handle) (a : AccessRights) (s : Tables) → createRootRegion h a s ≡ andThen (liveDomain h s) (λ d s₁. andThen (roomForRegion d a s₁) (λ u. rooted d a))
 unfolding createRootRegion rooted

@@ -35,7 +35,7 @@ fn root(t: &mut [u64], d: usize, a: AccessRights) -> Answer
 {
     match segment::new_region(t, segment::capa_for(d, RegionCapa::ROOT, 0, a)) {
         Answer::Done(i) => match hold(t, d, i) {
-            Answer::Done(l) => match domain::activate_region(t, d, a) {
+            Answer::Done(l) => match domain::activate_region(t, d, a, 0) {
                 Answer::Done(v) => Answer::Done(l),
                 Answer::Refused(r) => Answer::Refused(r),
             },
@@ -84,7 +84,7 @@ fn alias(t: &mut [u64], d: usize, p: usize, a: AccessRights) -> Answer
         return Answer::Refused(Refusal::BEYOND);
     }
     match add_child(t, d, p, RegionCapa::ALIAS, a) {
-        Answer::Done(n) => match domain::activate_region(t, d, a) {
+        Answer::Done(n) => match domain::activate_region(t, d, a, 0) {
             Answer::Done(v) => Answer::Done(n),
             Answer::Refused(r) => Answer::Refused(r),
         },

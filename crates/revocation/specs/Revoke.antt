@@ -1,4 +1,4 @@
--- Regions revoked (document 01, **Revoke**; segment.rs).
+-- Regions revoked (document 01, **Revoke**; segment.rs), while the domains in `closing` are closing.
 use Prim.Native.Nat.{ℕ, zero, suc, _%_}
 use lib.Dec.{eqb}
 use Rattle.base.specs.Cases.{pick}
@@ -18,29 +18,31 @@ unfoldable pub leaveParent : ℕ → Tables → Tables
 leaveParent i s = pick (eqb (regionAt s i .kind) ROOT) s (removeChild s (slotTo (regionAt s i .parent)) i)
 
 -- what a carve held goes back to its parent's domain with the parent's rights (the model's giveBack)
-unfoldable pub giveBack : RegionCapa → Tables → Effect
-giveBack g s =
+unfoldable pub giveBack : ℕ → RegionCapa → Tables → Effect
+giveBack closing g s =
     let p = regionAt s (slotTo (g .parent)) in
-    pick (eqb (g .kind) CARVE) (activate (slotTo (p .owner)) (access (g .start) (g .end) (p .rights)) s) (done 0 s)
+    pick (eqb (g .kind) CARVE) (activate closing (slotTo (p .owner)) (access (g .start) (g .end) (p .rights)) s) (done 0 s)
 
 unfoldable pub cleanupIf : RegionCapa → Tables → Effect
 cleanupIf g s = pick (has (g .rights % 256) CLEANUP) (cleanup (g .start) (g .end) s) (done 0 s)
 
+-- what is left once the region is in no list and on no tracker
+abbrev pub freeLeaf : ℕ → ℕ → RegionCapa → Tables → Effect
+freeLeaf closing i g s = andThen (giveBack closing g s) (λ v s₁. andThen (freedRegion i s₁) (λ w. cleanupIf g))
+
 -- a region without children (the model's revokeLeaf)
-unfoldable pub revokeLeaf : ℕ → Tables → Effect
-revokeLeaf i s =
+unfoldable pub revokeLeaf : ℕ → ℕ → Tables → Effect
+revokeLeaf closing i s =
     let g = regionAt s i in
-    andThen (deactivate (slotTo (g .owner)) (access (g .start) (g .end) (g .rights)) (leaveParent i s)) (λ u s₁.
-    andThen (giveBack g s₁) (λ v s₂.
-    andThen (freedRegion i s₂) (λ w. cleanupIf g)))
+    andThen (deactivate closing (slotTo (g .owner)) (access (g .start) (g .end) (g .rights)) (leaveParent i s)) (λ u. freeLeaf closing i g)
 
 -- head child by head child; n falls with each region above and each region freed (the model's revokeRegion)
-unfoldable pub revokeRegion : ℕ → ℕ → Tables → Effect
-revokeRegion zero i s = refused memory s
-revokeRegion (suc n) i s =
+unfoldable pub revokeRegion : ℕ → ℕ → ℕ → Tables → Effect
+revokeRegion closing zero i s = refused memory s
+revokeRegion closing (suc n) i s =
     let k = regionAt s i .child in
-    pick (eqb k 0) (revokeLeaf i s) (andThen (revokeRegion n (slotTo k) s) (λ v. revokeRegion n i))
+    pick (eqb k 0) (revokeLeaf closing i s) (andThen (revokeRegion closing n (slotTo k) s) (λ v. revokeRegion closing n i))
 
 -- as many as there are live regions
-unfoldable pub revoke : ℕ → Tables → Effect
-revoke i s = revokeRegion (s .regionPool .count) i s
+unfoldable pub revoke : ℕ → ℕ → Tables → Effect
+revoke closing i s = revokeRegion closing (s .regionPool .count) i s

@@ -16,7 +16,7 @@ use Rattle.checks.specs.Checks.{liveDomain, liveRegion, regionHeld, capaOf}
 
 -- 9
 unfoldable pub revokeUnlessRoot : ℕ → Tables → Effect
-revokeUnlessRoot i s = pick (eqb (regionAt s i .kind) ROOT) (refused isRoot s) (revoke i s)
+revokeUnlessRoot i s = pick (eqb (regionAt s i .kind) ROOT) (refused isRoot s) (revoke 0 i s)
 
 -- 4, 10, 6, 9; a RegionRevoke of a dead region succeeds
 unfoldable pub revokeCapa : Slot → Tables → Effect

@@ -19,7 +19,7 @@ fn revoke_unless_root(t: &mut [u64], i: usize) -> Answer
     if g.kind == RegionCapa::ROOT {
         return Answer::Refused(Refusal::ROOT);
     }
-    revocation::revoke(t, i)
+    revocation::revoke(t, i, 0)
 }
 
 // 6, 9: what a Region capability names.

@@ -43,11 +43,11 @@ newRegion r s = madeAt s r (given (s .regionPool))
 unfoldable pub freedRegion : ℕ → Tables → Effect
 freedRegion i s = record { answer = freedAnswer (answerTo (s .regionPool) i); tables = slotFreed s pool.Regions i }
 
--- ---- send
+-- ---- send: no domain is closing
 
 -- the range from x up to y, where it is not empty, leaves domain old and joins domain new
 unfoldable pub movePiece : ℕ → ℕ → ℕ → ℕ → ℕ → Tables → Effect
-movePiece old new r x y s = pick (ltb x y) (andThen (deactivate old (access x y r) s) (λ v. activate new (access x y r))) (done 0 s)
+movePiece old new r x y s = pick (ltb x y) (andThen (deactivate 0 old (access x y r) s) (λ v. activate 0 new (access x y r))) (done 0 s)
 
 -- the range from x up to e less the carved children from link k on, n at most (the model's sendRanges over effectiveFrom)
 unfoldable pub sendFrom : ℕ → ℕ → ℕ → ℕ → ℕ → ℕ → ℕ → Tables → Effect

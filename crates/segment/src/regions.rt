@@ -70,8 +70,8 @@ pub fn move_piece(t: &mut [u64], old: usize, new: usize, rights: u64, x: u64, y:
 {
     if x < y {
         let a = access(x, y, rights);
-        return match domain::deactivate_region(t, old, a) {
-            Answer::Done(v) => domain::activate_region(t, new, a),
+        return match domain::deactivate_region(t, old, a, 0) {
+            Answer::Done(v) => domain::activate_region(t, new, a, 0),
             Answer::Refused(r) => Answer::Refused(r),
         };
     }

@@ -28,13 +28,17 @@ revoke-region-at t =
 
 abbrev revoke-region-below : ℕ → In 1 revoke-region-kinds.ps
 revoke-region-below t =
-    and 1 revoke-region-kinds.ps (falls 1 revoke-region-kinds.ps _<_ μ-revoke-region t) revoke-region.Pre
+    and
+    1
+    revoke-region-kinds.ps
+    (falls 1 revoke-region-kinds.ps _<_ μ-revoke-region t)
+    revoke-region.Pre
 
 abbrev revoke-region-Inv-loop : revoke-region-lts.InvT-loop
-revoke-region-Inv-loop t₀ i left n₀ t n = (n ≤ left) × (length t ≡ length t₀) × Sized t × (revokeRegion n i (view t) ≡ revokeRegion left i (view t₀))
+revoke-region-Inv-loop t₀ i left closing n₀ t n = (n ≤ left) × (length t ≡ length t₀) × Sized t × (revokeRegion closing n i (view t) ≡ revokeRegion closing left i (view t₀))
 
 abbrev revoke-region-μ-loop : revoke-region-lts.MeasureT-loop
-revoke-region-μ-loop t₀ i left n₀ t n = n
+revoke-region-μ-loop t₀ i left closing n₀ t n = n
 
 revoke-region-loop-holds : (t : ℕ) → revoke-region-lts.Need-loop-holds (
   load-region-reads.Asked,
@@ -106,7 +110,7 @@ revoke-region-returns : (t : ℕ) → revoke-region-lts.Need-returns (
   revoke-region-below t,
   revoke-region.Post,
 ) (revoke-region-at t) revoke-region.Post revoke-region-Inv-loop revoke-region-μ-loop
-revoke-region-returns t c = same-step _ _ _ _ (revoke-here _ _ _ (omega arith) _ (c .before .before .before .before .before .before .load-region .ensures) (c .before .before .before .before .if1 .taken) ∙ (c .before .before .before .before .before .before .before .before .before .loop .inv .3)) (c .before .before .revoke-leaf .ensures)
+revoke-region-returns t c = same-step _ _ _ _ (revoke-here _ _ _ _ (omega arith) _ (c .before .before .before .before .before .before .load-region .ensures) (c .before .before .before .before .if1 .taken) ∙ (c .before .before .before .before .before .before .before .before .before .loop .inv .3)) (c .before .before .revoke-leaf .ensures)
 
 revoke-region-slot-to-requires : (t : ℕ) → revoke-region-lts.Need-slot-to-requires (
   load-region-reads.Asked,
@@ -166,7 +170,7 @@ revoke-region-loop-again : (t : ℕ) → revoke-region-lts.Need-loop-again (
   revoke-region-below t,
   revoke-region.Post,
 ) (revoke-region-at t) revoke-region.Post revoke-region-Inv-loop revoke-region-μ-loop
-revoke-region-loop-again t c = (omega arith, omega arith, (c .before .before .before .before .before .revoke-region .ensures .1 .sized), revoke-on _ _ _ (omega arith) _ (c .before .before .before .before .before .before .before .before .before .before .load-region .ensures) (c .before .before .before .before .before .before .before .before .if1 .left) _ _ (rw (c .before .before .before .before .before .before .slot-to .ensures) at (c .before .before .before .before .before .revoke-region .ensures)) _ (c .before .v .given .1) ∙ (c .before .before .before .before .before .before .before .before .before .before .before .before .before .loop .inv .3))
+revoke-region-loop-again t c = (omega arith, omega arith, (c .before .before .before .before .before .revoke-region .ensures .1 .sized), revoke-on _ _ _ _ (omega arith) _ (c .before .before .before .before .before .before .before .before .before .before .load-region .ensures) (c .before .before .before .before .before .before .before .before .if1 .left) _ _ (rw (c .before .before .before .before .before .before .slot-to .ensures) at (c .before .before .before .before .before .revoke-region .ensures)) _ (c .before .v .given .1) ∙ (c .before .before .before .before .before .before .before .before .before .before .before .before .before .loop .inv .3))
 
 revoke-region-enum-known-r : (t : ℕ) → revoke-region-lts.Need-enum-known-r (
   load-region-reads.Asked,
@@ -202,7 +206,7 @@ revoke-region-returns-2 : (t : ℕ) → revoke-region-lts.Need-returns-2 (
   revoke-region-below t,
   revoke-region.Post,
 ) (revoke-region-at t) revoke-region.Post revoke-region-Inv-loop revoke-region-μ-loop
-revoke-region-returns-2 t c = same-step _ _ _ _ (c .before .before .before .before .before .before .before .before .before .before .before .before .before .loop .inv .3) (revoke-refused _ _ _ (omega arith) _ (c .before .before .before .before .before .before .before .before .before .before .load-region .ensures) (c .before .before .before .before .before .before .before .before .if1 .left) _ _ (rw (c .before .before .before .before .before .before .slot-to .ensures) at (c .before .before .before .before .before .revoke-region .ensures)) _ (c .before .r .given .1))
+revoke-region-returns-2 t c = same-step _ _ _ _ (c .before .before .before .before .before .before .before .before .before .before .before .before .before .loop .inv .3) (revoke-refused _ _ _ _ (omega arith) _ (c .before .before .before .before .before .before .before .before .before .before .load-region .ensures) (c .before .before .before .before .before .before .before .before .if1 .left) _ _ (rw (c .before .before .before .before .before .before .slot-to .ensures) at (c .before .before .before .before .before .revoke-region .ensures)) _ (c .before .r .given .1))
 
 revoke-region-same-length-3 : (t : ℕ) → revoke-region-lts.Need-same-length-3 (
   load-region-reads.Asked,
@@ -226,7 +230,7 @@ revoke-region-returns-3 : (t : ℕ) → revoke-region-lts.Need-returns-3 (
   revoke-region-below t,
   revoke-region.Post,
 ) (revoke-region-at t) revoke-region.Post revoke-region-Inv-loop revoke-region-μ-loop
-revoke-region-returns-3 t c = same-step _ _ _ _ (c .before .loop .inv .3) (revoke-out _ _ _ (c .before .loop .inv .2) (omega arith))
+revoke-region-returns-3 t c = same-step _ _ _ _ (c .before .loop .inv .3) (revoke-out _ _ _ _ (c .before .loop .inv .2) (omega arith))
 
 pub +revoke-region-spec : {M : Type 1} → statement M
 +revoke-region-spec = close μ-revoke-region λ t. revoke-region-lts.spec (
@@ -238,4 +242,24 @@ pub +revoke-region-spec : {M : Type 1} → statement M
   slot-to-reads.Learnt,
   revoke-region-below t,
   revoke-region.Post,
-) (revoke-region-at t) revoke-region.Post revoke-region-Inv-loop revoke-region-μ-loop (revoke-region-loop-holds t) (revoke-region-sub-n t) (revoke-region-load-region-requires t) (revoke-region-revoke-leaf-requires t) (revoke-region-same-length t) (revoke-region-returns t) (revoke-region-slot-to-requires t) (revoke-region-revoke-region-requires t) (revoke-region-enum-known-v t) (revoke-region-loop-less t) (revoke-region-loop-again t) (revoke-region-enum-known-r t) (revoke-region-same-length-2 t) (revoke-region-returns-2 t) (revoke-region-same-length-3 t) (revoke-region-returns-3 t)
+)
+    (revoke-region-at t)
+    revoke-region.Post
+    revoke-region-Inv-loop
+    revoke-region-μ-loop
+    (revoke-region-loop-holds t)
+    (revoke-region-sub-n t)
+    (revoke-region-load-region-requires t)
+    (revoke-region-revoke-leaf-requires t)
+    (revoke-region-same-length t)
+    (revoke-region-returns t)
+    (revoke-region-slot-to-requires t)
+    (revoke-region-revoke-region-requires t)
+    (revoke-region-enum-known-v t)
+    (revoke-region-loop-less t)
+    (revoke-region-loop-again t)
+    (revoke-region-enum-known-r t)
+    (revoke-region-same-length-2 t)
+    (revoke-region-returns-2 t)
+    (revoke-region-same-length-3 t)
+    (revoke-region-returns-3 t)
