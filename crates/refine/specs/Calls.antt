@@ -21,6 +21,8 @@ pub mod SendOptions
 pub mod Send
 pub mod RevokeLeaf
 pub mod RevokeRegion
+pub mod CloseChecks
+pub mod Close
 pub mod Revoke
 pub mod CreateRevokeCapa
 pub mod Pop

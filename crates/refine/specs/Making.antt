@@ -6,9 +6,8 @@ use mathlib.Core.List.{List, [], _∷_, map}
 use native.Mathlib.Omega.{arith}
 use native.Mathlib.Nat.{mod-eq-of-lt, add-mod-right}
 use lib.ListN.{length, replicate}
-use Rattle.model.specs.Lists.{atSlot, countUp, firstOf, exists, afterIn}
-use Rattle.base.specs.Cases.{lt, ge, cmp, holds, fails, test}
-use Rattle.model.specs.Locals.{freshLocals}
+use Rattle.model.specs.Lists.{atSlot, countUp, firstOf}
+use Rattle.base.specs.Cases.{lt, ge, cmp}
 use Rattle.model.specs.State as state
 use Rattle.model.specs.Layout.{words, slotOr0, freeLink, atPlace}
 use Rattle.model.specs.Pool.{freshPool}

@@ -1,14 +1,14 @@
 -- Slots taken and freed: the pool changes, and with it the rows of the domain that is opened or freed, of the region that is made or freed. A new region has no hash, as the free slot had none.
 use mathlib.Core.Path.{_≡_, sym, ap, _∙_}
 use Prim.Native.Nat.{ℕ, suc, _-_, _^_, _<_}
-use mathlib.Core.Bool.{Bool, true, false, not}
+use mathlib.Core.Bool.{true, false, not}
 use mathlib.Core.Option.{none, some}
 use mathlib.Core.List.{List, [], _∷_}
 use native.Mathlib.Omega.{arith}
 use lib.Dec.{eqb}
 use lib.ListN.{length, getD, set}
 use Rattle.base.specs.Cases.{holds, fails, test, pick}
-use Rattle.model.specs.Lists.{oneIf, isSome, atSlot, In}
+use Rattle.model.specs.Lists.{atSlot, In}
 use Rattle.model.specs.Outcome.{Outcome, ok, refuse, _>>=_, _>>_, require}
 use Rattle.refusals.specs.Refusals.{spent}
 use Rattle.model.specs.State as state

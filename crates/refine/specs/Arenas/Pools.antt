@@ -7,7 +7,7 @@ use mathlib.Core.List.{List, [], _∷_, map}
 use native.Mathlib.Omega.{arith}
 use lib.Dec.{eqb, ltb}
 use lib.ListN.{length, getD, set}
-use Rattle.model.specs.Lists.{Each, oneIf, isSome, countIf, atSlot, countUp, firstOf}
+use Rattle.model.specs.Lists.{oneIf, isSome, countIf, atSlot, countUp, firstOf}
 use Rattle.model.specs.Outcome.{Outcome, ok, refuse, _>>_, require}
 use Rattle.refusals.specs.declared.Refusal.{Refusal}
 use borrow.Author.Tests.{lt-ltb, le-ltb, eq-eqb, ne-eqb}

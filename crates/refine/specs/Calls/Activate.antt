@@ -21,7 +21,6 @@ use Rattle.laws.specs.Tree.Slots.{in-length, live-is}
 use Rattle.laws.specs.Tree.Steps.{domain-at}
 use Rattle.answers.specs.Answers.{Effect, done, andThen}
 use Rattle.region.specs.Turns.{addRegion, removeRegion}
-use Rattle.closing_set.specs.Closing.{closingB}
 use Rattle.domain.specs.Activate.{notify, notifyIf, activate, deactivate}
 use Rattle.decoded.specs.Sizes.{good-limits}
 use Rattle.decoded.specs.Tables.{tablesOf}
