@@ -1,5 +1,5 @@
 -- The ring's test is exact: tables pass it exactly where the clauses about the ring hold.
-use mathlib.Core.Path.{_≡_, sym, ap, subst, _∙_}
+use mathlib.Core.Path.{_≡_, sym, ap, subst, _∙_, refl}
 use mathlib.Core.Logic.{_↔_}
 use Prim.Native.Nat.{ℕ, _+_, _-_, _%_, _≤_, _<_}
 use mathlib.Core.Bool.{Bool, true, false, not}
@@ -42,6 +42,14 @@ in-true p i e h j a b = all-at p i (e - i) h j a (omega arith)
 true-in : (p : ℕ → Bool) (i e : ℕ) → ((j : ℕ) → i ≤ j → j < e → p j ≡ true) → allIn p i e ≡ true
 true-in p i e h = at-all p i (e - i) (λ j a b. h j a (omega arith))
 
+-- where the first does not hold, the second does
+otherwise : (b c : Bool) → pick b true c ≡ true → b ≡ false → c ≡ true
+otherwise b c h e = rw e at h
+
+either : (b c : Bool) → (b ≡ false → c ≡ true) → pick b true c ≡ true
+either true c h = refl
+either false c h = h refl
+
 module _ (v : Tables) (s : Shaped v) where
   abbrev n : ℕ
   n = v .sizes .updates + 1
@@ -51,14 +59,6 @@ module _ (v : Tables) (s : Shaped v) where
 
   abbrev Fit : Update → ℕ → Type 0
   Fit u x = QueuedFit (poolFrom D (v .domainPool)) (domainsFrom v) (updateFrom u x)
-
-  -- where the first does not hold, the second does
-  otherwise : (b c : Bool) → pick b true c ≡ true → b ≡ false → c ≡ true
-  otherwise b c h e = rw e at h
-
-  either : (b c : Bool) → (b ≡ false → c ≡ true) → pick b true c ≡ true
-  either true c h = refl
-  either false c h = h refl
 
   fit-is : (u : Update) (x : ℕ) → fitsIn v u ≡ true → Fit u x
   unfolding domainsFrom
