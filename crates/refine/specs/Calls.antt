@@ -1,6 +1,7 @@
 -- The calls: what they share, then a file for each call, then all of them as one statement (`call-refines`).
 pub mod Sequence
 pub mod Bounds
+pub mod ClosingSet
 pub mod Activate
 pub mod Checks
 pub mod KeptLists
@@ -20,6 +21,8 @@ pub mod SendOptions
 pub mod Send
 pub mod RevokeLeaf
 pub mod RevokeRegion
+pub mod CloseChecks
+pub mod Close
 pub mod Revoke
 pub mod CreateRevokeCapa
 pub mod Pop

@@ -6,18 +6,17 @@ use mathlib.Core.List.{List, [], _∷_, map}
 use native.Mathlib.Omega.{arith}
 use native.Mathlib.Nat.{mod-eq-of-lt, add-mod-right}
 use lib.ListN.{length, replicate}
-use Rattle.model.specs.Lists.{atSlot, countUp, firstOf, exists, afterIn}
-use Rattle.base.specs.Cases.{lt, ge, cmp, holds, fails, test}
-use Rattle.model.specs.Locals.{freshLocals}
+use Rattle.model.specs.Lists.{atSlot, countUp, firstOf}
+use Rattle.base.specs.Cases.{lt, ge, cmp}
 use Rattle.model.specs.State as state
 use Rattle.model.specs.Layout.{words, slotOr0, freeLink, atPlace}
 use Rattle.model.specs.Pool.{freshPool}
 use Rattle.model.specs.Making.{emptyTables}
 use Rattle.laws.specs.Parts.{up-length}
-use Rattle.tables.specs.Tables.{noRegion, noRecord, noUpdate, noHash, noInterface}
+use Rattle.tables.specs.Tables.{emptyDomain, noRegion, noRecord, noUpdate, noHash, noInterface}
 use Rattle.tables.specs.View.{layout}
 use Rattle.arena.specs.Arena.{freshLink, linksFrom, newArena}
-use Rattle.making.specs.Empty.{empty, emptyDomain}
+use Rattle.making.specs.Empty.{empty}
 use Rattle.decoded.specs.Rows.{same-up, replicate-up}
 use Rattle.laws.specs.Empty.{free-slot}
 use Rattle.decoded.specs.Links.{up-link, up-last}

@@ -3,3 +3,4 @@ pub mod Locals
 pub mod ListSteps
 pub mod Sweep
 pub mod Opening
+pub mod Freeing

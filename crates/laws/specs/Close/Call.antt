@@ -35,13 +35,13 @@ use Rattle.laws.specs.Close.Less.{Less, less-self, fell-less, domain-was
 use Rattle.laws.specs.Close.Closes.{Closes, close-after-22}
 
 -- Slot l of domain c, which holds capability a, may be emptied in t: the tables are sound, and what the slot holds is no live region's and no live domain's.
-record Emptiable (s : State) (c l : ℕ) (a : Capa) (t : State) : Type 0 where
-  sound : Sound t
-  less : Less s t
-  domain : Domain
-  is : In (t .domains) c domain
-  at : In (domain .locals .held) l a
-  plus : Plus t c a (ownedBy t) (managedBy t) (ownedBy t) (managedBy t)
+pub record Emptiable (s : State) (c l : ℕ) (a : Capa) (t : State) : Type 0 where
+  pub sound : Sound t
+  pub less : Less s t
+  pub domain : Domain
+  pub is : In (t .domains) c domain
+  pub at : In (domain .locals .held) l a
+  pub plus : Plus t c a (ownedBy t) (managedBy t) (ownedBy t) (managedBy t)
 
 emptied-sound : (s : State) (c l : ℕ) (a : Capa) (t : State) → Emptiable s c l a t → Sound (emptyCapa c l t)
 emptied-sound s c l a t h =
@@ -119,7 +119,7 @@ module _ (s : State) (h : Sound s) (c l : ℕ) (x : Domain) (e : In (s .domains)
 
   -- ---- any capability
 
-  empties : (a : Capa) → In (x .locals .held) l a → All (Emptiable s c l a) (revokeCapa a s)
+  pub empties : (a : Capa) → In (x .locals .held) l a → All (Emptiable s c l a) (revokeCapa a s)
   unfolding revokeCapa
   empties noCapa at = accepted (stays noCapa at (plus-none s c noCapa _ _ (λ k. refl) (λ k. refl)))
   empties (region k) at = bind (live-region s k) (λ i r. weaken (unless-root i (r .region) (r .is)) (λ t f. fell (region k) at i t (region-gone t c k (ap (λ (m : Handle). atSlot (t .regions) (m .slot)) (sym (r .handle)) ∙ f .revoked .gone i (Below.here refl))) f))

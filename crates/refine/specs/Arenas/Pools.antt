@@ -7,7 +7,7 @@ use mathlib.Core.List.{List, [], _∷_, map}
 use native.Mathlib.Omega.{arith}
 use lib.Dec.{eqb, ltb}
 use lib.ListN.{length, getD, set}
-use Rattle.model.specs.Lists.{Each, oneIf, isSome, countIf, atSlot, countUp, firstOf}
+use Rattle.model.specs.Lists.{oneIf, isSome, countIf, atSlot, countUp, firstOf}
 use Rattle.model.specs.Outcome.{Outcome, ok, refuse, _>>_, require}
 use Rattle.refusals.specs.declared.Refusal.{Refusal}
 use borrow.Author.Tests.{lt-ltb, le-ltb, eq-eqb, ne-eqb}
@@ -18,6 +18,8 @@ use Rattle.model.specs.Layout.{slotOr0, freeLink}
 use Rattle.model.specs.Sound.{OnceEach, PoolSound, slotUses}
 use Rattle.laws.specs.Stack.{one, once-at-most, none-beyond, link-in, link-out}
 use Rattle.laws.specs.Lists.{word-at}
+use Rattle.laws.specs.Tree.Sum.{sum}
+use Rattle.laws.specs.Tree.Slots.{count-sum}
 use Rattle.tables.specs.declared.Handle.{Handle}
 use Rattle.arena.specs.declared.Given.{Given}
 use Rattle.arena.specs.declared.Given.the-variants.{At, Full}
@@ -27,7 +29,7 @@ use Rattle.arena.specs.Arena.{headLink, given, taken, pushed, allocated, heldB,
 use Rattle.decoded.specs.Sizes.{and-both}
 use Rattle.decoded.specs.Rows.{map-up-length, getD-up, set-up}
 use Rattle.decoded.specs.Links.{link-top, link-under}
-use Rattle.decoded.specs.Free.{free-fits, free-room, free-below, used-not-free}
+use Rattle.decoded.specs.Free.{all-slots, free-fits, free-room, free-below, used-not-free}
 use Rattle.decoded.specs.Tables.{handleFor, poolOf}
 
 -- ---- what the model's outcomes are to the code
@@ -201,6 +203,11 @@ module _ {A : Type 0} (n : ℕ) (table : List (Option A)) (p : state.Pool) (h : 
         let c : 0 < countIf (eqb i) (p .free) = omega (arith, h .once i, ap oneIf t, ap oneIf (lt-ltb i n l)) in
         rw t (ne-eqb (freeLink (p .free) i) 0 (λ e. omega (arith, e, link-in (p .free) i c)))
   ]
+
+  -- the pool counts the slots in use
+  pub count-is : length table ≡ n → poolOf n p .count ≡ countIf isSome table
+  unfolding poolOf
+  count-is long = omega (arith, all-slots n (slotUses table) (p .free) (h .once), count-sum isSome table, ap (sum (slotUses table)) long)
 
   pub live-is : (k : Handle) → liveB (poolOf n p) k ≡ isLive p table (handleIn k)
   unfolding liveB poolOf

@@ -2,13 +2,14 @@
 -- tracker's; here the answer of a walk, its marks, becomes the model's `putWalk`.
 use mathlib.Core.Path.{_≡_, refl, ap, _∙_, sym}
 use Prim.Native.Nat.{ℕ, _<_}
-use mathlib.Core.Bool.{Bool, true, false}
+use mathlib.Core.Bool.{Bool, true, false, _||_}
 use mathlib.Core.Option.{some, none}
+use mathlib.Core.List.{List, []}
 use lib.Dec.{eqb}
 use lib.ListN.{length-set}
 use lib.Seq.{getD-set-same}
 use Rattle.base.specs.Cases.{pick}
-use Rattle.model.specs.Lists.{Each, atSlot, In, if_then_else_}
+use Rattle.model.specs.Lists.{exists, Each, atSlot, In, if_then_else_}
 use Rattle.model.specs.Outcome.{Outcome, ok, _>>=_}
 use Rattle.model.specs.State.{State, Domain, putDomain, withTracker, withRecordPool, Access}
 use Rattle.model.specs.Tracker.{Walk, gain, lose}
@@ -23,13 +24,14 @@ use Rattle.region.specs.Turns.{addRegion, removeRegion}
 use Rattle.domain.specs.Activate.{notify, notifyIf, activate, deactivate}
 use Rattle.decoded.specs.Sizes.{good-limits}
 use Rattle.decoded.specs.Tables.{tablesOf}
-use Rattle.refine.specs.Agrees.{Agrees, agrees-call, agrees-from, bind-assoc}
+use Rattle.refine.specs.Agrees.{Agrees, agrees-step, agrees-call, agrees-from, bind-assoc}
 use Rattle.refine.specs.Queue.RingSteps.{notify-refines}
 use Rattle.refine.specs.Tracker.RecordSteps.{Held}
 use Rattle.refine.specs.Tracker.TrackerCounts.{Raisable}
 use Rattle.refine.specs.Tracker.Gain.{add-refines}
 use Rattle.refine.specs.Tracker.Lose.{remove-refines}
 use Rattle.refine.specs.Calls.Bounds.{TrackersRaisable}
+use Rattle.refine.specs.Calls.ClosingSet.{SameClosing, none-same, domain-low}
 use native.Mathlib.Nat.{mod-eq-of-lt}
 use Rattle.laws.specs.Keep.BaseSteps.{Live}
 use Rattle.tables.specs.Tables.{Tables}
@@ -70,9 +72,11 @@ module _ (s : State) (raisable : TrackersRaisable s) (d : ℕ) (x : Domain) (at 
   abbrev after : Walk → State
   after w = withRecordPool (w .pool) (putDomain d (withTracker (w .records) x) s)
 
-  -- by whether there is no mark
-  notify-by : (w : Walk) (b : Bool)
-      → Agrees (pick b (done 0 (tablesOf (after w))) (notify d (w .marks) (tablesOf (after w)))) (plain (if b then ok (after w) else pushPermission d (w .marks) (after w)))
+  -- by whether nothing is queued
+  abbrev queued : Bool → Walk → Outcome State
+  queued b w = if b then ok (after w) else pushPermission d (w .marks) (after w)
+
+  notify-by : (w : Walk) (b : Bool) → Agrees (pick b (done 0 (tablesOf (after w))) (notify d (w .marks) (tablesOf (after w)))) (plain (queued b w))
   unfolding _>>=_
   notify-by w true = (refl, refl)
   notify-by w false =
@@ -82,30 +86,45 @@ module _ (s : State) (raisable : TrackersRaisable s) (d : ℕ) (x : Domain) (at 
       (getD-set-same (s .domains) d (some (withTracker (w .records) x)) none (in-length (s .domains) d x at))
       (q .singly)
 
-  notify-if : (w : Walk) → Agrees (notifyIf d (w .marks) (tablesOf (after w))) (plain (if eqb (w .marks) 0 then ok (after w) else pushPermission d (w .marks) (after w)))
-  notify-if w = notify-by w (eqb (w .marks) 0)
+  -- the domains that are closing, in the code and in the model
+  module _ (closing : ℕ) (ls : List ℕ) (same : SameClosing closing ls) where
+    abbrev silent : Walk → Bool
+    silent w = exists (eqb d) ls || eqb (w .marks) 0
 
-  put-is : (w : Walk) → putWalk d w s ≡ if eqb (w .marks) 0 then ok (after w) else pushPermission d (w .marks) (after w)
-  unfolding putWalk
-  put-is w =
-      ap (λ (y : Domain). let t = withRecordPool (w .pool) (putDomain d (withTracker (w .records) y) s) in if eqb (w .marks) 0 then ok t else pushPermission d (w .marks) t) (domain-at s d x at)
+    notify-if : (w : Walk) → Agrees (notifyIf closing d (w .marks) (tablesOf (after w))) (plain (queued (silent w) w))
+    notify-if w =
+        agrees-step _ _ (plain (queued (silent w) w))
+        (ap (λ (b : Bool). pick (b || eqb (w .marks) 0) (done 0 (tablesOf (after w))) (notify d (w .marks) (tablesOf (after w)))) (same d (domain-low s (raisable .base) d x at)))
+        (notify-by w (silent w))
 
-  -- the walk m of the model, which the code's step z does
-  walk-refines : (z : Effect) (m : Outcome Walk) → Agrees z (m >>= λ w. ok (w .marks, after w)) → Agrees (andThen z (notifyIf d)) (plain (m >>= λ w. putWalk d w s))
-  walk-refines z m h =
-      agrees-call _ _ _ (bind-assoc m _ _)
-      (agrees-from z (notifyIf d) m (λ w. (w .marks, after w)) (λ w. plain (putWalk d w s)) h (λ w e. agrees-call _ _ _ (ap plain (put-is w)) (notify-if w)))
+    put-is : (w : Walk) → putWalk ls d w s ≡ queued (silent w) w
+    unfolding putWalk
+    put-is w = ap (λ (y : Domain). let t = withRecordPool (w .pool) (putDomain d (withTracker (w .records) y) s) in if silent w then ok t else pushPermission d (w .marks) t) (domain-at s d x at)
 
-pub activate-refines : Follows activate model.activate
-unfolding activate model.activate
-activate-refines s d a raisable live z =
-    let (x, at) = live-is (atSlot (s .domains) d) live in
-    agrees-call _ _ _ (ap (λ (y : Domain). plain (gain (a .ops .0) (a .start) (a .end) (y .tracker) (s .recordPool) >>= λ w. putWalk d w s)) (domain-at s d x at))
-    (walk-refines s raisable d x at (addRegion d a (tablesOf s)) (gain (a .ops .0) (a .start) (a .end) (x .tracker) (s .recordPool)) (add-refines s d x a (held s raisable d x at) (rising s raisable d x at) (low s raisable d x at) z))
+    -- the walk m of the model, which the code's step z does
+    walk-refines : (z : Effect) (m : Outcome Walk) → Agrees z (m >>= λ w. ok (w .marks, after w)) → Agrees (andThen z (notifyIf closing d)) (plain (m >>= λ w. putWalk ls d w s))
+    walk-refines z m h =
+        agrees-call _ _ _ (bind-assoc m _ _)
+        (agrees-from z (notifyIf closing d) m (λ w. (w .marks, after w)) (λ w. plain (putWalk ls d w s)) h (λ w e. agrees-call _ _ _ (ap plain (put-is w)) (notify-if w)))
 
-pub deactivate-refines : Follows deactivate model.deactivate
-unfolding deactivate model.deactivate
-deactivate-refines s d a raisable live z =
-    let (x, at) = live-is (atSlot (s .domains) d) live in
-    agrees-call _ _ _ (ap (λ (y : Domain). plain (lose (a .ops .0) (a .start) (a .end) (y .tracker) (s .recordPool) >>= λ w. putWalk d w s)) (domain-at s d x at))
-    (walk-refines s raisable d x at (removeRegion d a (tablesOf s)) (lose (a .ops .0) (a .start) (a .end) (x .tracker) (s .recordPool)) (remove-refines s d x a (held s raisable d x at) (rising s raisable d x at) z))
+module _ (closing : ℕ) (ls : List ℕ) (same : SameClosing closing ls) where
+  pub activate-refines : Follows (activate closing) (model.activate ls)
+  unfolding activate model.activate
+  activate-refines s d a raisable live z =
+      let (x, at) = live-is (atSlot (s .domains) d) live in
+      agrees-call _ _ _ (ap (λ (y : Domain). plain (gain (a .ops .0) (a .start) (a .end) (y .tracker) (s .recordPool) >>= λ w. putWalk ls d w s)) (domain-at s d x at))
+      (walk-refines s raisable d x at closing ls same (addRegion d a (tablesOf s)) (gain (a .ops .0) (a .start) (a .end) (x .tracker) (s .recordPool)) (add-refines s d x a (held s raisable d x at) (rising s raisable d x at) (low s raisable d x at) z))
+
+  pub deactivate-refines : Follows (deactivate closing) (model.deactivate ls)
+  unfolding deactivate model.deactivate
+  deactivate-refines s d a raisable live z =
+      let (x, at) = live-is (atSlot (s .domains) d) live in
+      agrees-call _ _ _ (ap (λ (y : Domain). plain (lose (a .ops .0) (a .start) (a .end) (y .tracker) (s .recordPool) >>= λ w. putWalk ls d w s)) (domain-at s d x at))
+      (walk-refines s raisable d x at closing ls same (removeRegion d a (tablesOf s)) (lose (a .ops .0) (a .start) (a .end) (x .tracker) (s .recordPool)) (remove-refines s d x a (held s raisable d x at) (rising s raisable d x at) z))
+
+-- where no domain is closing
+pub gain-refines : Follows (activate 0) (model.activate [])
+gain-refines = activate-refines 0 [] none-same
+
+pub loss-refines : Follows (deactivate 0) (model.deactivate [])
+loss-refines = deactivate-refines 0 [] none-same

@@ -2,6 +2,7 @@
 use mathlib.Core.Path.{_≡_, refl, sym, ap, _∙_}
 use Prim.Native.Nat.{ℕ}
 use mathlib.Core.Bool.{true}
+use mathlib.Core.List.{[]}
 use lib.Dec.{T, lit<}
 use Rattle.model.specs.Outcome.{ok}
 use Rattle.refusals.specs.Refusals.{beyond}
@@ -29,7 +30,7 @@ use Rattle.refine.specs.Agrees.{Agrees, agrees-state}
 use Rattle.refine.specs.Calls.Sequence.{agrees-next, agrees-check}
 use Rattle.refine.specs.Tree.ChildChecks.{accessFor, check-alias-is}
 use Rattle.refine.specs.Calls.Bounds.{bounded-raisable}
-use Rattle.refine.specs.Calls.Activate.{activate-refines}
+use Rattle.refine.specs.Calls.Activate.{gain-refines}
 use Rattle.refine.specs.Calls.Child.{add-child-refines, Parent, with-parent, parent-children, parent-byte, Next, next-bounded}
 
 module _ (s : State) (sound : Sound s) (h : Handle) (a : AccessRights) (l : ℕ) where
@@ -47,5 +48,5 @@ module _ (s : State) (sound : Sound s) (h : Handle) (a : AccessRights) (l : ℕ)
   alias-region-refines = with-parent s sound a _ h l _ _ (λ d p t k.
       agrees-check beyond _ (tablesOf t) _ _ _ (alias-test d p t k) (λ c.
       agrees-next _ _ (model.addChild d p (Alias p) (accessFor a) t) _ (add-child-refines t (k .room .agree) (k .room .base) (k .lists) d (is-live _ _ (k .room .at)) p (k .parent) (k .at) (Alias p) refl a) (aliased d p t k c) (λ n u (b, (j, v)).
-      agrees-state (activate d a (tablesOf u)) (done n) (steps.activate d (accessFor a) u) (λ z. ok (n, z))
-      (activate-refines u d a (bounded-raisable 1024 u (lit< tt) (next-bounded s sound a d p t k u b j)) v (k .room .nonempty)) (λ z e. (refl, refl)))))
+      agrees-state (activate 0 d a (tablesOf u)) (done n) (steps.activate [] d (accessFor a) u) (λ z. ok (n, z))
+      (gain-refines u d a (bounded-raisable 1024 u (lit< tt) (next-bounded s sound a d p t k u b j)) v (k .room .nonempty)) (λ z e. (refl, refl)))))

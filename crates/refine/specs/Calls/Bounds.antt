@@ -111,14 +111,14 @@ lost-at f r s e l m a h = rw (counts-look m a, counts-look l a, h) (elim (pos s 
 
 -- ---- the steps
 
-module _ (b : ℕ) (s : State) (h : Bounded b s) (d : ℕ) (live : Live s d) (a : Access) (z : a .start < a .end) where
+module _ (closing : List ℕ) (b : ℕ) (s : State) (h : Bounded b s) (d : ℕ) (live : Live s d) (a : Access) (z : a .start < a .end) where
   abbrev raised : Field → ℕ → ℕ → ℕ
   raised f k c = held s f k c + grant f d (a .start) (a .end) (a .rights) k c
 
-  pub gain-bounded : All (λ t. Bounded (suc b) t × SameOutside s t) (activate d a s)
+  pub gain-bounded : All (λ t. Bounded (suc b) t × SameOutside s t) (activate closing d a s)
   gain-bounded =
       let (x, e) = live-is (atSlot (s .domains) d) live in
-      weaken (both (gained-base s d (h .0, live) a) (activate-tracked s (held s) raised (formed-tracked b s (h .1)) d x e a z (λ f k c. refl)))
+      weaken (both (gained-base closing s d (h .0, live) a) (activate-tracked closing s (held s) raised (formed-tracked b s (h .1)) d x e a z (λ f k c. refl)))
       (λ t ((k, n), (m, o)). ((k, tracked-formed (suc b) t raised m (λ f j c. omega (arith, h .1 .low f j c, grant-low f d (a .start) (a .end) (a .rights) j c))), n))
 
   -- the new tracker's counts, and the others as they are
@@ -131,17 +131,17 @@ module _ (b : ℕ) (s : State) (h : Bounded b s) (d : ℕ) (live : Live s d) (a 
     | no n ↦ rw (ne-eqb k d n) (h .1 .low f k c)
   ]
 
-  lost-formed : All (Formed b) (deactivate d a s)
+  lost-formed : All (Formed b) (deactivate closing d a s)
   unfolding deactivate
   lost-formed =
       let (x, e) = live-is (atSlot (s .domains) d) live in
       let l = domainAt s d .tracker in
       bind (both (lose-form (a .rights) (a .start) (a .end) l (s .recordPool) (h .1 .form d) z) (both (lose-law (a .rights) (a .start) (a .end) l (s .recordPool) (h .1 .form d .rising) z) (lose-slots (a .rights) (a .start) (a .end) l (s .recordPool)))) (λ w k.
-      put-queue s d w (Formed b) (λ q.
+      put-queue s d w closing (Formed b) (λ q.
       tracked-formed b _ (left w) (put-tracked s d x e w (held s) (left w) (formed-tracked b s (h .1)) (λ f j c n. rw (ne-eqb j d n)) (k .0) (λ f c. rw (eq-eqb d d refl)) (k .1 .1) q) (left-low w (k .1 .0))))
 
-  pub loss-bounded : All (λ t. Bounded b t × SameOutside s t) (deactivate d a s)
-  loss-bounded = weaken (both (lost-base s d (h .0, live) a) lost-formed) (λ t ((k, n), m). ((k, m), n))
+  pub loss-bounded : All (λ t. Bounded b t × SameOutside s t) (deactivate closing d a s)
+  loss-bounded = weaken (both (lost-base closing s d (h .0, live) a) lost-formed) (λ t ((k, n), m). ((k, m), n))
 
 -- ---- where the trackers store what the regions count
 

@@ -2,6 +2,7 @@
 use mathlib.Core.Path.{_≡_, refl, sym, ap, _∙_}
 use Prim.Native.Nat.{ℕ, _<_}
 use mathlib.Core.Bool.{false}
+use mathlib.Core.List.{[]}
 use lib.Dec.{T, eqb, lit<}
 use Rattle.model.specs.Outcome.{ok, _>>=_}
 use Rattle.refusals.specs.Refusals.{beyond}
@@ -35,7 +36,7 @@ use Rattle.refine.specs.Calls.Sequence.{agrees-on, agrees-next, agrees-c
 use Rattle.decoded.specs.Tree.Regions.{region-read}
 use Rattle.refine.specs.Tree.ChildChecks.{accessFor, check-carve-is}
 use Rattle.refine.specs.Calls.Bounds.{Bounded, bounded-raisable, loss-bounded}
-use Rattle.refine.specs.Calls.Activate.{plain, follows-range, activate-refines, deactivate-refines}
+use Rattle.refine.specs.Calls.Activate.{plain, follows-range, gain-refines, loss-refines}
 use Rattle.refine.specs.Calls.Child.{add-child-refines, Parent, with-parent, parent-children, parent-byte, Next, next-bounded}
 
 -- ---- the range with other rights
@@ -48,10 +49,10 @@ exchange-rights-refines s k d live old byte a z =
     elim (test (eqb old (a .ops .0))) [
       | holds t ↦ rw t (refl, refl)
       | fails t ↦ rw t (
-          agrees-call _ _ _ (bind-assoc (steps.deactivate d had s) _ _) (
-          agrees-on {P = λ u. Bounded 1024 u × SameOutside s u} (deactivate d (access (a .start) (a .end) old) (tablesOf s)) (λ v. activate d a) (steps.deactivate d had s) (λ u. (0, u)) _
-          (follows-range deactivate steps.deactivate deactivate-refines s d (a .start) (a .end) old byte (bounded-raisable 1024 s (lit< tt) k) live z)
-          (loss-bounded 1024 s k d live had z) (λ u (j, b). activate-refines u d a (bounded-raisable 1024 u (lit< tt) j) (same-domains-live (b .sameDomains) d live) z)))
+          agrees-call _ _ _ (bind-assoc (steps.deactivate [] d had s) _ _) (
+          agrees-on {P = λ u. Bounded 1024 u × SameOutside s u} (deactivate 0 d (access (a .start) (a .end) old) (tablesOf s)) (λ v. activate 0 d a) (steps.deactivate [] d had s) (λ u. (0, u)) _
+          (follows-range (deactivate 0) (steps.deactivate []) loss-refines s d (a .start) (a .end) old byte (bounded-raisable 1024 s (lit< tt) k) live z)
+          (loss-bounded [] 1024 s k d live had z) (λ u (j, b). gain-refines u d a (bounded-raisable 1024 u (lit< tt) j) (same-domains-live (b .sameDomains) d live) z)))
     ]
 
 -- ---- the call

@@ -43,7 +43,7 @@ Lists s = (d : ℕ) (x : state.Domain) → In (s .domains) d x → Listed (s .si
 module _ (s : State) (base : Base s) where
   -- ---- handles
 
-  domain-test : (h : Handle) → liveB (tablesOf s .domainPool) h ≡ isLive (s .domainPool) (s .domains) (handleIn h)
+  pub domain-test : (h : Handle) → liveB (tablesOf s .domainPool) h ≡ isLive (s .domainPool) (s .domains) (handleIn h)
   unfolding tablesOf
   domain-test h = live-is (s .sizes .domains) (s .domains) (s .domainPool) (base .domains .pool) h
 

@@ -1,5 +1,5 @@
--- What send and revoke share: the capability in a slot is looked at, its region moves or goes, and the slot leaves the list or is emptied. In between the
--- lists are as they were: what the steps on regions leave differs from what they found in regions, trackers and queue.
+-- What send and revoke share: the capability in a slot is looked at, and its region. A region that is sent moves, and its slot leaves the list. In between
+-- the lists are as they were: what the steps on regions leave differs from what they found in regions, trackers and queue.
 use mathlib.Core.Path.{_≡_, sym, ap, _∙_}
 use Prim.Native.Nat.{ℕ}
 use lib.Dec.{eqb}
@@ -9,7 +9,7 @@ use Rattle.refusals.specs.Refusals.{noSlot}
 use Rattle.model.specs.State as state
 use Rattle.model.specs.State.{State, Domain, Capa, domainAt}
 use Rattle.model.specs.Locals as locals
-use Rattle.model.specs.Locals.{insertCapa, removeCapa, emptyCapa}
+use Rattle.model.specs.Locals.{insertCapa, removeCapa}
 use Rattle.model.specs.Calls as model
 use Rattle.model.specs.Sound.{Sound}
 use Rattle.laws.specs.Accepted.{All, accepted, bind}
@@ -27,13 +27,13 @@ use Rattle.tables.specs.declared.Handle.{Handle}
 use Rattle.tables.specs.declared.Slot.{Slot}
 use Rattle.tables.specs.Tables.{Tables}
 use Rattle.answers.specs.Answers.{Effect, refused, andThen}
-use Rattle.slots.specs.Capas.{capaAt, withoutCapa, withEmpty}
+use Rattle.slots.specs.Capas.{capaAt, withoutCapa}
 use Rattle.domain.specs.Activate.{insert}
 use Rattle.checks.specs.Checks.{liveRegion}
 use Rattle.decoded.specs.Tables.{handleFor, capaSlot, tablesOf}
 use Rattle.refine.specs.Agrees.{Agrees, agrees-call, agrees-step, ok-then, bind-assoc, bind-same}
 use Rattle.refine.specs.Calls.Sequence.{agrees-on}
-use Rattle.refine.specs.Slots.ListSteps.{capa-read, remove-is, empty-is}
+use Rattle.refine.specs.Slots.ListSteps.{capa-read, remove-is}
 use Rattle.refine.specs.Calls.Activate.{plain}
 use Rattle.refine.specs.Calls.Checks.{Lists, live-region-refines, capa-refines}
 use Rattle.refine.specs.Calls.KeptLists.{same-domains-lists, remove-lists}
@@ -76,7 +76,7 @@ module _ (s : State) (whole : Whole s) where
     pub kept : ((c : Capa) → All (λ t. Whole t × SameDomains s t) (m c)) → All (λ (y : Capa × State). In (domainAt s d .locals .held) l (y .0) × Whole (y .1) × SameDomains s (y .1)) both-of
     kept h = bind (capa-at s d l) (λ c i. bind (h c) (λ t (w, a). accepted (i, w, a)))
 
--- ---- the slot, once the region has moved or is gone
+-- ---- the slot, once the region has moved
 
 module _ (s t : State) (base : Base s) (lists : Lists s) (whole : Whole t) (aside : SameDomains s t) (d : ℕ) (ld : Live s d) (l : ℕ) (c : Capa) (slot : In (domainAt s d .locals .held) l c) where
   before : (x : Domain) × In (s .domains) d x × In (x .locals .held) l c
@@ -93,9 +93,6 @@ module _ (s t : State) (base : Base s) (lists : Lists s) (whole : Whole t) (asid
 
   removed : withoutCapa (tablesOf t) d l ≡ tablesOf (removeCapa d l t)
   removed = let (y, f, i) = after in remove-is t (whole .1 .domains .size) d y f (lists-after d y f) l c i
-
-  pub emptied : withEmpty (tablesOf t) d l ≡ tablesOf (emptyCapa d l t)
-  emptied = let (y, f, i) = after in empty-is t (whole .1 .domains .size) d y f (lists-after d y f) l c i
 
   pub moved : (to : ℕ) → Live s to → Agrees (insert to (capaAt (tablesOf s) d l) (withoutCapa (tablesOf t) d l)) (insertCapa to c (removeCapa d l t))
   moved to lt =

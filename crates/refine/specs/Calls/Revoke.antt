@@ -2,6 +2,7 @@
 use mathlib.Core.Path.{refl, ap, _∙_}
 use Prim.Native.Nat.{ℕ}
 use mathlib.Core.Bool.{not}
+use mathlib.Core.List.{[]}
 use lib.Dec.{eqb}
 use Rattle.model.specs.Lists.{In}
 use Rattle.model.specs.Outcome.{Outcome, ok, _>>=_, require}
@@ -41,6 +42,7 @@ use Rattle.refine.specs.Calls.Checks.{region-test}
 use Rattle.refine.specs.Calls.KeptLists.{sound-lists}
 use Rattle.refine.specs.Calls.SharedSteps.{from-domain, root-test}
 use Rattle.refine.specs.Calls.HeldSlot.{pair-then, sound-whole, from-region, both-of, looked, kept, emptied}
+use Rattle.refine.specs.Calls.ClosingSet.{none-same}
 use Rattle.refine.specs.Calls.RevokeRegion.{revoke-region-refines}
 
 module _ (s : State) (whole : Whole s) where
@@ -48,10 +50,10 @@ module _ (s : State) (whole : Whole s) where
   unless-root : (i : ℕ) (g : state.Region) → In (s .regions) i g → Agrees (revokeUnlessRoot i (tablesOf s)) (plain (model.revokeUnlessRoot i s))
   unfolding revokeUnlessRoot model.revokeUnlessRoot
   unless-root i g e =
-      agrees-call _ _ _ (then-bind (require (not (isRootKind (state.regionAt s i .kind))) isRoot) (steps.revokeRegion (liveCount s) i s) _)
-      (agrees-unless isRoot (revoke i (tablesOf s)) (tablesOf s) _ _ (isRootKind (state.regionAt s i .kind)) (root-test s (whole .1) i g e) (λ t.
+      agrees-call _ _ _ (then-bind (require (not (isRootKind (state.regionAt s i .kind))) isRoot) (steps.revokeRegion [] (liveCount s) i s) _)
+      (agrees-unless isRoot (revoke 0 i (tablesOf s)) (tablesOf s) _ _ (isRootKind (state.regionAt s i .kind)) (root-test s (whole .1) i g e) (λ t.
       let (p, n) = parent-is s whole (g .kind) (rw (region-at s i g e) at t) in
-      revoke-region-refines s whole i p g e n))
+      revoke-region-refines 0 [] none-same s whole i p g e n))
 
   -- by what the slot holds
   abbrev pub revoked : Slot → Effect

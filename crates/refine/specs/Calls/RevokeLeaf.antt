@@ -42,6 +42,7 @@ use Rattle.refine.specs.Tree.Search.{Children, regions-children}
 use Rattle.refine.specs.Tree.ChildLists.{leave-parent-is}
 use Rattle.refine.specs.Tree.RegionSteps.{free-region-refines}
 use Rattle.refine.specs.Calls.Bounds.{TrackersRaisable, Bounded, bounded-raisable, loss-bounded, regions-few, counts-formed}
+use Rattle.refine.specs.Calls.ClosingSet.{SameClosing}
 use Rattle.decoded.specs.Sizes.{good-limits}
 use Rattle.refine.specs.Queue.RingSteps.{cleanup-refines}
 use Rattle.laws.specs.Accepted.{all-ok}
@@ -50,23 +51,23 @@ use Rattle.refine.specs.Calls.Activate.{plain, follows-range, activate-r
 
 -- ---- what a carve held goes back
 
-module _ (s : State) (raisable : TrackersRaisable s) (p : ℕ) (h : state.Region) (at : In (s .regions) p h) (byte : h .rights < 256) (live : Live s (h .owner)) where
+module _ (closing : ℕ) (ls : List ℕ) (same : SameClosing closing ls) (s : State) (raisable : TrackersRaisable s) (p : ℕ) (h : state.Region) (at : In (s .regions) p h) (byte : h .rights < 256) (live : Live s (h .owner)) where
   abbrev T : Tables
   T = tablesOf s
 
   module _ (b e : ℕ) (z : b < e) where
-    back : (m : ℕ) → m ≡ p → Agrees (activate (regionAt T (suc m - 1) .owner - 1) (access b e (regionAt T (suc m - 1) .rights)) T) (plain (model.activate (state.regionAt s m .owner) (record { start = b; end = e; rights = state.regionAt s m .rights }) s))
+    back : (m : ℕ) → m ≡ p → Agrees (activate closing (regionAt T (suc m - 1) .owner - 1) (access b e (regionAt T (suc m - 1) .rights)) T) (plain (model.activate ls (state.regionAt s m .owner) (record { start = b; end = e; rights = state.regionAt s m .rights }) s))
     back m q =
         let row : regionAt T (suc m - 1) ≡ regionFor (s .regions) p (some h) = ap (regionAt T) (omega (arith, q)) ∙ region-read s (raisable .base .regions .size) p h at in
         let reg : state.regionAt s m ≡ h = ap (state.regionAt s) q ∙ region-at s p h at in
-        agrees-step _ (activate (h .owner) (access b e (h .rights)) T) (plain (model.activate (state.regionAt s m .owner) (record { start = b; end = e; rights = state.regionAt s m .rights }) s))
-        (ap (λ (r : RegionCapa). activate (r .owner - 1) (access b e (r .rights)) T) row ∙ ap (λ (o : ℕ). activate o (access b e (h .rights)) T) (omega arith))
-        (agrees-call _ _ (plain (model.activate (h .owner) (record { start = b; end = e; rights = h .rights }) s)) (ap (λ (r : state.Region). plain (model.activate (r .owner) (record { start = b; end = e; rights = r .rights }) s)) reg)
-        (follows-range activate model.activate activate-refines s (h .owner) b e (h .rights) byte raisable live z))
+        agrees-step _ (activate closing (h .owner) (access b e (h .rights)) T) (plain (model.activate ls (state.regionAt s m .owner) (record { start = b; end = e; rights = state.regionAt s m .rights }) s))
+        (ap (λ (r : RegionCapa). activate closing (r .owner - 1) (access b e (r .rights)) T) row ∙ ap (λ (o : ℕ). activate closing o (access b e (h .rights)) T) (omega arith))
+        (agrees-call _ _ (plain (model.activate ls (h .owner) (record { start = b; end = e; rights = h .rights }) s)) (ap (λ (r : state.Region). plain (model.activate ls (r .owner) (record { start = b; end = e; rights = r .rights }) s)) reg)
+        (follows-range (activate closing) (model.activate ls) (activate-refines closing ls same) s (h .owner) b e (h .rights) byte raisable live z))
 
     give-kind : (k : Kind) (o r n c : ℕ) (cs : List ℕ) (x : Option state.Hash) → parentOf k ≡ some p
-        → Agrees (giveBack (record { kind = kindWord k; owner = suc o; parent = link (parentOf k); start = b; end = e; rights = r; child = c; next = n }) T)
-        (plain (model.giveBack (record { owner = o; kind = k; start = b; end = e; rights = r; children = cs; hash = x }) s))
+        → Agrees (giveBack closing (record { kind = kindWord k; owner = suc o; parent = link (parentOf k); start = b; end = e; rights = r; child = c; next = n }) T)
+        (plain (model.giveBack ls (record { owner = o; kind = k; start = b; end = e; rights = r; children = cs; hash = x }) s))
     unfolding giveBack model.giveBack _>>=_
     give-kind Root o r n c cs x q = absurd (none-some none p refl q)
     give-kind (Alias m) o r n c cs x q = (refl, refl)
@@ -74,7 +75,7 @@ module _ (s : State) (raisable : TrackersRaisable s) (p : ℕ) (h : state.Region
 
   -- region g, by its row among the regions rs before
   pub give-back-refines : (rs : List (Option state.Region)) (i : ℕ) (g : state.Region) → parentOf (g .kind) ≡ some p → g .start < g .end
-      → Agrees (giveBack (regionFor rs i (some g)) (tablesOf s)) (model.giveBack g s >>= λ s₁. ok (0, s₁))
+      → Agrees (giveBack closing (regionFor rs i (some g)) (tablesOf s)) (model.giveBack ls g s >>= λ s₁. ok (0, s₁))
   give-back-refines rs i g n z = give-kind (g .start) (g .end) z (g .kind) (g .owner) (g .rights) _ _ (g .children) (g .hash) n
 
 -- ---- the range is queued
@@ -94,7 +95,7 @@ in-turn : {A B C : Type 0} (m : Outcome A) (f : A → Outcome B) (g : B → Outc
     → plain (m >>= λ a. f a >>= λ b. g b >>= λ c. h c) ≡ (m >>= λ a. f a >>= λ b. g b >>= λ c. plain (h c))
 in-turn m f g h = bind-assoc _ _ _ ∙ bind-same _ _ _ (λ a. bind-assoc _ _ _ ∙ bind-same _ _ _ (λ b. bind-assoc _ _ _))
 
-module _ (s : State) (whole : Whole s) (i p : ℕ) (g h : state.Region) (e : In (s .regions) i g) (empty : g .children ≡ []) (n : parentOf (g .kind) ≡ some p) (at : In (s .regions) p h) where
+module _ (closing : ℕ) (ls : List ℕ) (same : SameClosing closing ls) (s : State) (whole : Whole s) (i p : ℕ) (g h : state.Region) (e : In (s .regions) i g) (empty : g .children ≡ []) (n : parentOf (g .kind) ≡ some p) (at : In (s .regions) p h) where
   long : length (s .regions) ≡ s .sizes .regions
   long = whole .1 .regions .size
 
@@ -148,9 +149,9 @@ module _ (s : State) (whole : Whole s) (i p : ℕ) (g h : state.Region) (e : In 
   row = regionFor (s .regions) i (some g)
 
   abbrev leaf : RegionCapa → ℕ → Tables → Effect
-  leaf q o t = andThen (deactivate o (access (q .start) (q .end) (q .rights)) t) (λ u s₁. andThen (giveBack q s₁) (λ v s₂. andThen (freedRegion i s₂) (λ w. cleanupIf q)))
+  leaf q o t = andThen (deactivate closing o (access (q .start) (q .end) (q .rights)) t) (λ u s₁. andThen (giveBack closing q s₁) (λ v s₂. andThen (freedRegion i s₂) (λ w. cleanupIf q)))
 
-  code-leaf : revokeLeaf i (tablesOf s) ≡ leaf row (g .owner) (tablesOf out)
+  code-leaf : revokeLeaf closing i (tablesOf s) ≡ leaf row (g .owner) (tablesOf out)
   unfolding revokeLeaf
   code-leaf =
       ap (λ (q : RegionCapa). leaf q (q .owner - 1) (leaveParent i (tablesOf s))) (region-read s long i g e)
@@ -160,24 +161,24 @@ module _ (s : State) (whole : Whole s) (i p : ℕ) (g h : state.Region) (e : In 
   abbrev last : State → Outcome State
   last s₃ = if has (g .rights) CLEANUP then push (state.cleanup (g .start) (g .end)) s₃ else ok s₃
 
-  model-leaf : plain (model.revokeLeaf i s) ≡ (model.deactivate (g .owner) (accessOf g) out >>= λ s₁. model.giveBack g s₁ >>= λ s₂. model.freeRegion i s₂ >>= λ s₃. plain (last s₃))
+  model-leaf : plain (model.revokeLeaf ls i s) ≡ (model.deactivate ls (g .owner) (accessOf g) out >>= λ s₁. model.giveBack ls g s₁ >>= λ s₂. model.freeRegion i s₂ >>= λ s₃. plain (last s₃))
   unfolding model.revokeLeaf
   model-leaf =
-      ap (λ (x : state.Region). plain (model.deactivate (x .owner) (accessOf x) out >>= λ s₁. model.giveBack x s₁ >>= λ s₂. model.freeRegion i s₂ >>= λ s₃. if has (x .rights) CLEANUP then push (state.cleanup (x .start) (x .end)) s₃ else ok s₃)) (region-at s i g e)
+      ap (λ (x : state.Region). plain (model.deactivate ls (x .owner) (accessOf x) out >>= λ s₁. model.giveBack ls x s₁ >>= λ s₂. model.freeRegion i s₂ >>= λ s₃. if has (x .rights) CLEANUP then push (state.cleanup (x .start) (x .end)) s₃ else ok s₃)) (region-at s i g e)
       ∙ in-turn _ _ _ last
 
-  pub revoke-leaf-refines : Agrees (revokeLeaf i (tablesOf s)) (model.revokeLeaf i s >>= λ s₁. ok (0, s₁))
+  pub revoke-leaf-refines : Agrees (revokeLeaf closing i (tablesOf s)) (model.revokeLeaf ls i s >>= λ s₁. ok (0, s₁))
   revoke-leaf-refines =
-      agrees-step _ _ (plain (model.revokeLeaf i s)) code-leaf
-      (agrees-call _ (plain (model.revokeLeaf i s)) _ model-leaf
-      (agrees-state (deactivate (g .owner) (access (g .start) (g .end) (g .rights)) (tablesOf out)) _ (model.deactivate (g .owner) (accessOf g) out) (λ s₁. model.giveBack g s₁ >>= λ s₂. model.freeRegion i s₂ >>= λ s₃. plain (last s₃))
-      (follows-range deactivate model.deactivate deactivate-refines out (g .owner) (g .start) (g .end) (g .rights) byte (bounded-raisable 1024 out (lit< tt) out-bounded) (same-domains-live sameDomains (g .owner) (whole .0 .owners i g e)) nonempty)
+      agrees-step _ _ (plain (model.revokeLeaf ls i s)) code-leaf
+      (agrees-call _ (plain (model.revokeLeaf ls i s)) _ model-leaf
+      (agrees-state (deactivate closing (g .owner) (access (g .start) (g .end) (g .rights)) (tablesOf out)) _ (model.deactivate ls (g .owner) (accessOf g) out) (λ s₁. model.giveBack ls g s₁ >>= λ s₂. model.freeRegion i s₂ >>= λ s₃. plain (last s₃))
+      (follows-range (deactivate closing) (model.deactivate ls) (deactivate-refines closing ls same) out (g .owner) (g .start) (g .end) (g .rights) byte (bounded-raisable 1024 out (lit< tt) out-bounded) (same-domains-live sameDomains (g .owner) (whole .0 .owners i g e)) nonempty)
       (λ s₁ e₁.
-      let (k₁, b₁) = all-ok _ _ s₁ (loss-bounded 1024 out out-bounded (g .owner) (same-domains-live sameDomains (g .owner) (whole .0 .owners i g e)) (accessOf g) nonempty) e₁ in
-      agrees-state (giveBack row (tablesOf s₁)) _ (model.giveBack g s₁) (λ s₂. model.freeRegion i s₂ >>= λ s₃. plain (last s₃))
-      (give-back-refines s₁ (bounded-raisable 1024 s₁ (lit< tt) k₁) p (parent s (whole .0) i p g h e empty n at) (parent-there s (whole .0) i p g h e empty n at s₁ b₁) (whole .0 .regions p h at .rightsByte) (owner-live s₁ b₁ p h at) (s .regions) i g n nonempty)
+      let (k₁, b₁) = all-ok _ _ s₁ (loss-bounded ls 1024 out out-bounded (g .owner) (same-domains-live sameDomains (g .owner) (whole .0 .owners i g e)) (accessOf g) nonempty) e₁ in
+      agrees-state (giveBack closing row (tablesOf s₁)) _ (model.giveBack ls g s₁) (λ s₂. model.freeRegion i s₂ >>= λ s₃. plain (last s₃))
+      (give-back-refines closing ls same s₁ (bounded-raisable 1024 s₁ (lit< tt) k₁) p (parent s (whole .0) i p g h e empty n at) (parent-there s (whole .0) i p g h e empty n at s₁ b₁) (whole .0 .regions p h at .rightsByte) (owner-live s₁ b₁ p h at) (s .regions) i g n nonempty)
       (λ s₂ e₂.
-      let (k₂, b₂) = all-ok _ _ s₂ (given-base s (whole .0) (whole .1) i p g h e empty n at s₁ (k₁ .0) b₁) e₂ in
+      let (k₂, b₂) = all-ok _ _ s₂ (given-base s (whole .0) (whole .1) i p g h e empty n at ls s₁ (k₁ .0) b₁) e₂ in
       let b = same-outside-then b₁ b₂ in
       agrees-state (freedRegion i (tablesOf s₂)) _ (model.freeRegion i s₂) (λ s₃. plain (last s₃))
       (free-region-refines s₂ (k₂ .regions .size) (k₂ .regions .pool) i g (still-there s₂ b) empty)

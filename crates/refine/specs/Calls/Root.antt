@@ -1,6 +1,7 @@
 -- Root: room is made, the region takes a slot and gets its capability, and the tracker follows.
 use mathlib.Core.Path.{refl}
 use Prim.Native.Nat.{ℕ}
+use mathlib.Core.List.{[]}
 use lib.Dec.{lit<}
 use Rattle.model.specs.Outcome.{ok}
 use Rattle.model.specs.State.{State, Root, region}
@@ -35,7 +36,7 @@ use Rattle.refine.specs.Calls.Bounds.{bounded-raisable}
 use Rattle.refine.specs.Calls.Checks.{Lists, room-refines}
 use Rattle.refine.specs.Calls.KeptLists.{sound-lists, domain-small, room-lists}
 use Rattle.refine.specs.Calls.SharedSteps.{from-domain, insert-here, region-of}
-use Rattle.refine.specs.Calls.Activate.{activate-refines}
+use Rattle.refine.specs.Calls.Activate.{gain-refines}
 use Rattle.refine.specs.Calls.NewRegion.{agree-children, agree-bounded}
 
 module _ (s : State) (sound : Sound s) (h : Handle) (a : AccessRights) where
@@ -56,5 +57,5 @@ module _ (s : State) (sound : Sound s) (h : Handle) (a : AccessRights) where
       agrees-next _ _ (insertCapa d (region (handleOf (s₂ .regionPool) i)) s₂) _
       (insert-here s₂ d (k, l₂, live) (region (handleOf (s₂ .regionPool) i)) _ (region-of s₂ i))
       (both (insert-all d s₂ _ (λ (y : ℕ × State). TrackersAgreeWith (s₁ .regions) (y .1)) (λ n l. listed-agree s₂ d _ at l (s₁ .regions) b)) (insert-base s₂ d k live _)) (λ n s₃ (b₃, (k₃, live₃)).
-      agrees-state (activate d a (tablesOf s₃)) (done n) (steps.activate d (accessFor a) s₃) (λ t. ok (n, t))
-      (activate-refines s₃ d a (bounded-raisable 1024 s₃ (lit< tt) (agree-bounded s₁ s₃ (r .base) b₃ k₃)) live₃ (r .nonempty)) (λ s₄ e₄. (refl, refl))))))
+      agrees-state (activate 0 d a (tablesOf s₃)) (done n) (steps.activate [] d (accessFor a) s₃) (λ t. ok (n, t))
+      (gain-refines s₃ d a (bounded-raisable 1024 s₃ (lit< tt) (agree-bounded s₁ s₃ (r .base) b₃ k₃)) live₃ (r .nonempty)) (λ s₄ e₄. (refl, refl))))))

@@ -41,7 +41,7 @@ use Rattle.refine.specs.Tree.ChildLists.{link-to}
 use Rattle.refine.specs.Tree.ChildChecks.{carve-word}
 use Rattle.refine.specs.Calls.Bounds.{Bounded, bounded-raisable, bounded-more, gain-bounded, loss-bounded, regions-few, whole-bounded}
 use Rattle.decoded.specs.Tables.{regionFor, regionsFor, tablesOf}
-use Rattle.refine.specs.Calls.Activate.{plain, follows-range, activate-refines, deactivate-refines}
+use Rattle.refine.specs.Calls.Activate.{plain, follows-range, gain-refines, loss-refines}
 
 -- ---- the rows of the children that are left
 
@@ -83,22 +83,22 @@ module _ (old new r : ℕ) (byte : r < 256) where
 
   module _ (b : ℕ) (s : State) (h : Bounded b s) (small : suc b < 2 ^ 64 - 1) (lo : Live s old) (ln : Live s new) (x y : ℕ) where
     abbrev once : Outcome State
-    once = model.deactivate old (record { start = x; end = y; rights = r }) s >>= λ s₁. model.activate new (record { start = x; end = y; rights = r }) s₁
+    once = model.deactivate [] old (record { start = x; end = y; rights = r }) s >>= λ s₁. model.activate [] new (record { start = x; end = y; rights = r }) s₁
 
     module _ (z : x < y) where
-      moves : Agrees (andThen (deactivate old (access x y r) (tablesOf s)) (λ v. activate new (access x y r))) (plain once)
+      moves : Agrees (andThen (deactivate 0 old (access x y r) (tablesOf s)) (λ v. activate 0 new (access x y r))) (plain once)
       moves =
-          agrees-call _ (plain once) (model.deactivate old (record { start = x; end = y; rights = r }) s >>= λ s₁. plain (model.activate new (record { start = x; end = y; rights = r }) s₁)) (bind-assoc _ _ _)
-          (agrees-state (deactivate old (access x y r) (tablesOf s)) (activate new (access x y r)) (model.deactivate old (record { start = x; end = y; rights = r }) s) (λ s₁. plain (model.activate new (record { start = x; end = y; rights = r }) s₁))
-          (follows-range deactivate model.deactivate deactivate-refines s old x y r byte (bounded-raisable b s (omega arith) h) lo z)
+          agrees-call _ (plain once) (model.deactivate [] old (record { start = x; end = y; rights = r }) s >>= λ s₁. plain (model.activate [] new (record { start = x; end = y; rights = r }) s₁)) (bind-assoc _ _ _)
+          (agrees-state (deactivate 0 old (access x y r) (tablesOf s)) (activate 0 new (access x y r)) (model.deactivate [] old (record { start = x; end = y; rights = r }) s) (λ s₁. plain (model.activate [] new (record { start = x; end = y; rights = r }) s₁))
+          (follows-range (deactivate 0) (model.deactivate []) loss-refines s old x y r byte (bounded-raisable b s (omega arith) h) lo z)
           (λ s₁ e.
-          let (k, n) = all-ok _ _ s₁ (loss-bounded b s h old lo (record { start = x; end = y; rights = r }) z) e in
-          follows-range activate model.activate activate-refines s₁ new x y r byte (bounded-raisable b s₁ (omega arith) k) (same-domains-live (n .sameDomains) new ln) z))
+          let (k, n) = all-ok _ _ s₁ (loss-bounded [] b s h old lo (record { start = x; end = y; rights = r }) z) e in
+          follows-range (activate 0) (model.activate []) gain-refines s₁ new x y r byte (bounded-raisable b s₁ (omega arith) k) (same-domains-live (n .sameDomains) new ln) z))
 
       once-bounded : All (λ t. Bounded (suc b) t × SameOutside s t) once
       once-bounded =
-          bind (loss-bounded b s h old lo (record { start = x; end = y; rights = r }) z) (λ s₁ (k, n).
-          weaken (gain-bounded b s₁ k new (same-domains-live (n .sameDomains) new ln) (record { start = x; end = y; rights = r }) z) (λ s₂ (k₂, n₂). (k₂, same-outside-then n n₂)))
+          bind (loss-bounded [] b s h old lo (record { start = x; end = y; rights = r }) z) (λ s₁ (k, n).
+          weaken (gain-bounded [] b s₁ k new (same-domains-live (n .sameDomains) new ln) (record { start = x; end = y; rights = r }) z) (λ s₂ (k₂, n₂). (k₂, same-outside-then n n₂)))
 
       one-range : sendRanges old new r ((x, y) ∷ []) s ≡ once
       unfolding sendRanges

@@ -103,7 +103,7 @@ module _ (s : State) (i : ℕ) where
 
 -- ---- 9: the kind word of a root
 
-root-word : (k : Kind) → eqb (kindWord k) 1 ≡ isRootKind k
+pub root-word : (k : Kind) → eqb (kindWord k) 1 ≡ isRootKind k
 root-word Root = refl
 root-word (Alias p) = refl
 root-word (Carve p) = refl

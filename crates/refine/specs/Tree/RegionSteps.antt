@@ -6,10 +6,10 @@ use mathlib.Core.Option.{Option, none, some}
 use mathlib.Core.List.{List, [], _∷_}
 use native.Mathlib.Omega.{arith}
 use lib.Dec.{T, eqb}
-use lib.ListN.{length, getD, set}
-use Rattle.base.specs.Cases.{lt, ge, cmp, holds, fails, test}
+use lib.ListN.{length, set}
+use Rattle.base.specs.Cases.{lt, ge, cmp}
 use Rattle.model.specs.Lists.{Each, oneIf, isSome, countIf, atSlot, In, afterIn}
-use Rattle.model.specs.Outcome.{Outcome, ok, refuse, _>>=_, _>>_, require}
+use Rattle.model.specs.Outcome.{Outcome, ok, refuse, _>>=_}
 use Rattle.refusals.specs.declared.Refusal.{Refusal}
 use Rattle.refusals.specs.Refusals.{noRegion}
 use Rattle.model.specs.State as state
@@ -22,23 +22,20 @@ use Rattle.laws.specs.Tree.Slots.{each-in, in-length}
 use Rattle.laws.specs.Lists.{not-used}
 use Rattle.tables.specs.declared.Handle.{Handle}
 use Rattle.tables.specs.declared.RegionCapa.{RegionCapa}
-use Rattle.tables.specs.Tables.{Tables, Arena, withRegionPool, withRegion}
+use Rattle.tables.specs.Tables as rows
+use Rattle.tables.specs.Tables.{Tables, Arena, withRegionPool, withRegion, withHash}
 use Rattle.arena.specs.declared.Given.the-variants.{At, Full}
 use Rattle.arena.specs.Arena.{given, allocated}
-use Rattle.pools.specs.declared.Pool.the-variants as pool
 use Rattle.pools.specs.Wiping.{slotFreed}
-use Rattle.answers.specs.declared.Answer.{Answer}
-use Rattle.answers.specs.declared.Answer.the-variants.{Done, Refused}
 use Rattle.answers.specs.Answers.{Effect, done, refused}
 use Rattle.region.specs.declared.AccessRights.{AccessRights}
-use Rattle.tracker_records.specs.Links.{freedAnswer}
 use Rattle.segment.specs.Regions.{capaFor, newRegion, freedRegion}
 use Rattle.decoded.specs.Links.{after-out}
-use Rattle.refine.specs.Arenas.Pools.{answerBy, given-first, given-none, first-unused, answer-is}
-use Rattle.refine.specs.Arenas.PoolSlots.{region-made, region-freed, stateAfter}
+use Rattle.refine.specs.Arenas.Pools.{given-first, given-none, first-unused}
+use Rattle.refine.specs.Arenas.PoolSlots.{region-made, region-freed, wiped-refines}
 use Rattle.refine.specs.Tree.ChildLists.{link-to}
 use Rattle.refine.specs.Tree.ChildChecks.{accessFor}
-use Rattle.refine.specs.Agrees.{Agrees, agrees-step, agrees-call, agrees-done, agrees-refused}
+use Rattle.refine.specs.Agrees.{Agrees, agrees-step, agrees-call, agrees-done, agrees-refused, ok-then, bind-assoc, bind-same}
 use Rattle.decoded.specs.Tables.{poolOf, regionFor, tablesOf}
 
 -- a step and a call that are accepted, or refused, alike
@@ -130,28 +127,14 @@ module _ (s : State) (long : length (s .regions) ≡ s .sizes .regions) (sound :
 
 -- ---- a region is freed
 
-abbrev answerFor : Outcome State → Answer
-answerFor (ok t) = Done 0
-answerFor (refuse r) = Refused r
-
--- a step that answers as the call does, and leaves its state
-agrees-after : (x : Effect) (s : State) (m : Outcome State) → x .answer ≡ answerFor m → x .tables ≡ tablesOf (stateAfter s m) → Agrees x (m >>= λ t. ok (0, t))
-unfolding _>>=_
-agrees-after x s (ok t) a e = (a, e)
-agrees-after x s (refuse r) a e = a
-
 module _ (s : State) (long : length (s .regions) ≡ s .sizes .regions) (sound : PoolSound (s .sizes .regions) (slotUses (s .regions)) (s .regionPool)) (i : ℕ) (g : state.Region) (at : In (s .regions) i g) (leaf : g .children ≡ []) where
-  model-answers : freedAnswer (answerBy (free i (s .regionPool))) ≡ answerFor (model.freeRegion i s)
-  unfolding model.freeRegion free require _>>_ _>>=_
-  model-answers = elim (test (eqb (getD (s .regionPool .gens) i 0) (2 ^ 64 - 1))) [ holds t ↦ rw t | fails t ↦ rw t ]
-
-  code-answers : freedRegion i (tablesOf s) .answer ≡ freedAnswer (answerBy (free i (s .regionPool)))
-  unfolding freedRegion tablesOf
-  code-answers = ap freedAnswer (answer-is (s .sizes .regions) (slotUses (s .regions)) (s .regionPool) sound i (omega (arith, in-length (s .regions) i g at, long)) (ap (λ o. oneIf (isSome o)) at))
-
-  code-leaves : freedRegion i (tablesOf s) .tables ≡ slotFreed (tablesOf s) pool.Regions i
-  unfolding freedRegion
-  code-leaves = refl
+  model-frees : _>>=_ {B = ℕ × State} (model.freeRegion i s) (λ t. ok (0, t)) ≡ (free i (s .regionPool) >>= λ q. ok (0, state.withRegions q (set (s .regions) i none) s))
+  unfolding model.freeRegion
+  model-frees = bind-assoc _ _ _ ∙ bind-same _ _ _ (λ q. ok-then _ _)
 
   pub free-region-refines : Agrees (freedRegion i (tablesOf s)) (model.freeRegion i s >>= λ s₁. ok (0, s₁))
-  free-region-refines = agrees-after (freedRegion i (tablesOf s)) s (model.freeRegion i s) (code-answers ∙ model-answers) (code-leaves ∙ region-freed s long sound i g at leaf)
+  unfolding freedRegion slotFreed tablesOf
+  free-region-refines =
+      agrees-call _ _ _ model-frees
+      (wiped-refines (s .sizes .regions) (slotUses (s .regions)) (s .regionPool) sound i (omega (arith, in-length (s .regions) i g at, long)) (ap (λ o. oneIf (isSome o)) at) (tablesOf s)
+      (λ a. withHash (withRegion (withRegionPool (tablesOf s) a) i rows.noRegion) i rows.noHash) _ (region-freed s long i g at leaf))
