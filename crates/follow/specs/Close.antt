@@ -1,6 +1,6 @@
 -- A close keeps `Tracks` of the live domains that are not closing. A domain's turn begins: nothing is claimed of it from then on. Its slot is freed: of
 -- an empty slot nothing is claimed, and every other domain has its tracker and its handle as before.
-use mathlib.Core.Path.{_≡_, refl, sym, subst}
+use mathlib.Core.Path.{sym, subst}
 use mathlib.Core.Logic.{_≢_}
 use Prim.Native.Nat.{ℕ, zero, suc, _≤_}
 use mathlib.Core.Bool.{Bool, true, false, not, _||_}
@@ -11,12 +11,11 @@ use lib.ListN.{getD, set}
 use lib.Seq.{getD-set-other}
 use borrow.Author.Tests.{ne-eqb}
 use Rattle.model.specs.Lists.{isSome, exists, atSlot}
-use Rattle.model.specs.Outcome.{Outcome, ok, refuse, _>>=_}
 use Rattle.model.specs.State.{State, Domain, noneDomain}
 use Rattle.model.specs.Regions.{revokeRegion, liveCount}
 use Rattle.model.specs.Closing.{freeDomain, closeDomain, liveDomains}
 use Rattle.model.specs.Sound.{Sound}
-use Rattle.laws.specs.Accepted.{All, refused, weaken, all-ok}
+use Rattle.laws.specs.Accepted.{All, weaken, all-ok}
 use Rattle.laws.specs.Tracker.Form.{Form}
 use Rattle.laws.specs.Keep.Agreement.{sound-agree}
 use Rattle.laws.specs.Keep.Base.{sound-base}
@@ -24,7 +23,7 @@ use Rattle.laws.specs.Keep.BaseSteps.{Live}
 use Rattle.laws.specs.Keep.SameDomains.{SameDomains}
 use Rattle.laws.specs.Close.FreeDomain.{Idle, freed, free-domain-sound}
 use Rattle.laws.specs.Close.Visit.{Turn}
-use Rattle.laws.specs.Close.Induction.{OfClose, OfRest, Steps, restOf, rest-free, rest-passes, rest-revokes, rest-closes, close-begins, close-all}
+use Rattle.laws.specs.Close.Induction.{OfClose, OfRest, Steps, restOf, rest-free, rest-passes, rest-revokes, rest-closes, close-begins, close-all, bind-on}
 use Rattle.follow.specs.Writer.{Seen}
 use Rattle.follow.specs.Steps.{Tracks, tracks-fewer, set-reads}
 use Rattle.follow.specs.Told.{empty-form}
@@ -69,11 +68,6 @@ module _ (closing : List ℕ) (v : Seen) (s : State) (h : Tracking closing v s) 
   free-tracks sound x i = weaken (free-domain-sound s sound d x i) (λ t (z, e, g). subst (λ u. Tracks (Left closing d u) v u) (sym e) freed-tracks)
 
 -- ---- the close
-
-bind-on : {A B : Type 0} {Q : B → Type 0} (m : Outcome A) {f : A → Outcome B} → ((a : A) → m ≡ ok a → All Q (f a)) → All Q (m >>= f)
-unfolding _>>=_
-bind-on (ok a) k = k a refl
-bind-on (refuse r) k = refused
 
 module _ (v : Seen) where
   abbrev AfterClose : OfClose

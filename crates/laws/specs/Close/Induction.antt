@@ -197,7 +197,7 @@ module _ (C : OfClose) (S : OfRest) (steps : Steps C S) where
 
 -- ---- a property of one run
 
-bind-on : {A B : Type 0} {Q : B → Type 0} (m : Outcome A) {f : A → Outcome B} → ((a : A) → m ≡ ok a → All Q (f a)) → All Q (m >>= f)
+pub bind-on : {A B : Type 0} {Q : B → Type 0} (m : Outcome A) {f : A → Outcome B} → ((a : A) → m ≡ ok a → All Q (f a)) → All Q (m >>= f)
 unfolding _>>=_
 bind-on (ok a) k = k a refl
 bind-on (refuse r) k = refused
