@@ -34,7 +34,7 @@ fn revoke_held(t: &mut [u64], h: Handle) -> Answer
     }
 }
 
-// 4, 10, 6, 9; a RegionRevoke of a dead region succeeds.
+// 4, 3, 22, 23, 6, 9; a RegionRevoke of a dead region succeeds.
 fn revoke_capa(t: &mut [u64], x: Slot) -> Answer
     requires { ⌜ Sized (now t) ⌝ }
     ensures { λ r. ⌜ r ≡ revokeCapa x (view (now (t .entry))) .answer ⌝ }
@@ -45,7 +45,7 @@ fn revoke_capa(t: &mut [u64], x: Slot) -> Answer
         return Answer::Refused(Refusal::NO_SLOT);
     }
     if x.kind == Slot::MANAGEMENT {
-        return Answer::Refused(Refusal::NOT_CARRIED);
+        return close_calls::close_managed(t, handle);
     }
     if x.kind == Slot::REGION {
         return revoke_held(t, handle);
