@@ -83,7 +83,15 @@ notAllowed = record { 0 = 20 }
 abbrev pub isFrozen : Refusal
 isFrozen = record { 0 = 21 }
 
+-- ---- closing a domain (document 02, request 5)
+
+abbrev pub holdsRoot : Refusal
+holdsRoot = record { 0 = 22 }
+
+abbrev pub running : Refusal
+running = record { 0 = 23 }
+
 -- ---- all of them, in the order of their numbers
 
 abbrev pub all : List Refusal
-all = memory ∷ sizes ∷ noDomain ∷ noSlot ∷ wrongKind ∷ stale ∷ badRange ∷ beyond ∷ isRoot ∷ notCarried ∷ noRegion ∷ noLocal ∷ noTracker ∷ ringFull ∷ noDomainRoom ∷ spent ∷ badRecord ∷ badFlag ∷ noHash ∷ notAllowed ∷ isFrozen ∷ []
+all = memory ∷ sizes ∷ noDomain ∷ noSlot ∷ wrongKind ∷ stale ∷ badRange ∷ beyond ∷ isRoot ∷ notCarried ∷ noRegion ∷ noLocal ∷ noTracker ∷ ringFull ∷ noDomainRoom ∷ spent ∷ badRecord ∷ badFlag ∷ noHash ∷ notAllowed ∷ isFrozen ∷ holdsRoot ∷ running ∷ []

@@ -47,8 +47,12 @@ impl Refusal {
 
     pub const FROZEN: Refusal = Refusal(21);
 
+    pub const HOLDS_ROOT: Refusal = Refusal(22);
+
+    pub const RUNNING: Refusal = Refusal(23);
+
     // All of them. The contract ties each constant to the specification's name.
-    pub fn all() -> [Refusal; 21]
+    pub fn all() -> [Refusal; 23]
         ensures { λ r. ⌜ r ≡ all ⌝ }
     {
         [
@@ -73,6 +77,8 @@ impl Refusal {
             Refusal::NO_HASH,
             Refusal::NOT_ALLOWED,
             Refusal::FROZEN,
+            Refusal::HOLDS_ROOT,
+            Refusal::RUNNING,
         ]
     }
 }
