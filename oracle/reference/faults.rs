@@ -108,11 +108,30 @@ pub enum Fault {
     RefusedMarksStay,
     RightsMarked,
     ReachAlwaysMarked,
+    // Document 02, request 5.
+    ClosingGainDropped,
+    ClosingQueues,
+    ClosingGathers,
+    CleanupNotWhileClosing,
+    AllClosingFirst,
+    ClosesFalling,
+    FreedBeforeSlots,
+    CoresBeforeRoots,
+    RootOfTargetOnly,
+    CoresOfTargetOnly,
+    NestedFreesOnly,
+    CloseSkipsRevokes,
+    QueuePurged,
+    CloseFreesSlot,
+    DeadBySlotAlone,
+    GenerationKept,
+    InterfaceStays,
+    CloseSparesAliases,
 }
 
 use Fault::*;
 
-const FAULTS: usize = 103;
+const FAULTS: usize = 121;
 
 /// Each fault with the words of the list of wrong ports, in the order of the enum.
 const NAMES: [(Fault, &str); FAULTS] = [
@@ -219,6 +238,24 @@ const NAMES: [(Fault, &str); FAULTS] = [
     (RefusedMarksStay, "a refused call's marks stay in the entry"),
     (RightsMarked, "a change marks reach and all its rights"),
     (ReachAlwaysMarked, "every change marks reach"),
+    (ClosingGainDropped, "a closing domain's gain is dropped"),
+    (ClosingQueues, "a closing domain is queued"),
+    (ClosingGathers, "a closing domain's update gathers marks"),
+    (CleanupNotWhileClosing, "a closing domain's CLEANUP is not queued"),
+    (AllClosingFirst, "all domains to be closed are closing from the start"),
+    (ClosesFalling, "a close takes the slots in falling order"),
+    (FreedBeforeSlots, "a closed domain is freed before its slots"),
+    (CoresBeforeRoots, "close: 23 before 22"),
+    (RootOfTargetOnly, "close: 22 asked of the target only"),
+    (CoresOfTargetOnly, "close: 23 asked of the target only"),
+    (NestedFreesOnly, "a Management slot of a closing domain only frees that domain"),
+    (CloseSkipsRevokes, "a close skips RegionRevokes"),
+    (QueuePurged, "a close takes the closed domains' updates out of the queue"),
+    (CloseFreesSlot, "a close frees the caller's slot"),
+    (DeadBySlotAlone, "a channel is dead by its slot number alone"),
+    (GenerationKept, "a closed domain's generation stays"),
+    (InterfaceStays, "a closed domain's word and freeze stay for the next in its slot"),
+    (CloseSparesAliases, "a close leaves aliases alive"),
 ];
 
 impl Fault {
