@@ -10,7 +10,8 @@ use std::collections::BTreeSet;
 impl Engine {
     /// The target's 3, then 22 and 23 before any change, then the close.
     pub fn revoke_management(&mut self, handle: Handle) -> Result<(), u8> {
-        let target = self.live_domain(handle)?;
+        let live = self.live_domain(handle);
+        let target = if self.wrong(Fault::DeadManagementNotCarried) { live.map_err(|_| 10)? } else { live? };
         let set = self.to_be_closed(target);
         self.closable(target, &set)?;
         if self.wrong(Fault::AllClosingFirst) {
@@ -119,7 +120,10 @@ impl Engine {
         self.seen.note_if(self.queued(handle).is_some(), Branch::ClosedQueued);
         let freed = match self.fault {
             Some(Fault::FreedBeforeSlots) => Ok(()),
-            Some(Fault::GenerationKept) => Ok(self.lists.domain_pool.free.push(d)),
+            Some(Fault::GenerationKept) => {
+                self.lists.domain_pool.free.push(d);
+                Ok(())
+            }
             _ => self.lists.domain_pool.put_back(d),
         };
         self.seen.note_if(freed.is_err(), Branch::DomainSpent);
@@ -159,6 +163,12 @@ impl Engine {
             Some(Fault::ClosingGathers) => entry.is_none(),
             _ => true,
         }
+    }
+
+    /// For tests: a slot in use holds what sound tables may hold though no call leaves it, as a closed domain's Management capability.
+    pub fn hold(&mut self, d: usize, local: usize, capa: Capa) {
+        assert!(self.domain(d).held[local].is_some());
+        self.domain_mut(d).held[local] = Some(capa);
     }
 
     /// The domain that a channel or Management capability names; 3 if it is closed, also where its slot was opened again.
