@@ -15,8 +15,12 @@ pub mod sample;
 pub mod script;
 pub mod scripts;
 
+mod closes;
+mod closing_draws;
 mod drawn;
 mod interfaces;
 mod marks;
 mod outside_interfaces;
+mod paired;
+mod rust;
 mod outside_flags;

@@ -15,7 +15,7 @@ pub struct Stored<'a> {
     entries: Vec<Entry<'a>>,
 }
 
-/// `region` or `domain` and a slot, or `place` and a place of the ring, and what the entry there has after the call.
+/// `region`, `domain` or `generation` and a slot, or `place` and a place of the ring, and what the entry there has after the call.
 type Entry<'a> = (&'a str, &'a str, &'a str);
 
 impl Stored<'_> {
@@ -26,11 +26,12 @@ impl Stored<'_> {
     }
 }
 
-/// The entry that a comment is about, as `# region 0 has 19 -`, `# domain 0 has 26 frozen` or `# place 0 has 7`.
+/// The entry that a comment is about, as `# region 0 has 19 -`, `# domain 0 has 26 frozen`, `# place 0 has 7` or `# domain 1 generation 1 free`.
 fn entry(text: &str) -> Option<Entry<'_>> {
     let (kind, rest) = text.split_once("# ")?.1.split_once(' ')?;
-    let (slot, said) = rest.split_once(" has ")?;
-    (matches!(kind, "region" | "domain" | "place") && slot.parse::<usize>().is_ok()).then_some((kind, slot, said))
+    let generation = rest.split_once(" generation ").filter(|_| kind == "domain").map(|(slot, said)| ("generation", slot, said));
+    let (kind, slot, said) = generation.or_else(|| rest.split_once(" has ").map(|(slot, said)| (kind, slot, said)))?;
+    (matches!(kind, "region" | "domain" | "place" | "generation") && slot.parse::<usize>().is_ok()).then_some((kind, slot, said))
 }
 
 /// The lists of a text that have this build's sizes.
@@ -51,11 +52,13 @@ pub fn lists(text: &str) -> Result<Vec<Vec<Stored<'_>>>, String> {
     Ok(lists)
 }
 
-/// What an entry has: a region its rights and hash, a domain its word and whether it is frozen, a place of the ring its marks.
+/// What an entry has: a region its rights and hash, a domain its word and whether it is frozen, a domain slot its generation and whether it is
+/// free, a place of the ring its marks.
 fn found(tables: &Tables, (kind, slot, _): Entry) -> String {
     let slot: usize = slot.parse().expect("a number, by `entry`");
     let found = match kind {
         "region" => tables.regions.get(slot).and_then(|r| r.as_ref()).map(|r| format!("{} {}", r.rights, hash_word(r.hash))),
+        "generation" => tables.domain_pool.gens.get(slot).map(|gen| format!("{gen} {}", if tables.domains[slot].is_some() { "live" } else { "free" })),
         "place" => tables.places.get(slot).map(|update| marks_word(update).to_string()),
         _ => tables.domains.get(slot).and_then(|d| d.as_ref()).map(|d| format!("{}{}", d.interface, if d.frozen { " frozen" } else { "" })),
     };

@@ -96,6 +96,15 @@ impl Seen {
         self.branches.iter_mut().zip(&other.branches).for_each(|(a, b)| *a += b);
     }
 
+    /// Adds what another engine met since its counts were `before`.
+    pub fn add_since(&mut self, other: &Seen, before: &Seen) {
+        self.add(other);
+        for (ours, theirs) in self.answers.iter_mut().zip(&before.answers) {
+            ours.iter_mut().zip(theirs).for_each(|(a, b)| *a -= b);
+        }
+        self.branches.iter_mut().zip(&before.branches).for_each(|(a, b)| *a -= b);
+    }
+
     /// Every name with its count, 0 where it was not met: `no 13`, `root ok`, `root 13` and the branches.
     pub fn counts(&self) -> Vec<(String, u64)> {
         let total = |number: usize| self.answers.iter().map(|row| row[number]).sum();
