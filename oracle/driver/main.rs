@@ -20,6 +20,7 @@ driver replay FILE                     a sample, answered again
 driver ours PROGRAM SEED CALLS LENGTH  random lists, the Rust beside the proved engine in program `replay`
 driver ours PROGRAM FILE               a sample
 driver linked SEED CALLS LENGTH        random lists, the Rust beside the exported functions of libengine.a
+driver linked FILE                     fixed lists on these functions
 driver damage SEED SHAPES LENGTH WORDS sound tables by lists of up to LENGTH calls, damaged, lent to the exported functions
 driver free-lists SEED                 free lists at sizes about 64, sound and damaged, lent to the exported functions
 driver convert SEED SHAPES LENGTH WORDS  the last delivery's tables, sound and damaged, lent to the converter
@@ -75,6 +76,8 @@ fn command(words: &[&str]) -> Result<bool, String> {
         ["ours", program, file] => ours::sample(program, file),
         #[cfg(linked)]
         ["linked", seed, calls, l] => Ok(linked::compare(number(seed)?, number(calls)?, length(l)?)),
+        #[cfg(linked)]
+        ["linked", file] => linked::fixed(file),
         #[cfg(linked)]
         ["damage", seed, shapes, l, words] => Ok(linked::damage(number(seed)?, number(shapes)?, length(l)?, length(words)?)),
         #[cfg(linked)]

@@ -4,6 +4,7 @@
 use shared::calls::{Access, Call, Extras, Handle, PoolName, RegionHash, Sizes};
 use shared::tables::{Capa, Region, Tables};
 
+pub use crate::style::Style;
 use crate::{closing_draws, interfaces};
 
 /// SplitMix64.
@@ -31,88 +32,6 @@ impl Random {
 
     pub fn pick<T: Copy>(&mut self, from: &[T]) -> T {
         from[self.below(from.len() as u64) as usize]
-    }
-}
-
-/// What a list is about: where its addresses lie, and how often each call comes.
-pub struct Style {
-    base: u64,
-    span: u64,
-    /// Weights of open, channel, cores, root, alias, carve, send, revoke, region-revoke, pop, readings, interface and freeze.
-    weights: [u64; 12],
-    /// Rights words that roots get; `None`: any byte.
-    plain_rights: bool,
-    /// Once in so many times something absurd is named.
-    absurd: u64,
-    /// From so many domains on no more are opened, mostly: so lists get full.
-    domains: usize,
-    /// One revoke in so many closes a domain.
-    closes: u64,
-    /// From so many roots on hardly any more are made, since they never die.
-    roots: usize,
-    /// Where the ring is full, is it mostly popped?
-    pops: bool,
-    /// Is nearly every call one that can be accepted?
-    apt: bool,
-    /// Do domains with a manager carve? Then closes are mostly due a range back.
-    carves: bool,
-}
-
-const WEIGHTS: [[u64; 12]; 6] = [
-    [2, 3, 1, 3, 8, 8, 8, 8, 3, 3, 2, 3],
-    [2, 4, 1, 3, 3, 3, 16, 4, 4, 0, 1, 2],
-    [1, 2, 1, 6, 12, 12, 2, 14, 2, 6, 1, 1],
-    [1, 2, 1, 8, 16, 4, 2, 1, 1, 1, 1, 1],
-    [1, 1, 0, 2, 4, 16, 2, 3, 2, 2, 1, 1],
-    [2, 2, 2, 4, 5, 5, 5, 5, 5, 0, 1, 2],
-];
-
-/// Where domains are mostly opened below each other, handed regions, and closed.
-const SUPPLYING: [[u64; 12]; 2] = [[5, 1, 1, 1, 6, 6, 12, 8, 3, 1, 1, 1], [8, 2, 1, 1, 4, 8, 9, 12, 4, 3, 0, 0]];
-
-impl Style {
-    pub fn new(random: &mut Random) -> Style {
-        let span = random.pick(&[4, 8, 16, 40, 1000, 100_000]);
-        let base = match random.below(5) {
-            0 => u64::MAX - span,
-            1 => random.next() >> 1,
-            _ => 0,
-        };
-        let style = Style {
-            base,
-            span,
-            weights: random.pick(&WEIGHTS),
-            plain_rights: random.one_in(2),
-            absurd: random.pick(&[12, 40, 400]),
-            domains: random.pick(&[1, 2, 3, 8, usize::MAX]),
-            closes: random.pick(&[6, 8, 12]),
-            roots: random.pick(&[1, 1, 2, 3, usize::MAX]),
-            pops: !random.one_in(3),
-            apt: false,
-            carves: true,
-        };
-        if random.one_in(2) { style.supplying(random) } else { style }
-    }
-
-    /// The same addresses, one root or two, and chains of domains below it that come and go.
-    fn supplying(self, random: &mut Random) -> Style {
-        let (weights, roots) = (random.pick(&SUPPLYING), random.pick(&[1, 1, 2]));
-        Style { weights, roots, absurd: 400, domains: usize::MAX, closes: 2, pops: !random.one_in(6), apt: true, carves: random.one_in(3), ..self }
-    }
-
-    /// Roots and aliases in ever more domains, hardly any revoked: regions or records run out.
-    pub fn filling(random: &mut Random) -> Style {
-        let span = random.pick(&[4, 4, 1000, 100_000]);
-        Style { base: 0, span, weights: [2, 0, 0, 16, 8, 1, 0, 0, 0, 0, 0, 0], plain_rights: span == 4, absurd: 400, domains: usize::MAX, closes: 6, roots: usize::MAX, pops: false, apt: false, carves: true }
-    }
-
-    /// Once in so many times a slot or a domain is taken that the call may have no use for.
-    fn stray(&self) -> u64 {
-        if self.apt { 60 } else { 10 }
-    }
-
-    fn address(&self, random: &mut Random) -> u64 {
-        self.base + random.below(self.span + 1)
     }
 }
 
@@ -215,28 +134,34 @@ pub fn call(random: &mut Random, style: &Style, tables: &Tables) -> Call {
             let carve = kind == 5 && (style.carves || !closing_draws::is_managed(tables, domain) || random.one_in(20));
             child(random, style, tables, domain, carve)
         }
-        6 => {
-            let handed = if !random.one_in(if style.apt { 8 } else { 2 }) { closing_draws::hand_down(random, tables, &live) } else { None };
-            if let Some((domain, local, target)) = handed {
-                return Call::Send { domain, local, target, extras: extras(random) };
-            }
-            let roots = random.one_in(if style.apt { 40 } else { 8 });
-            let local = any_local(random, style, tables, domain, |c| roots || !closing_draws::is_root(tables, c));
-            let target = any_local(random, style, tables, domain, |c| needed(kind, c));
-            Call::Send { domain, local, target, extras: extras(random) }
-        }
+        6 => sending(random, style, tables, domain, &live),
         7 => {
             let dead = random.one_in(6);
             Call::Revoke { domain, local: any_local(random, style, tables, domain, |c| revocable(tables, c) && (dead || closing_draws::is_live(tables, c))) }
         }
-        8 => {
-            let dead = random.one_in(8);
-            Call::RegionRevoke { domain, local: any_local(random, style, tables, domain, |c| needed(kind, c) && (dead || closing_draws::is_live(tables, c))) }
-        }
+        8 => Call::RegionRevoke { domain, local: any_region(random, style, tables, domain) },
         9 => Call::Pop,
         10 => reading(random, style, domain),
         _ => interfaces::call(random, tables, domain),
     }
+}
+
+/// A send: half the time of something that goes to a domain below.
+fn sending(random: &mut Random, style: &Style, tables: &Tables, domain: Handle, live: &[Handle]) -> Call {
+    let handed = if !random.one_in(if style.apt { 8 } else { 2 }) { closing_draws::hand_down(random, tables, live) } else { None };
+    if let Some((domain, local, target)) = handed {
+        return Call::Send { domain, local, target, extras: extras(random) };
+    }
+    let roots = random.one_in(if style.apt { 40 } else { 8 });
+    let local = any_local(random, style, tables, domain, |c| roots || !closing_draws::is_root(tables, c));
+    let target = any_local(random, style, tables, domain, |c| needed(6, c));
+    Call::Send { domain, local, target, extras: extras(random) }
+}
+
+/// A slot with a region, mostly a live one.
+fn any_region(random: &mut Random, style: &Style, tables: &Tables, domain: Handle) -> u64 {
+    let dead = random.one_in(8);
+    any_local(random, style, tables, domain, |c| needed(4, c) && (dead || closing_draws::is_live(tables, c)))
 }
 
 /// Any flag word and hash of a send, or none of them (document 02, request 1).
@@ -316,8 +241,7 @@ fn root_access(random: &mut Random, style: &Style) -> Access {
 
 /// An alias or a carve of some region that the domain holds.
 fn child(random: &mut Random, style: &Style, tables: &Tables, domain: Handle, carve: bool) -> Call {
-    let dead = random.one_in(8);
-    let local = any_local(random, style, tables, domain, |c| needed(4, c) && (dead || closing_draws::is_live(tables, c)));
+    let local = any_region(random, style, tables, domain);
     let list = tables.domains.get(domain.slot as usize).and_then(|d| d.as_ref());
     let held = list.and_then(|d| d.held.get(local as usize).copied().flatten());
     let parent = match held {
