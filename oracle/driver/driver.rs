@@ -20,6 +20,7 @@ mod closing_draws;
 mod drawn;
 mod interfaces;
 mod marks;
+mod outside_closing;
 mod outside_flags;
 mod outside_interfaces;
 mod paired;

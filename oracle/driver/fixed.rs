@@ -65,8 +65,9 @@ fn found(tables: &Tables, (kind, slot, _): Entry) -> String {
     found.unwrap_or("none".to_string())
 }
 
-/// The first line that differs from what the Rust answers or has, or where the reference differs from the Rust.
-fn wrong(list: &[Stored]) -> Option<String> {
+/// The first line that differs from what the Rust answers or has, or where the reference differs from the Rust. Behind a close that is due a range
+/// back only the reference answers; those calls are counted.
+fn wrong(list: &[Stored], alone: &mut usize) -> Option<String> {
     let calls: Vec<Call> = list.iter().map(|stored| stored.call).collect();
     if let Some(d) = differs(&calls, None) {
         return Some(format!("{}: {}\n{}", list[d.at].line, list[d.at].text, d.what));
@@ -74,6 +75,7 @@ fn wrong(list: &[Stored]) -> Option<String> {
     let mut judge = Judge::new();
     list.iter().find_map(|stored| {
         let answer = show(&judge.perform(&stored.call));
+        *alone += usize::from(!judge.by_rust());
         let mut wrong = stored.entries.iter().map(|entry| (entry, found(&judge.tables(), *entry))).filter(|(entry, found)| entry.2 != found);
         let entry = wrong.next().map(|((kind, slot, _), found)| format!("{kind} {slot} has {found}"));
         let said = stored.answer() == Some(&answer) && entry.is_none();
@@ -85,11 +87,13 @@ fn wrong(list: &[Stored]) -> Option<String> {
 pub fn check(file: &str) -> Result<bool, String> {
     let text = std::fs::read_to_string(file).map_err(|e| format!("{file}: {e}"))?;
     let lists = lists(&text).map_err(|e| format!("{file}: {e}"))?;
-    if let Some(wrong) = lists.iter().find_map(|list| wrong(list)) {
+    let mut alone = 0;
+    if let Some(wrong) = lists.iter().find_map(|list| wrong(list, &mut alone)) {
         println!("{file}:{wrong}");
         return Ok(false);
     }
     let calls: usize = lists.iter().map(Vec::len).sum();
-    println!("{calls} calls of {file} answered by the Rust and the reference as they stand there");
+    let by_reference = if alone == 0 { String::new() } else { format!(", {alone} of them by the reference alone, behind a close that is due a range back") };
+    println!("{calls} calls of {file} answered by the Rust and the reference as they stand there{by_reference}");
     Ok(calls > 0)
 }

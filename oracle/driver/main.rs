@@ -3,7 +3,7 @@
 use std::io::{self, BufRead};
 use std::process::ExitCode;
 
-use shared::calls::{show, Call};
+use shared::calls::{show, Call, Handle};
 use shared::lists::parse;
 use shared::tables::Tables;
 
@@ -97,6 +97,20 @@ fn command(words: &[&str]) -> Result<bool, String> {
     }
 }
 
+/// The open domains about a revoke, which may close some.
+fn open_domains(judge: &Judge, call: &Call) -> Vec<Handle> {
+    let Call::Revoke { .. } = call else { return Vec::new() };
+    let t = judge.tables();
+    let open = (0..t.domains.len()).filter(|&d| t.domains[d].is_some());
+    open.map(|d| Handle { slot: d as u64, gen: t.domain_pool.gens[d] }).collect()
+}
+
+/// A comment that names those that were closed.
+fn closed(before: &[Handle], after: &[Handle]) -> String {
+    let closed = before.iter().filter(|h| !after.contains(h)).map(|h| format!(" {h}")).collect::<String>();
+    if closed.is_empty() { closed } else { format!(" # closes{closed}") }
+}
+
 /// Answers the calls on standard input, a line each, and shows the tables in the end.
 fn run(show_tables: impl Fn(&Tables)) -> Result<bool, String> {
     let mut judge = Judge::new();
@@ -104,7 +118,8 @@ fn run(show_tables: impl Fn(&Tables)) -> Result<bool, String> {
         let line = line.map_err(|e| e.to_string())?;
         let call: Option<Call> = parse(&line).map_err(|e| format!("line {}: {e}", k + 1))?;
         if let Some(call) = call {
-            println!("{call} -> {}", show(&judge.perform(&call)));
+            let before = open_domains(&judge, &call);
+            println!("{call} -> {}{}", show(&judge.perform(&call)), closed(&before, &open_domains(&judge, &call)));
         }
     }
     show_tables(&judge.tables());
