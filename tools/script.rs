@@ -16,10 +16,10 @@ use std::thread;
 
 use calls::Call;
 
-/// Document 01's names of the refusals, by number.
-const REFUSALS: [&str; 18] = [
+/// Document 01's names of the refusals, and docs/DIFFERENCES.md's of document 02's, by number.
+const REFUSALS: [&str; 24] = [
     "", "Memory", "Sizes", "NoDomain", "NoSlot", "WrongKind", "Stale", "BadRange", "Beyond", "Root", "NotCarried", "NoRegion",
-    "NoLocal", "NoTracker", "RingFull", "NoDomainRoom", "Spent", "BadRecord",
+    "NoLocal", "NoTracker", "RingFull", "NoDomainRoom", "Spent", "BadRecord", "BadFlag", "NoHash", "NotAllowed", "Frozen", "HoldsRoot", "Running",
 ];
 
 fn main() -> ExitCode {

@@ -5,6 +5,7 @@ use shared::calls::{show, Call};
 use shared::sound::broken_clause;
 use shared::tables::Tables;
 
+use crate::closes::Closes;
 use crate::judge::Judge;
 use crate::marks;
 use crate::random::{self, Random, Style};
@@ -15,8 +16,8 @@ pub struct Difference {
     pub what: String,
 }
 
-/// Runs a list on both sides; the calls come from `next`, which sees the judge's tables. Marks are compared where the reference has a fault:
-/// then the judge has those of a reference without.
+/// Runs a list on both sides; the calls come from `next`, which sees the judge's tables. Closes that are due a range back are left out. Where the
+/// reference has a fault, the judge has a reference without: then marks are compared, and these closes, too.
 fn run(
     fault: Option<Fault>,
     totals: &mut Totals,
@@ -25,14 +26,18 @@ fn run(
     let mut judge = if fault.is_some() { Judge::new() } else { Judge::rust() };
     let mut tables = judge.tables();
     let mut reference = Engine::new(tables.sizes, fault);
-    let mut list = Vec::new();
-    while let Some(call) = next(list.len(), &tables) {
+    let (mut list, mut asked) = (Vec::new(), 0);
+    while let Some(call) = next(asked, &tables) {
+        let at = asked;
+        asked += 1;
+        if fault.is_none() && judge.is_close(&call) && totals.left_out(&reference, &call) {
+            continue;
+        }
         let theirs = judge.perform(&call);
         let ours = reference.perform(&call);
         let ours = if fault.is_some() { ours } else { marks::left_out(ours) };
         list.push(call);
         totals.calls += 1;
-        let at = list.len() - 1;
         if theirs != ours {
             let what = format!("the Rust answers `{}`, the reference `{}`", show(&theirs), show(&ours));
             return (list, Some(Difference { at, what }));
@@ -53,6 +58,7 @@ fn run(
         }
     }
     totals.seen.add(reference.seen());
+    totals.closes += judge.closes();
     (list, None)
 }
 
@@ -65,15 +71,25 @@ pub fn changes(call: &Call) -> bool {
 pub struct Totals {
     calls: u64,
     seen: Seen,
+    closes: Closes,
 }
 
 impl Totals {
     pub fn new() -> Totals {
-        Totals { calls: 0, seen: Seen::new() }
+        Totals { calls: 0, seen: Seen::new(), closes: Closes::default() }
+    }
+
+    /// Is this a close that is due a range back? Then it is counted, and what the reference meets in it, on a copy.
+    fn left_out(&mut self, reference: &Engine, call: &Call) -> bool {
+        let Some(ahead) = marks::due_back(reference, call) else { return false };
+        self.closes.left_out += 1;
+        self.seen.add_since(ahead.seen(), reference.seen());
+        true
     }
 
     pub fn print(&self) {
         println!("calls {}", self.calls);
+        println!("{}", self.closes);
         for (name, n) in self.seen.counts() {
             println!("met {n} {name}");
         }

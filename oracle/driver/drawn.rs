@@ -27,13 +27,16 @@ fn records(random: &mut Random) -> Vec<Vec<u8>> {
     let length = random.below(most + 1) as usize;
     let filling = most == 700 && random.one_in(2);
     let style = if filling { Style::filling(random) } else { Style::new(random) };
-    let mut judge = Judge::rust();
+    let mut judge = Judge::new();
     let mut tables = judge.tables();
     let mut records = Vec::new();
     while records.len() < length {
         let call = match random::call(random, &style, &tables) {
             // A Management capability would take a slot that a region can have.
-            Call::Open { cores, .. } if filling => Call::Open { manager: None, cores },
+            Call::Open { .. } if filling => Call::Open { manager: None, cores: any_cores(random, 2) },
+            Call::Open { manager: None, .. } => Call::Open { manager: None, cores: any_cores(random, 2) },
+            // A script can't set a core map back, and a domain that has one can't be closed.
+            Call::Open { manager, cores } => Call::Open { manager, cores: if cores == 0 { any_cores(random, 8) } else { cores } },
             // A script's send has neither flags nor a hash.
             Call::Send { domain, local, target, .. } => Call::Send { domain, local, target, extras: Extras::NONE },
             call => call,
@@ -48,11 +51,15 @@ fn records(random: &mut Random) -> Vec<Vec<u8>> {
     records
 }
 
-/// A call's record. Where a domain is opened, any core map, and without a manager any generation.
+/// Any core map once in so many times, else 0.
+fn any_cores(random: &mut Random, times: u64) -> u64 {
+    if random.one_in(times) { random.next() } else { 0 }
+}
+
+/// A call's record. Where a domain is opened without a manager, any generation.
 fn varied(random: &mut Random, call: &Call) -> Option<Vec<u8>> {
     match *call {
-        Call::Open { manager: None, .. } if random.one_in(2) => Some(record(1, &[NO_MANAGER, random.next(), random.next()])),
-        Call::Open { manager: Some(m), .. } if random.one_in(3) => Some(record(1, &[m.slot, m.gen, random.next()])),
+        Call::Open { manager: None, cores } => Some(record(1, &[NO_MANAGER, random.next(), cores])),
         _ => encode(call),
     }
 }

@@ -36,7 +36,8 @@ pub struct Kept {
     pub words: Vec<u64>,
 }
 
-/// The lists of a file that have this build's sizes. A line `sizes ..` begins a list; lines `words ..` hold the words.
+/// The lists of a file that have this build's sizes. A line `sizes ..` begins a list; lines `words ..` hold the words. The last delivery refused to
+/// close a domain with 10, and changed nothing: such calls are left out.
 pub fn read(file: &str) -> Result<Vec<Kept>, String> {
     let text = std::fs::read_to_string(file).map_err(|e| format!("{file}: {e}"))?;
     let own = format!("sizes {}", engine::utils::mirror::sizes());
@@ -51,7 +52,10 @@ pub fn read(file: &str) -> Result<Vec<Kept>, String> {
         if let Some(words) = line.strip_prefix("words ") {
             kept.words.extend(expanded(words).map_err(wrong)?);
         } else if let Some(call) = parse(line).map_err(wrong)? {
-            kept.calls.push((call, line.split_once("-> ").map_or("", |(_, answer)| answer).to_string()));
+            let answer = line.split_once("-> ").map_or("", |(_, answer)| answer);
+            if !(matches!(call, Call::Revoke { .. }) && answer == "no 10") {
+                kept.calls.push((call, answer.to_string()));
+            }
         }
     }
     Ok(lists)

@@ -8,9 +8,10 @@ use shared::tables::Tables;
 
 use crate::compare::{list_seed, shorten};
 use crate::judge::Judge;
+use crate::marks::with_all;
 use crate::random::{self, Random, Style};
 
-/// A call's name, its refusal, and what differs from the tables before it.
+/// A call's name, `close` for the revoke of a Management slot, its refusal, and what differs from the tables before it.
 type Way = (String, u8, String);
 
 /// What differs, in words; empty where nothing does.
@@ -18,6 +19,7 @@ fn changed(before: &Tables, after: &Tables) -> String {
     let slots = |t: &Tables| t.domains.iter().flatten().map(|d| (d.list.clone(), d.held.clone())).collect::<Vec<_>>();
     let trackers = |t: &Tables| t.domains.iter().flatten().map(|d| d.tracker).collect::<Vec<_>>();
     let parts = [
+        ("domains", before.domain_pool != after.domain_pool),
         ("regions", before.region_pool != after.region_pool || before.regions != after.regions),
         ("slots", slots(before) != slots(after)),
         ("tracker", before.record_pool != after.record_pool || before.records != after.records || trackers(before) != trackers(after)),
@@ -28,19 +30,24 @@ fn changed(before: &Tables, after: &Tables) -> String {
 
 /// Performs a call, and finds what it leaves behind where it fails in the Rust. Calls that are added are put together by us.
 fn way(judge: &mut Judge, call: &Call) -> Option<Way> {
-    let before = judge.tables();
+    if judge.left_out(call) {
+        return None;
+    }
+    let close = judge.is_close(call);
+    let before = with_all(judge.tables(), 0);
     let refusal = judge.perform(call).err()?;
     if matches!(call, Call::Open { .. } | Call::Channel { .. }) {
         return None;
     }
     let left = changed(&before, &judge.left_behind()?);
-    let name = call.to_string().split(' ').next().unwrap_or("").to_string();
+    let shown = call.to_string();
+    let name = if close { "close" } else { shown.split(' ').next().unwrap_or("") }.to_string();
     (!left.is_empty()).then_some((name, refusal, left))
 }
 
 /// The first call of a list that leaves something behind in this way.
 fn found(list: &[Call], wanted: &Way) -> Option<usize> {
-    let mut judge = Judge::rust();
+    let mut judge = Judge::new();
     list.iter().position(|call| way(&mut judge, call).as_ref() == Some(wanted))
 }
 
@@ -51,7 +58,7 @@ pub fn print(seed: u64, calls: u64, length: usize) -> bool {
         let mut random = Random(list_seed(seed, number));
         let style = Style::new(&mut random);
         let mut presets = random::presets(&mut random, &engine::utils::mirror::sizes()).into_iter();
-        let mut judge = Judge::rust();
+        let mut judge = Judge::new();
         let mut list = Vec::new();
         for _ in 0..length {
             let call = presets.next().unwrap_or_else(|| random::call(&mut random, &style, &judge.tables()));
@@ -77,7 +84,7 @@ pub fn print(seed: u64, calls: u64, length: usize) -> bool {
 
 fn print_list(list: &[Call], left: &str) {
     println!("sizes {}", engine::utils::mirror::sizes());
-    let mut judge = Judge::rust();
+    let mut judge = Judge::new();
     for (k, call) in list.iter().enumerate() {
         let left = if k + 1 == list.len() { format!(" # leaves {left}") } else { String::new() };
         println!("{call} -> {}{left}", show(&judge.perform(call)));
@@ -91,7 +98,7 @@ pub fn check(file: &str) -> Result<bool, String> {
     let (mut judge, mut ways) = (None, 0);
     for (k, stored) in text.lines().enumerate() {
         if stored.starts_with("sizes ") {
-            judge = (stored == own).then(Judge::rust);
+            judge = (stored == own).then(Judge::new);
             continue;
         }
         let call = parse(stored).map_err(|e| format!("{file}: line {}: {e}", k + 1))?;

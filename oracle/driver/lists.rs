@@ -109,7 +109,7 @@ pub fn parse(line: &str) -> Result<Option<Call>, String> {
 pub fn parse_script(line: &str) -> Result<Option<Call>, String> {
     let mut words = words(line);
     match words.next() {
-        None => Ok(None),
+        None | Some("sizes") => Ok(None),
         Some(name) if SCRIPT.contains(&name) => call(name, Words(words)).and_then(without_extras).map(Some),
         Some(name) if OTHERS.contains(&name) => Err(format!("\"{name}\" is no call of a script; expected {}", one_of(&SCRIPT))),
         Some(other) => Err(format!("\"{other}\" is no call; expected {}", one_of(&SCRIPT))),

@@ -3,7 +3,7 @@
 use std::io::{self, BufRead};
 use std::process::ExitCode;
 
-use shared::calls::{show, Call};
+use shared::calls::{show, Call, Handle};
 use shared::lists::parse;
 use shared::tables::Tables;
 
@@ -20,6 +20,7 @@ driver replay FILE                     a sample, answered again
 driver ours PROGRAM SEED CALLS LENGTH  random lists, the Rust beside the proved engine in program `replay`
 driver ours PROGRAM FILE               a sample
 driver linked SEED CALLS LENGTH        random lists, the Rust beside the exported functions of libengine.a
+driver linked FILE                     fixed lists on these functions
 driver damage SEED SHAPES LENGTH WORDS sound tables by lists of up to LENGTH calls, damaged, lent to the exported functions
 driver free-lists SEED                 free lists at sizes about 64, sound and damaged, lent to the exported functions
 driver convert SEED SHAPES LENGTH WORDS  the last delivery's tables, sound and damaged, lent to the converter
@@ -76,6 +77,8 @@ fn command(words: &[&str]) -> Result<bool, String> {
         #[cfg(linked)]
         ["linked", seed, calls, l] => Ok(linked::compare(number(seed)?, number(calls)?, length(l)?)),
         #[cfg(linked)]
+        ["linked", file] => linked::fixed(file),
+        #[cfg(linked)]
         ["damage", seed, shapes, l, words] => Ok(linked::damage(number(seed)?, number(shapes)?, length(l)?, length(words)?)),
         #[cfg(linked)]
         ["free-lists", seed] => Ok(linked::free_lists(number(seed)?)),
@@ -94,6 +97,20 @@ fn command(words: &[&str]) -> Result<bool, String> {
     }
 }
 
+/// The open domains about a revoke, which may close some.
+fn open_domains(judge: &Judge, call: &Call) -> Vec<Handle> {
+    let Call::Revoke { .. } = call else { return Vec::new() };
+    let t = judge.tables();
+    let open = (0..t.domains.len()).filter(|&d| t.domains[d].is_some());
+    open.map(|d| Handle { slot: d as u64, gen: t.domain_pool.gens[d] }).collect()
+}
+
+/// A comment that names those that were closed.
+fn closed(before: &[Handle], after: &[Handle]) -> String {
+    let closed = before.iter().filter(|h| !after.contains(h)).map(|h| format!(" {h}")).collect::<String>();
+    if closed.is_empty() { closed } else { format!(" # closes{closed}") }
+}
+
 /// Answers the calls on standard input, a line each, and shows the tables in the end.
 fn run(show_tables: impl Fn(&Tables)) -> Result<bool, String> {
     let mut judge = Judge::new();
@@ -101,7 +118,8 @@ fn run(show_tables: impl Fn(&Tables)) -> Result<bool, String> {
         let line = line.map_err(|e| e.to_string())?;
         let call: Option<Call> = parse(&line).map_err(|e| format!("line {}: {e}", k + 1))?;
         if let Some(call) = call {
-            println!("{call} -> {}", show(&judge.perform(&call)));
+            let before = open_domains(&judge, &call);
+            println!("{call} -> {}{}", show(&judge.perform(&call)), closed(&before, &open_domains(&judge, &call)));
         }
     }
     show_tables(&judge.tables());

@@ -28,6 +28,22 @@ impl Marks {
         marked
     }
 
+    /// Performs the call without the Rust; was a closing domain due a range back?
+    pub fn alone(&mut self, call: &Call) -> (Answer, bool) {
+        let answer = self.0.perform(call);
+        (answer, self.0.due_back())
+    }
+
+    /// Would a closing domain be due a range back in this call?
+    pub fn due_back(&self, call: &Call) -> bool {
+        due_back(&self.0, call).is_some()
+    }
+
+    /// The reference's own.
+    pub fn tables(&self) -> Tables {
+        self.0.tables()
+    }
+
     /// Puts the marks beside the Rust's queued domains: those that a copy of the reference answers when all is popped.
     pub fn put(&self, tables: &mut Tables) {
         if tables.read == tables.write {
@@ -46,6 +62,13 @@ impl Marks {
             at = (at + 1) % tables.places.len() as u64;
         }
     }
+}
+
+/// A copy of the reference with this call performed, where a closing domain is due a range back in it.
+pub fn due_back(reference: &Engine, call: &Call) -> Option<Engine> {
+    let mut ahead = reference.clone();
+    let _ = ahead.perform(call);
+    ahead.due_back().then_some(ahead)
 }
 
 /// The comparison of the two stands in `driver compare`; elsewhere a difference is the end.

@@ -5,11 +5,11 @@ use std::fmt;
 use shared::calls::Answer;
 
 /// Counts by the refusal's number; 0 counts what was not refused.
-pub struct Met([u64; 22]);
+pub struct Met([u64; 24]);
 
 impl Met {
     pub fn new() -> Met {
-        Met([0; 22])
+        Met([0; 24])
     }
 
     pub fn add(&mut self, answer: &Answer) {

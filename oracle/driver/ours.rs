@@ -8,6 +8,7 @@ use std::thread;
 use shared::calls::{show, Answer, Call, Extras, PoolName, Reply, Sizes, Update};
 use shared::tables::Tables;
 
+use crate::closes::Closes;
 use crate::compare::{changes, list_seed, shorten};
 use crate::fixed::lists;
 use crate::judge::Judge;
@@ -185,40 +186,62 @@ fn differs(program: &str, list: &[Call]) -> Result<Option<(usize, String)>, Stri
     expected.difference(program)
 }
 
-/// A random list, added to what is expected.
-fn random_list(expected: &mut Expected, seed: u64, length: usize, met: &mut Met) -> Vec<Call> {
+/// What random lists met.
+struct Found {
+    met: Met,
+    closes: Closes,
+    /// Calls that the reference judged alone.
+    alone: u64,
+}
+
+/// A random list, added to what is expected. Closes that are due a range back are left out; with `due` they are performed, and from the first one
+/// on the reference judges. Answers whether any was left out.
+fn random_list(expected: &mut Expected, seed: u64, length: usize, due: bool, found: &mut Found) -> (Vec<Call>, bool) {
     let mut random = Random(seed);
     let style = Style::new(&mut random);
     let mut presets = random::presets(&mut random, &expected.sizes).into_iter();
     let mut side = expected.make();
     let mut list = Vec::new();
-    for _ in 0..length {
+    while list.len() < length {
         let call = presets.next().unwrap_or_else(|| random::call(&mut random, &style, &side.tables));
-        met.add(&expected.perform(&mut side, &call));
+        if !due && side.judge.left_out(&call) {
+            continue;
+        }
+        found.met.add(&expected.perform(&mut side, &call));
+        found.alone += u64::from(!side.judge.by_rust());
         list.push(call);
     }
-    list
+    found.closes += side.judge.closes();
+    (list, side.judge.closes().left_out > 0)
 }
 
 /// Random lists until `calls` calls were run; the first difference, cut down, is printed and ends it.
 pub fn compare(program: &str, seed: u64, calls: u64, length: usize) -> Result<bool, String> {
-    let (mut number, mut total, mut met) = (0, 0, Met::new());
+    let (mut number, mut total, mut again) = (0, 0, 0);
+    let mut found = Found { met: Met::new(), closes: Closes::default(), alone: 0 };
     while total < calls {
         let mut expected = Expected::new();
         let mut lists = Vec::new();
         while lists.len() * length < BATCH && total < calls {
             number += 1;
-            lists.push(random_list(&mut expected, list_seed(seed, number), length, &mut met));
+            let own = list_seed(seed, number);
+            let (list, left_out) = random_list(&mut expected, own, length, false, &mut found);
+            lists.push(list);
             total += length as u64;
+            if left_out {
+                lists.push(random_list(&mut expected, own, length, true, &mut found).0);
+                again += length as u64;
+            }
         }
         if let Some((line, what)) = expected.difference(program)? {
             let at = (line / (length + 1)).min(lists.len() - 1);
-            println!("list {} of seed {seed} differs: {what}", number - (lists.len() - 1 - at) as u64);
+            println!("a list among the last {} before list {} of seed {seed} differs: {what}", lists.len(), number + 1);
             return print_list(program, lists.swap_remove(at));
         }
     }
-    println!("{total} random calls answered by the proved engine as by the Rust, the marks as by the reference, with the same hash of the tables' words after each");
-    println!("{met}");
+    println!("{} random calls answered by the proved engine as by the Rust, the marks as by the reference, with the same hash of the tables' words after each", total + again - found.alone);
+    println!("{} more as by the reference alone, behind a close that is due a range back", found.alone);
+    println!("{}\n{}", found.met, found.closes);
     Ok(true)
 }
 
@@ -249,6 +272,6 @@ pub fn sample(program: &str, file: &str) -> Result<bool, String> {
             return print_list(program, list);
         }
     }
-    println!("{calls} calls of {file} answered by the proved engine as by the Rust, the marks as by the reference, with the same hash of the tables' words after each");
+    println!("{calls} calls of {file} answered by the proved engine as by the Rust, the marks and closes that are due a range back as by the reference, with the same hash of the tables' words after each");
     Ok(calls > 0)
 }

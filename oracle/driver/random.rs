@@ -2,9 +2,10 @@
 //! live handles, slots in use, ranges on edges that are there, and beside them stale and absurd ones.
 
 use shared::calls::{Access, Call, Extras, Handle, PoolName, RegionHash, Sizes};
-use shared::tables::{Capa, Kind, Region, Tables};
+use shared::tables::{Capa, Region, Tables};
 
-use crate::interfaces;
+pub use crate::style::Style;
+use crate::{closing_draws, interfaces};
 
 /// SplitMix64.
 #[derive(Clone)]
@@ -34,58 +35,6 @@ impl Random {
     }
 }
 
-/// What a list is about: where its addresses lie, and how often each call comes.
-pub struct Style {
-    base: u64,
-    span: u64,
-    /// Weights of open, channel, cores, root, alias, carve, send, revoke, region-revoke, pop, readings, interface and freeze.
-    weights: [u64; 12],
-    /// Rights words that roots get; `None`: any byte.
-    plain_rights: bool,
-    /// Once in so many times something absurd is named.
-    absurd: u64,
-    /// From so many domains on no more are opened, mostly: so lists get full.
-    domains: usize,
-}
-
-const WEIGHTS: [[u64; 12]; 6] = [
-    [2, 3, 1, 3, 8, 8, 8, 8, 3, 3, 2, 3],
-    [2, 4, 1, 3, 3, 3, 16, 4, 4, 0, 1, 2],
-    [1, 2, 1, 6, 12, 12, 2, 14, 2, 6, 1, 1],
-    [1, 2, 1, 8, 16, 4, 2, 1, 1, 1, 1, 1],
-    [1, 1, 0, 2, 4, 16, 2, 3, 2, 2, 1, 1],
-    [2, 2, 2, 4, 5, 5, 5, 5, 5, 0, 1, 2],
-];
-
-impl Style {
-    pub fn new(random: &mut Random) -> Style {
-        let span = random.pick(&[4, 8, 16, 40, 1000, 100_000]);
-        let base = match random.below(5) {
-            0 => u64::MAX - span,
-            1 => random.next() >> 1,
-            _ => 0,
-        };
-        Style {
-            base,
-            span,
-            weights: random.pick(&WEIGHTS),
-            plain_rights: random.one_in(2),
-            absurd: random.pick(&[12, 40, 400]),
-            domains: random.pick(&[1, 2, 3, 8, usize::MAX]),
-        }
-    }
-
-    /// Roots and aliases in ever more domains, hardly any revoked: regions or records run out.
-    pub fn filling(random: &mut Random) -> Style {
-        let span = random.pick(&[4, 4, 1000, 100_000]);
-        Style { base: 0, span, weights: [2, 0, 0, 16, 8, 1, 0, 0, 0, 0, 0, 0], plain_rights: span == 4, absurd: 400, domains: usize::MAX }
-    }
-
-    fn address(&self, random: &mut Random) -> u64 {
-        self.base + random.below(self.span + 1)
-    }
-}
-
 /// Generations near the end for some free slots: how 16 is reached. Now and then for all the first records, so that a merge meets it.
 pub fn presets(random: &mut Random, sizes: &Sizes) -> Vec<Call> {
     match random.below(16) {
@@ -106,19 +55,43 @@ fn preset(random: &mut Random, sizes: &Sizes) -> Call {
     Call::Generation { pool, slot, gen: random.pick(&[u64::MAX, u64::MAX - 1, u64::MAX - 2, 7]) }
 }
 
-/// The kind of the next call, by its place among the weights.
+/// A revoke that closes a domain; it has no weight of its own.
+const CLOSE: usize = 12;
+
+/// The kind of the next call. In an apt list it is drawn again where no such call could be accepted.
 fn kind(random: &mut Random, style: &Style, tables: &Tables, live: &[Handle]) -> usize {
+    let mut kind = any_kind(random, style, tables, live);
+    for _ in 0..6 {
+        if !style.apt || closing_draws::possible(tables, live, kind, style.roots) {
+            break;
+        }
+        kind = any_kind(random, style, tables, live);
+    }
+    kind
+}
+
+/// A kind by its place among the weights.
+fn any_kind(random: &mut Random, style: &Style, tables: &Tables, live: &[Handle]) -> usize {
     let mut draw = random.below(style.weights.iter().sum());
     let mut kind = 0;
     while draw >= style.weights[kind] {
         draw -= style.weights[kind];
         kind += 1;
     }
-    if kind == 0 && live.len() >= style.domains && !random.one_in(20) {
-        kind = 3;
+    if kind == 0 && live.len() >= style.domains.min(tables.domains.len()) && !random.one_in(20) {
+        kind = random.pick(&[3, 6, CLOSE, CLOSE]);
+    }
+    if kind == 3 && closing_draws::roots(tables) >= style.roots && !random.one_in(12) {
+        kind = random.pick(&[4, 5, 6]);
+    }
+    if kind == 7 && random.one_in(style.closes) {
+        kind = CLOSE;
+    }
+    if style.pops && closing_draws::ring_full(tables) && !random.one_in(4) {
+        kind = 9;
     }
     // Where all lists are full, most calls would be 12: revoke instead.
-    let full = |h: &Handle| tables.domains[h.slot as usize].iter().all(|d| d.held.iter().all(Option::is_some));
+    let full = |h: &Handle| tables.domains[h.slot as usize].iter().all(|d| d.held.iter().all(|c| c.is_some_and(|c| c != Capa::None)));
     if matches!(kind, 1 | 3..=6 | 8) && live.iter().all(full) && !random.one_in(3) {
         kind = 7;
     }
@@ -131,32 +104,64 @@ pub fn call(random: &mut Random, style: &Style, tables: &Tables) -> Call {
     if live.is_empty() && !random.one_in(4) {
         return Call::Open { manager: None, cores: random.below(8) };
     }
-    let kind = kind(random, style, tables, &live);
-    // A domain that holds what the call needs, if there is one.
-    let useful = live.iter().filter(|h| tables.domains[h.slot as usize].iter().any(|d| d.held.iter().flatten().any(|c| needed(kind, *c))));
+    let mut kind = kind(random, style, tables, &live);
+    if kind == CLOSE {
+        match closing_draws::close(random, tables, &live) {
+            Some(close) => return close,
+            None => kind = random.pick(&[0, 4, 5, 6]),
+        }
+    }
+    // A domain that holds what the call needs, if there is one, and has room for what it makes.
+    let holds = |h: &Handle| tables.domains[h.slot as usize].iter().any(|d| d.held.iter().flatten().any(|c| needed(kind, *c)));
+    let room = matches!(kind, 1 | 3 | 4 | 5 | 8) && !random.one_in(8);
+    let useful = live.iter().filter(|h| holds(h) && (!room || closing_draws::has_room(tables, **h)));
     let useful: Vec<Handle> = useful.copied().collect();
-    let from = if useful.is_empty() || random.one_in(10) { &live } else { &useful };
+    let from = if useful.is_empty() || random.one_in(style.stray()) { &live } else { &useful };
     let domain = any_domain(random, style, tables, from);
     match kind {
         0 => {
-            let manager = (!random.one_in(3)).then_some(domain);
-            Call::Open { manager, cores: random.below(8) }
+            let manager = (!random.one_in(3)).then(|| closing_draws::opener(random, tables, &live, domain));
+            Call::Open { manager, cores: closing_draws::opened_cores(random) }
         }
         1 => Call::Channel { domain, to: any_domain(random, style, tables, &live) },
-        2 => Call::SetCores { domain, cores: if random.one_in(8) { random.next() } else { random.below(16) } },
-        3 => Call::Root { domain, access: root_access(random, style) },
-        4 | 5 => child(random, style, tables, domain, kind == 5),
-        6 => {
-            let local = any_local(random, style, tables, domain, |_| true);
-            let target = any_local(random, style, tables, domain, |c| needed(kind, c));
-            Call::Send { domain, local, target, extras: extras(random) }
+        2 => Call::SetCores { domain, cores: closing_draws::cores(random) },
+        3 => {
+            let unmanaged = !random.one_in(if style.apt { 40 } else { 12 });
+            let domain = if unmanaged { closing_draws::root_owner(random, tables, &live, domain) } else { domain };
+            Call::Root { domain, access: root_access(random, style) }
         }
-        7 => Call::Revoke { domain, local: any_local(random, style, tables, domain, |c| revocable(tables, c)) },
-        8 => Call::RegionRevoke { domain, local: any_local(random, style, tables, domain, |c| needed(kind, c)) },
+        4 | 5 => {
+            let carve = kind == 5 && (style.carves || !closing_draws::is_managed(tables, domain) || random.one_in(20));
+            child(random, style, tables, domain, carve)
+        }
+        6 => sending(random, style, tables, domain, &live),
+        7 => {
+            let dead = random.one_in(6);
+            Call::Revoke { domain, local: any_local(random, style, tables, domain, |c| revocable(tables, c) && (dead || closing_draws::is_live(tables, c))) }
+        }
+        8 => Call::RegionRevoke { domain, local: any_region(random, style, tables, domain) },
         9 => Call::Pop,
         10 => reading(random, style, domain),
         _ => interfaces::call(random, tables, domain),
     }
+}
+
+/// A send: half the time of something that goes to a domain below.
+fn sending(random: &mut Random, style: &Style, tables: &Tables, domain: Handle, live: &[Handle]) -> Call {
+    let handed = if !random.one_in(if style.apt { 8 } else { 2 }) { closing_draws::hand_down(random, tables, live) } else { None };
+    if let Some((domain, local, target)) = handed {
+        return Call::Send { domain, local, target, extras: extras(random) };
+    }
+    let roots = random.one_in(if style.apt { 40 } else { 8 });
+    let local = any_local(random, style, tables, domain, |c| roots || !closing_draws::is_root(tables, c));
+    let target = any_local(random, style, tables, domain, |c| needed(6, c));
+    Call::Send { domain, local, target, extras: extras(random) }
+}
+
+/// A slot with a region, mostly a live one.
+fn any_region(random: &mut Random, style: &Style, tables: &Tables, domain: Handle) -> u64 {
+    let dead = random.one_in(8);
+    any_local(random, style, tables, domain, |c| needed(4, c) && (dead || closing_draws::is_live(tables, c)))
 }
 
 /// Any flag word and hash of a send, or none of them (document 02, request 1).
@@ -185,13 +190,9 @@ fn needed(kind: usize, c: Capa) -> bool {
     }
 }
 
-/// Anything but Management and live roots, which are refused.
+/// Anything but live roots, which are refused, and Management: closes are drawn by themselves.
 fn revocable(tables: &Tables, c: Capa) -> bool {
-    match c {
-        Capa::Management(_) => false,
-        Capa::Region(h) => tables.regions[h.slot as usize].as_ref().is_none_or(|r| r.kind != Kind::Root),
-        _ => true,
-    }
+    !matches!(c, Capa::Management(_)) && !closing_draws::is_root(tables, c)
 }
 
 fn reading(random: &mut Random, style: &Style, domain: Handle) -> Call {
@@ -213,7 +214,8 @@ fn live_domains(tables: &Tables) -> Vec<Handle> {
 fn any_domain(random: &mut Random, style: &Style, tables: &Tables, live: &[Handle]) -> Handle {
     if live.is_empty() || random.one_in(style.absurd) {
         let slot = random.pick(&[0, random.0 % tables.domains.len() as u64, tables.domains.len() as u64, u64::MAX, 1 << 40]);
-        return Handle { slot, gen: random.pick(&[0, 0, 1, u64::MAX]) };
+        let own = tables.domain_pool.gens.get(slot as usize).copied().unwrap_or(0);
+        return Handle { slot, gen: random.pick(&[0, 0, 1, u64::MAX, own, own.wrapping_sub(1)]) };
     }
     random.pick(live)
 }
@@ -227,7 +229,7 @@ fn any_local(random: &mut Random, style: &Style, tables: &Tables, domain: Handle
     let list = tables.domains.get(domain.slot as usize).and_then(|d| d.as_ref());
     let held = list.map_or(&[][..], |d| &d.held);
     let liked: Vec<u64> = (0..held.len()).filter(|&l| held[l].is_some_and(&likes)).map(|l| l as u64).collect();
-    if liked.is_empty() || random.one_in(10) { random.below(slots) } else { random.pick(&liked) }
+    if liked.is_empty() || random.one_in(style.stray()) { random.below(slots) } else { random.pick(&liked) }
 }
 
 fn root_access(random: &mut Random, style: &Style) -> Access {
@@ -239,7 +241,7 @@ fn root_access(random: &mut Random, style: &Style) -> Access {
 
 /// An alias or a carve of some region that the domain holds.
 fn child(random: &mut Random, style: &Style, tables: &Tables, domain: Handle, carve: bool) -> Call {
-    let local = any_local(random, style, tables, domain, |c| needed(4, c));
+    let local = any_region(random, style, tables, domain);
     let list = tables.domains.get(domain.slot as usize).and_then(|d| d.as_ref());
     let held = list.and_then(|d| d.held.get(local as usize).copied().flatten());
     let parent = match held {

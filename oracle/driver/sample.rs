@@ -12,8 +12,13 @@ fn random_list(random: &mut Random, length: usize, mut each: impl FnMut(&Call, &
     let mut judge = Judge::new();
     let mut tables = judge.tables();
     let mut calls = random::presets(random, &tables.sizes).into_iter();
-    for _ in 0..length {
+    let mut left = length;
+    while left > 0 {
         let call = calls.next().unwrap_or_else(|| random::call(random, &style, &tables));
+        if judge.left_out(&call) {
+            continue;
+        }
+        left -= 1;
         let answer = show(&judge.perform(&call));
         tables = judge.tables();
         each(&call, &mut judge, answer);

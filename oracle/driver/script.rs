@@ -5,6 +5,7 @@ use std::io::{self, Read};
 use shared::calls::{Answer, Call, Handle, Reply, Sizes, Update};
 use shared::records;
 
+use crate::closes::Closes;
 use crate::judge::Judge;
 
 /// The tables that a script runs on.
@@ -13,6 +14,7 @@ const SIZES: Sizes = Sizes { domains: 8, slots: 16, regions: 128, records: 128, 
 /// A script, answered: its calls, as far as it was read, and the lists that follow them.
 pub struct Answered {
     pub answers: Vec<(Option<Call>, Answer)>,
+    pub closes: Closes,
     lists: Vec<String>,
 }
 
@@ -24,9 +26,10 @@ pub fn sizes_fit() -> Result<(), String> {
     Err(format!("a script runs on tables of {SIZES}: build the driver for these sizes (oracle/build)"))
 }
 
-/// Runs a script on the Rust engine. A bad record is a call of its own, refused with 17, and the last one.
+/// Runs a script on the Rust engine, behind a close that is due a range back on the reference. A bad record is a call of its own, refused with 17,
+/// and the last one.
 pub fn answer(script: &[u8]) -> Answered {
-    let mut judge = Judge::rust();
+    let mut judge = Judge::new();
     let mut answers = Vec::new();
     let mut left = script;
     loop {
@@ -43,7 +46,7 @@ pub fn answer(script: &[u8]) -> Answered {
         }
     }
     let lists = [permission_lines(&mut judge), queue_lines(&mut judge)].concat();
-    Answered { answers, lists }
+    Answered { answers, closes: judge.closes(), lists }
 }
 
 impl Answered {

@@ -8,11 +8,12 @@ use std::time::{Duration, Instant};
 
 use shared::records;
 
+use crate::closes::Closes;
 use crate::compare::{list_seed, shorten};
 use crate::drawn;
 use crate::met::Met;
 use crate::random::Random;
-use crate::script::{answer, sizes_fit};
+use crate::script::{answer, sizes_fit, Answered};
 
 /// A program that has not ended by then hangs.
 const PATIENCE: Duration = Duration::from_secs(20);
@@ -74,7 +75,11 @@ fn ended(child: &mut Child, until: Instant) -> Option<ExitStatus> {
 }
 
 fn difference(program: &str, script: &[u8]) -> Result<Option<Difference>, String> {
-    let expected = answer(script).lines();
+    differs_from(&answer(script), program, script)
+}
+
+fn differs_from(answered: &Answered, program: &str, script: &[u8]) -> Result<Option<Difference>, String> {
+    let expected = answered.lines();
     let (status, printed) = match run(program, script)? {
         Outcome::Hung => {
             let what = format!("it did not end within {} s", PATIENCE.as_secs());
@@ -93,7 +98,7 @@ fn difference(program: &str, script: &[u8]) -> Result<Option<Difference>, String
     if !same {
         let shown = |line: Option<&str>| line.map_or("nothing".to_string(), |l| format!("\"{l}\""));
         let (theirs, ours) = (shown(expected.get(line).map(String::as_str)), shown(found.get(line).copied()));
-        what.push(format!("line {}: the Rust has {theirs}, the program {ours}", line + 1));
+        what.push(format!("line {}: the judge has {theirs}, the program {ours}", line + 1));
     }
     if !whole {
         what.push("the last line is not ended".to_string());
@@ -107,22 +112,24 @@ fn difference(program: &str, script: &[u8]) -> Result<Option<Difference>, String
 /// Random scripts; the first difference, cut down, is printed and ends it.
 pub fn compare(program: &str, seed: u64, count: u64) -> Result<bool, String> {
     sizes_fit()?;
-    let (mut calls, mut bad, mut met) = (0, 0, Met::new());
+    let (mut calls, mut bad, mut met, mut closes) = (0, 0, Met::new(), Closes::default());
     for number in 1..=count {
         let pieces = drawn::script(&mut Random(list_seed(seed, number)));
         let script = pieces.concat();
-        if let Some(d) = difference(program, &script)? {
+        let answered = answer(&script);
+        if let Some(d) = differs_from(&answered, program, &script)? {
             println!("script {number} of seed {seed} differs: {}", d.what);
             // To cut a script down takes hundreds of runs: too long where each hangs.
             return if d.hung { print_script(&script) } else { print_cut_down(program, pieces) };
         }
-        let answers = answer(&script).answers;
+        closes += answered.closes;
+        let answers = answered.answers;
         calls += answers.len();
         bad += u64::from(answers.iter().any(|(call, _)| call.is_none()));
         answers.iter().for_each(|(_, answer)| met.add(answer));
     }
-    println!("{count} random scripts of {calls} calls, {bad} of them ended by a bad record, printed by the program as by the Rust");
-    println!("{met}");
+    println!("{count} random scripts of {calls} calls, {bad} of them ended by a bad record, printed by the program as by the Rust, behind a close that is due a range back as by the reference");
+    println!("{met}\n{closes}");
     Ok(true)
 }
 

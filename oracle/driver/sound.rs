@@ -1,4 +1,4 @@
-//! Document 01's paragraph **Sound**, tested on tables clause by clause, in plain loops.
+//! Document 01's paragraph **Sound**, as document 02 leaves it, tested on tables clause by clause, in plain loops.
 
 use crate::calls::{Handle, Update};
 use crate::decode::{decode, without_hashes, without_interfaces, without_marks};
@@ -46,7 +46,7 @@ const CLAUSES: [Clause; 12] = [
     ("every other handle is live or older than its slot's generation", handles),
     ("each tracker record is on one list, ordered, nonempty, fully merged, with reach above 0", records),
     ("the counts are those of the regions, at each address", counts),
-    ("queued domains are live and queued singly", queue),
+    ("queued domains are live or older than their slot's generation, and queued singly", queue),
 ];
 
 fn live<T>(entries: &[Option<T>]) -> impl Iterator<Item = (u64, &T)> {
@@ -197,10 +197,12 @@ fn reaches_unmanaged(t: &Tables, i: u64) -> bool {
     false
 }
 
+/// Live, or older than its slot's generation.
+fn fits<T>(pool: &Pool, entries: &[Option<T>], h: Handle) -> bool {
+    is_live(pool, entries, h) || pool.gens.get(h.slot as usize).is_some_and(|&g| h.gen < g)
+}
+
 fn handles(t: &Tables) -> bool {
-    fn fits<T>(pool: &Pool, entries: &[Option<T>], h: Handle) -> bool {
-        is_live(pool, entries, h) || pool.gens.get(h.slot as usize).is_some_and(|&g| h.gen < g)
-    }
     held(t).all(|(_, c)| match *c {
         Capa::None => true,
         Capa::Region(h) | Capa::RegionRevoke(h) => fits(&t.region_pool, &t.regions, h),
@@ -280,11 +282,12 @@ fn wanted(t: &Tables, a: u64) -> Vec<[u64; 5]> {
     out
 }
 
+/// Document 02, request 5: a queued update may name a closed domain by its old generation. Singly means by slot and generation.
 fn queue(t: &Tables) -> bool {
     let queued: Vec<Handle> = t.places.iter().flatten().filter_map(|u| match *u {
         Update::Permission { domain, .. } => Some(domain),
         Update::Cleanup { .. } => None,
     }).collect();
     let once = |h: &Handle| queued.iter().filter(|k| *k == h).count() == 1;
-    queued.iter().all(|h| is_live(&t.domain_pool, &t.domains, *h) && once(h))
+    queued.iter().all(|h| fits(&t.domain_pool, &t.domains, *h) && once(h))
 }

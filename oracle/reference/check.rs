@@ -1,7 +1,9 @@
 //! Tests the reference: document 01's example and marked cases, lists with answers from the documents, conversions,
-//! drawn lists, and a list for each fault.
+//! drawn lists, closed domains, and a list for each fault.
 
 mod check_answers;
+mod check_book;
+mod check_closing;
 mod check_convert;
 mod check_drawn;
 mod check_marks;
@@ -28,6 +30,8 @@ fn main() {
     check_answers::answers();
     check_convert::conversions();
     check_drawn::drawn();
+    check_closing::closing();
+    check_book::drawn();
     faults();
     println!("the reference passes document 01's example and cases");
 }

@@ -1,19 +1,20 @@
 //! Runs the lists whose answers were written from the documents alone: documents.txt for request 1, interface.txt for request 2, marks.txt for
-//! request 4. Behind `# region` stand a region's rights and hash after the call above, behind `# domain` a domain's word and its freeze, behind
-//! `# place` the marks' word of a place of the ring.
+//! request 4, closing.txt for request 5. Behind `# region` stand a region's rights and hash after the call above, behind `# domain` a domain's word
+//! and its freeze, or its slot's generation and whether that is free, behind `# place` the marks' word of a place of the ring.
 
 use crate::check_convert::carries_over;
 use crate::check_marks::Writer;
 use crate::sizes;
-use reference::Engine;
+use reference::{unsound, Engine};
 use shared::calls::{hash_word, show, Call, Handle};
 use shared::lists::parse;
-use shared::{sound, tables};
+use shared::tables;
 
-const FILES: [(&str, &str); 3] = [
+const FILES: [(&str, &str); 4] = [
     ("documents.txt", include_str!("documents.txt")),
     ("interface.txt", include_str!("interface.txt")),
     ("marks.txt", include_str!("marks.txt")),
+    ("closing.txt", include_str!("closing.txt")),
 ];
 
 /// Every call answered as written, every entry as written, and the tables sound after each call.
@@ -37,7 +38,7 @@ pub fn answers() {
                 calls += 1;
             }
             entry(&engine.tables(), line, &place);
-            assert_eq!(sound::fault(&engine.tables().words()), None, "{place}");
+            assert_eq!(unsound(&engine.tables()), None, "{place}");
             carries_over(&engine.tables(), &place);
         }
         println!("{name}: {calls} calls answered as written");
@@ -54,14 +55,21 @@ fn written(line: &str) -> &str {
 fn entry(tables: &tables::Tables, line: &str, place: &str) {
     let Some((_, comment)) = line.split_once("# ") else { return };
     let words: Vec<&str> = comment.split_whitespace().collect();
-    let ["region" | "domain" | "place", slot, "has", wanted @ ..] = &words[..] else { return };
+    let ["region" | "domain" | "place", slot, of @ ("has" | "generation"), wanted @ ..] = &words[..] else { return };
     let slot: usize = slot.parse().expect("a slot number");
     let found = match words[0] {
+        _ if *of == "generation" => Some(generation(tables, slot)),
         "place" => Some(marks_section(tables)[slot].to_string()),
         "region" => tables.regions[slot].as_ref().map(|r| format!("{} {}", r.rights, hash_word(r.hash))),
         _ => tables.domains[slot].as_ref().map(|d| format!("{}{}", d.interface, if d.frozen { " frozen" } else { "" })),
     };
     assert_eq!(found.unwrap_or("none".to_string()), wanted.join(" "), "{place}");
+}
+
+/// A domain slot's generation, and whether it is free.
+fn generation(tables: &tables::Tables, slot: usize) -> String {
+    let state = if tables.domains[slot].is_some() { "live" } else { "free" };
+    format!("{} {state}", tables.domain_pool.gens[slot])
 }
 
 /// The tables' last U + 1 words.

@@ -3,9 +3,8 @@
 
 use crate::check_convert::carries_over;
 use crate::check_marks::Writer;
-use reference::{Engine, Fault, Seen};
+use reference::{unsound, Engine, Fault, Seen};
 use shared::calls::{Access, Answer, Call, Extras, Handle, Sizes, Update};
-use shared::sound;
 use shared::tables::{Capa, Tables};
 
 const SIZES: Sizes = Sizes { domains: 3, slots: 8, regions: 16, records: 10, updates: 2 };
@@ -38,7 +37,7 @@ pub fn drawn() {
         let (engine, missed) = run(seed, None, |answer, engine| {
             number += 1;
             let place = format!("drawn list {seed}, call {number}: {answer:?}");
-            assert_eq!(sound::fault(&engine.tables().words()), None, "{place}");
+            assert_eq!(unsound(&engine.tables()), None, "{place}");
             carries_over(&engine.tables(), &place);
             assert!(engine.tables().places.iter().flatten().all(marked), "{place}");
         });
@@ -77,10 +76,10 @@ fn marked(update: &Update) -> bool {
 }
 
 /// Numbers by xorshift; never 0 inside.
-struct Draw(u64);
+pub struct Draw(pub u64);
 
 impl Draw {
-    fn below(&mut self, n: u64) -> u64 {
+    pub fn below(&mut self, n: u64) -> u64 {
         self.0 ^= self.0 << 13;
         self.0 ^= self.0 >> 7;
         self.0 ^= self.0 << 17;
@@ -92,18 +91,18 @@ impl Draw {
     }
 
     /// One of them, or 0.
-    fn one_of(&mut self, locals: &[u64]) -> u64 {
+    pub fn one_of(&mut self, locals: &[u64]) -> u64 {
         if locals.is_empty() { 0 } else { locals[self.below(locals.len() as u64) as usize] }
     }
 
     /// Short ranges over few addresses; any rights.
-    fn access(&mut self) -> Access {
+    pub fn access(&mut self) -> Access {
         let start = self.below(12);
         Access { start, end: start + 1 + self.below(9), rights: self.below(256) as u8 }
     }
 
     /// A part of what a local slot holds, with some of its rights; anything where that is no region.
-    fn part(&mut self, tables: &Tables, domain: Handle, local: u64) -> Access {
+    pub fn part(&mut self, tables: &Tables, domain: Handle, local: u64) -> Access {
         let region = match held(tables, domain).get(local as usize) {
             Some(Some(Capa::Region(handle))) => tables.regions[handle.slot as usize].as_ref(),
             _ => None,
@@ -144,7 +143,7 @@ fn held(tables: &Tables, domain: Handle) -> &[Option<Capa>] {
 }
 
 /// The local numbers of the capabilities of some kinds.
-fn locals(tables: &Tables, domain: Handle, kinds: fn(&Capa) -> bool) -> Vec<u64> {
+pub fn locals(tables: &Tables, domain: Handle, kinds: fn(&Capa) -> bool) -> Vec<u64> {
     let slots = held(tables, domain).iter().enumerate();
     slots.filter(|(_, capa)| capa.as_ref().is_some_and(kinds)).map(|(local, _)| local as u64).collect()
 }

@@ -1,24 +1,34 @@
 //! What a page-table writer leans on (request 4): as long as a domain's queued update lacks a mark, or none is queued, whatever that count was above
-//! 0 at is what it was above 0 at when the domain's last update was popped, or nothing, if none was.
+//! 0 at is what it was above 0 at when the domain's last update was popped, or nothing, if none was. An update of a closed domain says nothing of
+//! the one that is open in its slot now (request 5).
 
 use shared::calls::{Answer, Reply, Update};
 use shared::tables::{Record, Tables};
 
-/// For each domain slot what the writer saw last: the records as they were then.
+/// For each domain slot what the writer saw last: the records as they were then, of the domain with the generation beside them.
 pub struct Writer {
     seen: Vec<Vec<Record>>,
+    gens: Vec<u64>,
 }
 
 impl Writer {
     /// Before the first call: no domain has anything.
     pub fn new(domains: usize) -> Writer {
-        Writer { seen: vec![Vec::new(); domains] }
+        Writer { seen: vec![Vec::new(); domains], gens: vec![0; domains] }
     }
 
     /// Goes on behind a call; answers the first domain, address and field that the writer could not know of.
     pub fn after(&mut self, answer: &Answer, tables: &Tables) -> Option<String> {
+        for (d, &gen) in tables.domain_pool.gens.iter().enumerate() {
+            if self.gens[d] != gen {
+                (self.gens[d], self.seen[d]) = (gen, Vec::new());
+            }
+        }
         if let Ok(Reply::Popped(Some(Update::Permission { domain, .. }))) = answer {
-            self.seen[domain.slot as usize] = records(tables, domain.slot as usize);
+            let d = domain.slot as usize;
+            if self.gens[d] == domain.gen {
+                self.seen[d] = records(tables, d);
+            }
         }
         (0..self.seen.len()).find_map(|d| self.missed(d, tables))
     }

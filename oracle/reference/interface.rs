@@ -23,11 +23,12 @@ pub const OPENED: Interface = Interface { word: ALL, frozen: false };
 
 impl Engine {
     /// What a domain opens with: its manager's word has no part in it.
-    pub fn first_interface(&mut self, manager: Option<usize>) -> Interface {
+    pub fn first_interface(&mut self, d: usize, manager: Option<usize>) -> Interface {
         let above = manager.map(|m| self.domain(m).interface);
         self.seen.note_if(above.is_some_and(|above| above.word & ALL != ALL), Branch::OpenedUnderLess);
         match (self.fault, above) {
             (Some(Fault::OpensWithNone), _) => Interface { word: 0, ..OPENED },
+            (Some(Fault::InterfaceStays), _) => self.lists.left_interfaces.remove(&d).unwrap_or(OPENED),
             (Some(Fault::OpensWithEveryBit), _) => Interface { word: u64::MAX, ..OPENED },
             (Some(Fault::OpensAsManager), Some(above)) => Interface { word: above.word, ..OPENED },
             (Some(Fault::OpensFrozenAsManager), Some(above)) => Interface { frozen: above.frozen, ..OPENED },

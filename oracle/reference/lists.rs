@@ -79,6 +79,8 @@ pub struct Lists {
     pub left: BTreeMap<usize, RegionHash>,
     /// Fault only: the marks that popped updates leave, by place or by domain.
     pub left_marks: BTreeMap<usize, u64>,
+    /// Fault only: the words of closed domains, by slot.
+    pub left_interfaces: BTreeMap<usize, Interface>,
 }
 
 /// Arenas: fresh slots go 0, 1, 2.
@@ -115,6 +117,7 @@ impl Lists {
             queue: Queue { updates: VecDeque::new(), first: 0 },
             left: BTreeMap::new(),
             left_marks: BTreeMap::new(),
+            left_interfaces: BTreeMap::new(),
         }
     }
 }

@@ -25,7 +25,8 @@ impl Engine {
         self.seen.note_if(self.lists.domain_pool.free.is_empty(), Branch::DomainsOut);
         let handle = Handle { slot: d as u64, gen: self.lists.domain_pool.gens[d] };
         let slots = self.sizes.slots;
-        let interface = self.first_interface(manager);
+        self.seen.note_if(handle.gen > 0, Branch::OpenedAgain);
+        let interface = self.first_interface(d, manager);
         let domain = Domain { manager, cores, interface, held: vec![None; slots], free: fresh(slots), tracker: Vec::new() };
         self.lists.domains[d] = Some(Arc::new(domain));
         if let Some(m) = manager {

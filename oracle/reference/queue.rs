@@ -14,6 +14,8 @@ impl Engine {
         }
         let Some(i) = self.lists.queue.updates.iter().position(|update| self.gathers(update, domain)) else {
             let marks = self.first_marks(d, marks);
+            let older = |update: &Update| matches!(update, Update::Permission { domain, .. } if domain.slot == d as u64);
+            self.seen.note_if(self.lists.queue.updates.iter().any(older), Branch::TwoGenerations);
             return self.push(Update::Permission { domain, cores, marks });
         };
         self.seen.note(Branch::QueuedAlready);

@@ -1,6 +1,8 @@
-//! Document 01's calls over plain lists and stacks, and document 02's requests 1 (flags and hashes at send), 2 (each domain's word) and 4 (which
-//! rights moved). A wrong port can be put in as a fault.
+//! Document 01's calls over plain lists and stacks, and document 02's requests 1 (flags and hashes at send), 2 (each domain's word), 4 (which rights
+//! moved) and 5 (closing a domain). A wrong port can be put in as a fault.
 
+mod branches;
+mod closing;
 mod convert;
 mod entries;
 mod faults;
@@ -17,14 +19,17 @@ mod revoke;
 mod seen;
 mod send;
 mod slots;
+mod soundness;
 mod tracker;
 
 pub use convert::{convert, Lent};
 pub use faults::Fault;
 pub use seen::Seen;
+pub use soundness::{closed, unsound};
 
 use lists::{Domain, Lists, Region};
 use shared::calls::{Access, Answer, Call, Sizes};
+use std::collections::BTreeSet;
 use std::sync::Arc;
 use tracker::Tracker;
 
@@ -34,18 +39,23 @@ pub struct Engine {
     fault: Option<Fault>,
     lists: Lists,
     seen: Seen,
+    /// The domains that are closing, from their own turn on until they are freed.
+    closing: BTreeSet<usize>,
+    due_back: bool,
 }
 
 impl Engine {
     /// Empty tables of given sizes.
     pub fn new(sizes: Sizes, fault: Option<Fault>) -> Engine {
-        Engine { sizes, fault, lists: Lists::new(&sizes), seen: Seen::new() }
+        Engine { sizes, fault, lists: Lists::new(&sizes), seen: Seen::new(), closing: BTreeSet::new(), due_back: false }
     }
 
     /// One call; a refusal gives its number and nothing else.
     pub fn perform(&mut self, call: &Call) -> Answer {
         let before = if can_fail_late(call) { Some(self.lists.clone()) } else { None };
+        self.due_back = false;
         let answer = self.act(call);
+        self.closing.clear();
         if let (Err(_), Some(before)) = (&answer, before) {
             let refused = std::mem::replace(&mut self.lists, before);
             if self.wrong(Fault::RefusedMarksStay) {
@@ -59,6 +69,11 @@ impl Engine {
     /// What the calls met so far.
     pub fn seen(&self) -> &Seen {
         &self.seen
+    }
+
+    /// Did a carve die in the last call, refused or not, whose parent's owner was closing at that moment? There the Rust fails or differs.
+    pub fn due_back(&self) -> bool {
+        self.due_back
     }
 
     fn act(&mut self, call: &Call) -> Answer {
@@ -115,19 +130,30 @@ impl Engine {
 
     /// A domain gains a range; a change queues it.
     fn gain(&mut self, d: usize, gained: Access) -> Result<(), u8> {
+        if self.ownerless(d) || self.due_back_to(d) {
+            return Ok(());
+        }
         let marks = self.tracker(d).gain(gained)?;
         self.changed(d, marks)
     }
 
     /// A domain loses a range; a change queues it.
     fn lose(&mut self, d: usize, lost: Access) -> Result<(), u8> {
+        if self.ownerless(d) {
+            return Ok(());
+        }
         let marks = self.tracker(d).lose(lost)?;
         self.changed(d, marks)
     }
 
+    /// Faults only: the owner was freed and the region left.
+    fn ownerless(&self, d: usize) -> bool {
+        self.fault.is_some() && self.lists.domains[d].is_none()
+    }
+
     /// A change means a count left or came to 0, so a mark.
     fn changed(&mut self, d: usize, marks: u64) -> Result<(), u8> {
-        if marks == 0 { Ok(()) } else { self.queue_domain(d, marks) }
+        if marks == 0 || self.quiet(d, marks) { Ok(()) } else { self.queue_domain(d, marks) }
     }
 }
 

@@ -8,13 +8,15 @@ use shared::calls::{Access, Answer, Handle, Reply, Update};
 use shared::tables::{Capa, Kind};
 
 impl Engine {
-    /// Revoke: 3, 4, 10, 6, 9; "Revoke needs no bit." The caller's slot becomes None, still in use until a sweep.
+    /// Revoke: 3, 4, then by kind 6, 9 or a Management's 3, 22, 23; "Revoke needs no bit." The caller's slot becomes None, still in use until a
+    /// sweep.
     pub fn revoke(&mut self, domain: Handle, local: u64) -> Answer {
         let d = self.live_domain(domain)?;
         self.asks_wrongly(Fault::RevokeAsksSend, d, SEND)?;
         self.seen.note_if(self.domain(d).interface.word & ALL == 0, Branch::RevokedWithout);
-        match self.held(d, local)? {
-            Capa::Management(_) => return Err(10),
+        let held = self.held(d, local)?;
+        match held {
+            Capa::Management(handle) => self.revoke_management(handle)?,
             Capa::Region(handle) => {
                 let r = self.still_live(handle)?;
                 self.revoke_unless_root(r)?;
@@ -23,7 +25,8 @@ impl Engine {
             Capa::Channel(_) => self.seen.note(Branch::RevokedChannel),
             Capa::None => self.seen.note(Branch::RevokedNone),
         }
-        if self.wrong(Fault::RevokeFreesSlot) {
+        let closed = matches!(held, Capa::Management(_));
+        if self.wrong(Fault::RevokeFreesSlot) || closed && self.wrong(Fault::CloseFreesSlot) {
             self.free_slot(d, local as usize);
         } else {
             self.domain_mut(d).held[local as usize] = Some(Capa::None);
@@ -55,8 +58,8 @@ impl Engine {
     }
 
     /// Children go first, head child by head child, to any depth. Then the region itself goes.
-    fn revoke_region(&mut self, r: usize, depth: usize) -> Result<(), u8> {
-        let gone = self.region(r).access;
+    pub fn revoke_region(&mut self, r: usize, depth: usize) -> Result<(), u8> {
+        let (owner, gone) = (self.region(r).owner, self.region(r).access);
         self.seen.note_if(depth > 2, Branch::RevokedDeep);
         self.seen.note_if(self.region(r).children.len() > 1, Branch::RevokedSeveral);
         self.seen.note_if(depth > 1 && gone.rights & CLEANUP != 0, Branch::ChildCleanup);
@@ -78,6 +81,12 @@ impl Engine {
         self.lists.regions[r] = None;
         if self.wrong(Fault::CleanupBeforeChildren) || self.wrong(Fault::CleanupBeforeTracker) {
             return Ok(());
+        }
+        if self.closing.contains(&owner) && gone.rights & CLEANUP != 0 {
+            self.seen.note(Branch::ClosingCleanup);
+            if self.wrong(Fault::CleanupNotWhileClosing) {
+                return Ok(());
+            }
         }
         self.queue_cleanup(gone)
     }

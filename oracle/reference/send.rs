@@ -37,11 +37,10 @@ impl Engine {
     }
 
     /// The domain that the target slot names: 4, 5, 3 if it is dead.
-    fn target(&self, from: usize, target: u64) -> Result<usize, u8> {
-        match self.held(from, target)? {
-            Capa::Channel(handle) | Capa::Management(handle) => self.live_domain(handle),
-            _ => Err(5),
-        }
+    fn target(&mut self, from: usize, target: u64) -> Result<usize, u8> {
+        let (Capa::Channel(handle) | Capa::Management(handle)) = self.held(from, target)? else { return Err(5) };
+        self.note_closed_target(handle);
+        self.named_domain(handle)
     }
 
     /// 12 at the target, though in a list of one's own the sent slot would come free.
@@ -136,6 +135,13 @@ impl Engine {
             pieces.push(Access { start: at, ..whole });
         }
         pieces
+    }
+
+    fn note_closed_target(&mut self, handle: Handle) {
+        if self.live_domain(handle).is_err() {
+            let again = self.in_slot(handle).is_some();
+            self.seen.note(if again { Branch::SentToClosedAgain } else { Branch::SentToClosed });
+        }
     }
 
     fn note_send(&mut self, from: usize, to: usize, capa: Capa, same_slot: bool) {

@@ -77,7 +77,7 @@ impl Engine {
             Some(Capa::None) => true,
             Some(Capa::Region(h)) => self.live_region(h).is_none(),
             Some(Capa::RegionRevoke(h)) => self.live_region(h).is_none() && !self.wrong(Fault::SweepSparesRevokes),
-            Some(Capa::Management(h)) | Some(Capa::Channel(h)) => self.live_domain(h).is_err(),
+            Some(Capa::Management(h)) | Some(Capa::Channel(h)) => self.named_domain(h).is_err(),
         }
     }
 
@@ -88,6 +88,10 @@ impl Engine {
                 Some(Capa::None) => self.seen.note(Branch::SweptNone),
                 Some(Capa::Region(_)) => self.seen.note(Branch::SweptRegion),
                 Some(Capa::RegionRevoke(_)) => self.seen.note(Branch::SweptRevoke),
+                Some(Capa::Channel(to)) => {
+                    let again = self.in_slot(to).is_some();
+                    self.seen.note(if again { Branch::SweptChannelAgain } else { Branch::SweptChannel });
+                }
                 _ => {}
             }
         }

@@ -21,7 +21,9 @@ use shared::calls::{show, Answer, Call};
 use shared::decode::LIMITS;
 use shared::tables::Tables;
 
+use driver::closes::Closes;
 use driver::compare::{changes, list_seed, shorten, Difference};
+use driver::fixed::lists;
 use driver::judge::Judge;
 use driver::met::Met;
 use driver::ours::{generations_at, numbers};
@@ -162,50 +164,102 @@ impl Both {
     }
 }
 
-/// A list on both sides; the calls come from `next`, which sees the judge's tables.
-fn run(seed: u64, met: &mut Met, mut next: impl FnMut(usize, &Tables) -> Option<Call>) -> (Vec<Call>, Option<Difference>) {
+/// What lists met.
+struct Found {
+    met: Met,
+    closes: Closes,
+    /// Calls that the reference judged alone.
+    alone: u64,
+}
+
+impl Found {
+    fn new() -> Found {
+        Found { met: Met::new(), closes: Closes::default(), alone: 0 }
+    }
+}
+
+/// A list on both sides; the calls come from `next`, which sees the judge's tables. Closes that are due a range back are left out; with `due` they
+/// are performed, and from the first one on the reference judges.
+fn run(seed: u64, due: bool, found: &mut Found, mut next: impl FnMut(usize, &Tables) -> Option<Call>) -> (Vec<Call>, Option<Difference>) {
     let mut list = Vec::new();
     let mut both = match Both::make(seed) {
         Ok(both) => both,
         Err(what) => return (list, Some(Difference { at: 0, what })),
     };
     while let Some(call) = next(list.len(), &both.tables) {
+        if !due && both.judge.left_out(&call) {
+            continue;
+        }
         let answer = both.perform(list.len() as u64, &call);
         list.push(call);
         match answer {
-            Ok(answer) => met.add(&answer),
+            Ok(answer) => found.met.add(&answer),
             Err(what) => return (list.clone(), Some(Difference { at: list.len() - 1, what })),
         }
+        found.alone += u64::from(!both.judge.by_rust());
     }
+    found.closes += both.judge.closes();
     (list, None)
 }
 
+/// A given list, whatever it closes.
 fn differs(seed: u64, list: &[Call]) -> Option<Difference> {
-    run(seed, &mut Met::new(), |k, _| list.get(k).copied()).1
+    run(seed, true, &mut Found::new(), |k, _| list.get(k).copied()).1
 }
 
-/// Random lists until `calls` calls were run; the first difference, cut down, is printed and ends it.
+/// A random list of so many calls.
+fn random_list(seed: u64, length: usize, due: bool, found: &mut Found) -> (Vec<Call>, Option<Difference>) {
+    let mut random = Random(seed);
+    let style = if random.one_in(5) { Style::filling(&mut random) } else { Style::new(&mut random) };
+    let mut presets = random::presets(&mut random, &engine::utils::mirror::sizes()).into_iter();
+    let next = |k, tables: &Tables| (k < length).then(|| presets.next().unwrap_or_else(|| random::call(&mut random, &style, tables)));
+    run(seed, due, found, next)
+}
+
+/// Random lists until `calls` calls were run, and those again from which a close was left out, now with it; the first difference, cut down, is
+/// printed and ends it.
 pub fn compare(seed: u64, calls: u64, length: usize) -> bool {
     lent::begin_watch();
-    let (mut number, mut total, mut met) = (0, 0, Met::new());
+    let (mut number, mut total, mut again, mut found) = (0, 0, 0, Found::new());
     while total < calls {
         number += 1;
-        let own = list_seed(seed, number);
-        let mut random = Random(own);
-        let style = if random.one_in(5) { Style::filling(&mut random) } else { Style::new(&mut random) };
-        let mut presets = random::presets(&mut random, &engine::utils::mirror::sizes()).into_iter();
-        let next = |k, tables: &Tables| (k < length).then(|| presets.next().unwrap_or_else(|| random::call(&mut random, &style, tables)));
-        let (list, difference) = run(own, &mut met, next);
-        if let Some(difference) = difference {
-            println!("list {number} of seed {seed} differs: {}", difference.what);
-            print_list(own, &shorten(list, |l| differs(own, l).map(|d| d.at)));
-            return false;
+        let (own, left_out) = (list_seed(seed, number), found.closes.left_out);
+        for due in [false, true] {
+            if due && found.closes.left_out == left_out {
+                continue;
+            }
+            let (list, difference) = random_list(own, length, due, &mut found);
+            if let Some(difference) = difference {
+                println!("list {number} of seed {seed} differs: {}", difference.what);
+                print_list(own, &shorten(list, |l| differs(own, l).map(|d| d.at)));
+                return false;
+            }
+            *if due { &mut again } else { &mut total } += list.len() as u64;
         }
-        total += list.len() as u64;
     }
-    println!("{total} random calls answered by the linked library as by the Rust, the marks as by the reference, with the same words after each");
-    println!("{met}");
+    let by_rust = total + again - found.alone;
+    println!("{by_rust} random calls answered by the linked library as by the Rust, the marks as by the reference, with the same words after each");
+    println!("{} more as by the reference alone, behind a close that is due a range back", found.alone);
+    println!("{}\n{}", found.met, found.closes);
     true
+}
+
+/// The lists of a file that have this build's sizes.
+pub fn fixed(file: &str) -> Result<bool, String> {
+    lent::begin_watch();
+    let text = std::fs::read_to_string(file).map_err(|e| format!("{file}: {e}"))?;
+    let lists = lists(&text).map_err(|e| format!("{file}: {e}"))?;
+    let mut calls = 0;
+    for (k, list) in lists.iter().enumerate() {
+        let list: Vec<Call> = list.iter().map(|stored| stored.call).collect();
+        if differs(k as u64, &list).is_some() {
+            print_list(k as u64, &shorten(list, |l| differs(k as u64, l).map(|d| d.at)));
+            return Ok(false);
+        }
+        calls += list.len();
+    }
+    println!("{calls} calls of {file} answered by the linked library as by the Rust or the reference, with the same words after each");
+    Ok(calls > 0)
 }
 
 fn print_list(seed: u64, list: &[Call]) {

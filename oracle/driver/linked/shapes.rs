@@ -2,7 +2,7 @@
 
 use shared::calls::{Access, Call, Extras, Handle, RegionHash, Update};
 use shared::decode::decode;
-use shared::tables::Tables;
+use shared::tables::{Capa, Tables};
 
 use driver::judge::Judge;
 use driver::random::{self, Random, Style};
@@ -113,11 +113,19 @@ pub fn marks(random: &mut Random, shape: &Shape) -> Edits {
     vec![(place, if random.one_in(2) { below } else { above })]
 }
 
+/// Half the time a slot that holds a Management capability, whose revoke closes a domain.
+fn managed(random: &mut Random, tables: &Tables, slot: usize) -> Option<u64> {
+    let held = tables.domains[slot].iter().flat_map(|x| x.held.iter().enumerate());
+    let slots: Vec<u64> = held.filter(|(_, c)| matches!(c, Some(Capa::Management(_)))).map(|(local, _)| local as u64).collect();
+    (!slots.is_empty() && random.one_in(2)).then(|| random.pick(&slots))
+}
+
 /// The exported calls in turn, on a domain that is live, if any is.
 pub fn turn(random: &mut Random, number: u64, tables: &Tables) -> Call {
     let live: Vec<usize> = (0..tables.domains.len()).filter(|&d| tables.domains[d].is_some()).collect();
     let slot = if live.is_empty() { 0 } else { random.pick(&live) };
     let domain = Handle { slot: slot as u64, gen: tables.domain_pool.gens[slot] };
+    let close = managed(random, tables, slot);
     let (local, target) = (random.below(tables.sizes.slots as u64), random.below(tables.sizes.slots as u64));
     let access = Access { start: random.below(8), end: random.below(20), rights: random.pick(&[1, 3, 33]) };
     let flags = Some(random.pick(&[0, 16, 32, 64, 3]));
@@ -132,7 +140,7 @@ pub fn turn(random: &mut Random, number: u64, tables: &Tables) -> Call {
         6 => Call::Alias { domain, local, access },
         7 => Call::Carve { domain, local, access },
         8 => send(Extras::NONE),
-        9 => Call::Revoke { domain, local },
+        9 => Call::Revoke { domain, local: close.unwrap_or(local) },
         10 => Call::RegionRevoke { domain, local },
         11 => Call::CoreMap { domain },
         12 => Call::Permissions { domain },

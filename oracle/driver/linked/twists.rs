@@ -10,8 +10,10 @@ use driver::random::Random;
 /// What a twist does; none where the tables have no place for it.
 type Twist = fn(&mut Random, &mut Tables) -> Option<()>;
 
-const TWISTS: [Twist; 12] =
-    [split, drop_record, add_record, manager, second_slot, forged, emptied, move_child, circle, free_order, ring, marks];
+const TWISTS: [Twist; 14] = [
+    split, drop_record, add_record, manager, second_slot, forged, emptied, move_child, circle, free_order, ring, marks, queued_generation,
+    two_generations,
+];
 
 /// One or two twists, as edits of the words.
 pub fn twist(random: &mut Random, shape: &Shape) -> Edits {
@@ -225,6 +227,42 @@ fn ring(random: &mut Random, t: &mut Tables) -> Option<()> {
     t.places[t.write as usize] = Some(update);
     t.write = (t.write + 1) % places;
     Some(())
+}
+
+/// A generation about the slot's, about this one, or the first; one that is older than the slot's may be queued.
+fn near_generation(random: &mut Random, t: &Tables, h: Handle) -> u64 {
+    let own = t.domain_pool.gens[h.slot as usize];
+    random.pick(&[own, own.wrapping_add(1), own.wrapping_sub(1), h.gen.wrapping_sub(1), h.gen.wrapping_add(1), 0, u64::MAX])
+}
+
+/// A queued domain's generation lowered or raised.
+fn queued_generation(random: &mut Random, t: &mut Tables) -> Option<()> {
+    let k = pick_queued(random, t)?;
+    let Some(Update::Permission { domain, cores, marks }) = t.places[k] else { return None };
+    let gen = near_generation(random, t, domain);
+    t.places[k] = Some(Update::Permission { domain: Handle { gen, ..domain }, cores, marks });
+    Some(())
+}
+
+/// One more update for a queued domain's slot, of another generation or the same one, where the ring has room.
+fn two_generations(random: &mut Random, t: &mut Tables) -> Option<()> {
+    let k = pick_queued(random, t)?;
+    let Some(Update::Permission { domain, cores, marks }) = t.places[k] else { return None };
+    let gen = near_generation(random, t, domain);
+    let behind = (t.write + 1) % t.places.len() as u64;
+    if behind == t.read {
+        return None;
+    }
+    t.places[t.write as usize] = Some(Update::Permission { domain: Handle { gen, ..domain }, cores, marks });
+    t.write = behind;
+    Some(())
+}
+
+/// A place where a domain is queued.
+fn pick_queued(random: &mut Random, t: &Tables) -> Option<usize> {
+    let queued = |k: &usize| matches!(t.places[*k], Some(Update::Permission { domain, .. }) if domain.slot < t.domains.len() as u64);
+    let places: Vec<usize> = (0..t.places.len()).filter(queued).collect();
+    (!places.is_empty()).then(|| random.pick(&places))
 }
 
 /// Other marks beside all queued domains, which are as good.
