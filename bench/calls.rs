@@ -65,7 +65,7 @@ fn beside_copies(w: &mut [u64]) {
     let (mut first, mut tables) = (w.to_vec(), w.to_vec());
     for (name, state) in STATES.iter().filter(|(name, _)| ["roots", "carved"].contains(name)) {
         let ours = |t: &mut [u64]| assert!(exported::convert(&t[..old], &mut tables, &mut first, w) == [0; 6]);
-        beside_copy(&format!("convert the last delivery's tables; {name}"), *state, ours);
+        beside_copy(&format!("convert former tables; {name}"), *state, ours);
     }
     let z = mirror::sizes();
     let sizes = [z.domains, z.slots, z.regions, z.records, z.updates].map(|n| n as u64);

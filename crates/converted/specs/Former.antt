@@ -1,4 +1,4 @@
--- The last delivery's words of a state are all but the marks. Where every queued domain has all five marks, they tell this delivery's words.
+-- The former words of a state are all but the marks. Where every queued domain has all five marks, they tell this delivery's words.
 use mathlib.Core.Path.{_≡_, refl, sym, ap, subst, _∙_}
 use Prim.Native.Nat.{ℕ, zero, suc, _+_, _*_, _%_, _≤_, _<_}
 use mathlib.Core.Option.{Option, none, some}
@@ -53,7 +53,7 @@ words-former s h = behind s ∙ ap (λ l. l ++ marks s) (sym (former-front s h))
 pub former-length : (s : State) → Sound s → length (formerWords s) ≡ formerLength (s .sizes)
 former-length s h = omega (arith, words-length s h, ap length (words-former s h), length-append (formerWords s) (marks s), marks-length s)
 
--- ---- the words that the last delivery's tell
+-- ---- the words that the former ones tell
 
 -- the sizes, the first five words
 abbrev pub sizesIn : List ℕ → Sizes
@@ -119,7 +119,7 @@ module _ (s : State) (h : Sound s) where
       ∙ ap (λ n. getD (first s ++ ring s) (n + 4 * k) 0) (sym first-length) ∙ getD-append-add (first s) (ring s) (4 * k) 0
       ∙ kind-at _ (place-width (s .sizes .updates) (s .queue)) 0 (s .sizes .updates + 1) k l ∙ ap (λ j. getD (placeWords (s .sizes .updates) (s .queue) j) 0 0) (omega arith)
 
-  -- the last delivery's words are the first of this delivery's
+  -- the former words are the first of this delivery's
   early : (n : ℕ) → n < ringAt (s .sizes) + 4 * (s .sizes .updates + 1) → getD (formerWords s) n 0 ≡ getD (words s) n 0
   early n k = getD-take (formerLength (s .sizes)) (words s) n 0 (omega arith)
 
@@ -134,7 +134,7 @@ module _ (s : State) (h : Sound s) where
       ap (λ z. flatMap (λ k. markedRow (getD (formerWords s) (ringAt z + 4 * k) 0)) (countUp 0 (z .updates + 1))) former-sizes
       ∙ flat-same _ _ 0 (s .sizes .updates + 1) (λ k a b. ap markedRow (early _ (omega arith) ∙ place-at k (omega arith)))
 
-  -- THEOREM: where every queued domain has all marks, the last delivery's words tell all words
+  -- THEOREM: where every queued domain has all marks, the former words tell all words
   pub marked-rebuilt : AllMarked s → words s ≡ rebuilt (formerWords s)
   marked-rebuilt k =
       words-former s h
@@ -148,14 +148,14 @@ mark-all-at (permission k cores m ∷ us) zero = refl
 mark-all-at (cleanup a b ∷ us) zero = refl
 mark-all-at (u ∷ us) (suc j) = mark-all-at us j
 
--- THEOREM: the last delivery's tables of both are the same
+-- THEOREM: the former tables of both are the same
 pub former-same : (s : State) → Sound s → formerWords (withAllMarks s) ≡ formerWords s
 former-same s h =
     let header : headerWords (withAllMarks s) ≡ headerWords s = ap (λ n. s .sizes .domains ∷ s .sizes .slots ∷ s .sizes .regions ∷ s .sizes .records ∷ s .sizes .updates ∷ s .queue .readPlace ∷ ((s .queue .readPlace + n) % (s .sizes .updates + 1)) ∷ []) (length-map (s .queue .items) markAll) in
     let places : ring (withAllMarks s) ≡ ring s = flat-same _ _ 0 (s .sizes .updates + 1) (λ k a b. mark-all-at (s .queue .items) _) in
     former-front (withAllMarks s) (sound-marked s h) ∙ (λ j. inTurn (inTurn (header j) (take 6 (drop 1 (sections s))) ++ places j) (take 2 (drop 8 (sections s)))) ∙ sym (former-front s h)
 
--- THEOREM: words so told are of a state where every queued domain has all marks, and are told by its last delivery's words
+-- THEOREM: words so told are of a state where every queued domain has all marks, and are told by its former words
 pub rebuilt-marked : (s : State) → Sound s → (o : List ℕ) → length o ≡ formerLength (s .sizes) → words s ≡ rebuilt o → (o ≡ formerWords s) × AllMarked s
 rebuilt-marked s h o k e =
     let (f, r) = cut (formerWords s) o (marks s) (markedRows o) (former-length s h ∙ sym k) (sym (words-former s h) ∙ e) in

@@ -1,4 +1,4 @@
--- A state where every queued domain has all five marks (document 02, request 4): what the converter makes of the last delivery's tables, which have no marks.
+-- A state where every queued domain has all five marks (document 02, request 4): what the converter makes of former tables, which have no marks.
 -- All else of the state is as it was, so that it is sound and matches the book as the state does.
 use mathlib.Core.Path.{_≡_, refl, _∙_}
 use Prim.Native.Nat.{ℕ}

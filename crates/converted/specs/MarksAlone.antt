@@ -1,6 +1,6 @@
 -- Marks influence nothing else: from two states that are the same but for the marks of queued domains, any calls give the same answers but for a popped
--- update's marks, and lead to two such states. So the last delivery, which lacked the marks, has the same calls but for the
--- close (document 02, request 5): it refused a revoke of a Management capability, which left its tables, so that its lists are those without such calls.
+-- update's marks, and lead to two such states. So a delivery without marks has the same calls but for the close (document 02,
+-- request 5): it refused a revoke of a Management capability, which left its tables, so that its lists are those without such calls.
 use mathlib.Core.Path.{_≡_, refl, sym, ap, ap₂, subst, _∙_}
 use Prim.Native.Nat.{_+_, _%_}
 use mathlib.Core.Option.{Option, none, some}
@@ -132,6 +132,6 @@ run-marks-alone s t (c ∷ cs) e =
     let (l, b) = run-marks-alone (step s c .1) (step t c .1) cs k in
     (l, ap₂ _∷_ a b)
 
--- THEOREM: the last delivery's tables of two such states are the same
+-- THEOREM: the former tables of two such states are the same
 pub former-alone : (s t : State) → Sound s → Sound t → SameButMarks s t → formerWords s ≡ formerWords t
 former-alone s t h k e = sym (former-same s h) ∙ ap formerWords e ∙ former-same t k

@@ -1,4 +1,4 @@
--- "demand 3's list goes on through them" (document 02, request 2): from the last delivery's making on, through its calls, the converter and any calls since,
+-- "demand 3's list goes on through them" (document 02, request 2): from a making before request 4 on, through calls, the converter and any calls since,
 -- all claims hold of the tables by one book. The converter leaves the book as it is.
 use mathlib.Core.Path.{_≡_, refl, sym, ap, subst, _∙_}
 use Prim.Native.Nat.{ℕ}
@@ -26,16 +26,16 @@ use Rattle.converted.specs.Unique.{convertible-words}
 
 -- ---- what is claimed
 
--- s is made and changed by calls; the last delivery's tables of it are all its words but the marks, since marks are all the words that the last delivery
--- lacked; these words become t₁ by the converter; then calls lead from t₁ to t₂. `run-marks-alone` says why the first calls are the last delivery's: marks
--- influence nothing else. It closed no domain: what it refused for that is not in cs₀.
+-- s is made and changed by calls; the former tables of it are all its words but the marks; these words become t₁ by the converter; then calls lead from t₁
+-- to t₂. `run-marks-alone` says why the first calls are those of a delivery without marks: marks influence nothing else. It closed no domain: what it
+-- refused for that, and left its tables, is not in cs₀.
 abbrev pub Demand3Converted : Type 0
 Demand3Converted = (z : Sizes) (s : State) (cs₀ cs : List Call) (ys : List Answer) (o t v w t₁ v₁ w₁ t₂ : List ℕ)
     → makeTables z ≡ ok s → Each CallWords cs₀ → o ≡ formerWords (run s cs₀ .1)
     → Converted o t v w (Answer.yes Value.done) t₁ v₁ w₁ → Each CallWords cs → Chain t₁ cs ys t₂
     → ClaimsOf (noteAll (noteAll (blank z) cs₀ (run s cs₀ .0)) cs ys) t₂
 
--- o are the last delivery's words of sound tables that the book matches. A chain of converters has to show only that each keeps this.
+-- o are the former words of sound tables that the book matches. A chain of converters has to show only that each keeps this.
 pub record FormerBookOf (b : Book) (o : List ℕ) : Type 0 where
   pub state : State
   pub sound : Sound state

@@ -1,4 +1,4 @@
-// The words of this delivery's tables built from the last delivery's (document 02, request 2), for the converter.
+// The words of this delivery's tables built from former ones, without marks (document 02, request 2), for the converter.
 ghost use mathlib.Core.Path.{_≡_};
 ghost use mathlib.Core.Bool.{true};
 ghost use Rattle.tables.specs.View.{view, Sized, Left};
@@ -9,7 +9,7 @@ use tables::Update;
 // Reach and the four rights.
 const ALL_MARKS: u64 = 31;
 
-// The marks beside an update: all five where a domain is queued, since the last delivery kept none (document 02, request 4).
+// The marks beside an update: all five where a domain is queued, since former tables kept none (document 02, request 4).
 fn marks_beside(u: Update) -> u64
     ensures { λ r. ⌜ r ≡ marksBeside u ⌝ }
 {

@@ -1,5 +1,5 @@
 -- The converter's test is exact: the old words fit, and the words that they tell pass the one test of lent tables, exactly if the old words are the last
--- delivery's words of a sound state. So no test of the last delivery's tables is needed.
+-- delivery's words of a sound state. So no test of former tables is needed.
 use mathlib.Core.Path.{_≡_, refl, sym, ap, subst, _∙_}
 use mathlib.Core.Bool.{Bool, true, false}
 use mathlib.Core.List.{List, [], _∷_, flatMap}

@@ -1,4 +1,4 @@
-// The converter (document 02, request 2): the last delivery's tables become this delivery's.
+// The converter (document 02, request 2): former tables, without marks, become this delivery's.
 ghost use mathlib.Core.Path.{_≡_};
 ghost use mathlib.Core.Bool.{true};
 ghost use Rattle.converted.specs.Former.{rebuilt};
@@ -21,7 +21,7 @@ fn converts(old: &[u64], t: &[u64], v: &mut [u64], w: &mut [u64]) -> bool
     false
 }
 
-// Makes of the last delivery's tables `old` this delivery's in t. Both work areas, as long as t, end all zero.
+// Makes of former tables `old` this delivery's in t. Both work areas, as long as t, end all zero.
 pub fn convert(old: &[u64], t: &mut [u64], v: &mut [u64], w: &mut [u64]) -> Reply
     ensures { λ r. ⌜ Converts (now (old .entry)) (now (t .entry)) (now (v .entry)) (now (w .entry)) r (now (t .exit)) (now (v .exit)) (now (w .exit)) ⌝ }
 {

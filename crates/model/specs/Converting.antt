@@ -1,4 +1,5 @@
--- The converter (document 02, request 2): "older tables carry over that way", from "the last delivery's tables" in separate memory. Its contract cites this.
+-- The converter (document 02, request 2): "older tables carry over that way", from tables in separate memory. Its contract cites this. Former tables are those
+-- from before request 4, which had no marks; no request since has changed a word.
 use mathlib.Core.Path.{_≡_}
 use Prim.Native.Nat.{ℕ, _+_, _-_}
 use mathlib.Core.List.{List}
@@ -12,7 +13,7 @@ use Rattle.model.specs.Perform.{Value, Answer}
 use Rattle.model.specs.Sound.{Sound}
 use Rattle.model.specs.Memory.{zeroed}
 
--- The last delivery's tables had all sections but the last, the marks: its words of a state are the first of this delivery's. The sizes are the stored
+-- Former tables had all sections but the last, the marks: their words of a state are the first of this delivery's. The sizes are the stored
 -- ones, so that this delivery's own tables, U + 1 words longer, give 1.
 abbrev pub formerLength : Sizes → ℕ
 formerLength z = lengthFor z - (z .updates + 1)
@@ -20,7 +21,7 @@ formerLength z = lengthFor z - (z .updates + 1)
 abbrev pub formerWords : State → List ℕ
 formerWords s = take (formerLength (s .sizes)) (words s)
 
--- The last delivery kept no marks, so that any of the five counts may have moved: a queued domain has all five marks (request 4).
+-- They kept no marks, so that any of the five counts may have moved: a queued domain has all five marks (request 4).
 abbrev pub HasAllMarks : Update → Type 0
 HasAllMarks (permission h cores marks) = marks ≡ allMarks
 HasAllMarks (cleanup a b) = Unit {0}
@@ -28,7 +29,7 @@ HasAllMarks (cleanup a b) = Unit {0}
 abbrev pub AllMarked : State → Type 0
 AllMarked s = Each HasAllMarks (s .queue .items)
 
--- o are the last delivery's tables of the sound state s, and the new tables t and both work areas v and w have the length of this delivery's:
+-- o are the former tables of the sound state s, and the new tables t and both work areas v and w have the length of this delivery's:
 -- the new words are built in v and tested with w before t is written.
 pub record Convertible (o t v w : List ℕ) (s : State) : Type 0 where
   pub sound : Sound s

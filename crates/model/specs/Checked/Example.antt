@@ -44,7 +44,7 @@ small = record { domains = 2; slots = 2; regions = 3; records = 3; updates = 1 }
 abbrev opened : State
 opened = run (emptyTables small) (Call.Do (Step.Open none 5) ∷ Call.Do (Step.Root (dom 0) (access 0 16 3)) ∷ Call.Do (Step.Alias (dom 0) 0 (access 4 8 1)) ∷ []) .1
 
--- the sections that the last delivery had
+-- the sections that former tables had
 abbrev firstTen : List ℕ
 firstTen =
     -- 1. header: the ring's read place 0, write place 1
