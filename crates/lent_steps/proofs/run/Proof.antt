@@ -1,14 +1,15 @@
 -- The test; the call on admitted tables; what is kept of it.
 use denote.Ref.{now}
 use Rattle.replies.specs.Replies.{replyOf}
 use Rattle.frame.specs.Finish.{each-word}
-use Rattle.frame.specs.Law.{call-returns, memory-returns, admitted-sized}
-use Rattle.frame.specs.Steps.{ran-step}
+use Rattle.frame.specs.Law.{memory-returns, admitted-sized}
+use Rattle.lent_steps.specs.Law.{call-returns}
+use Rattle.lent_steps.specs.Steps.{ran-step}
 use Rattle.call.specs.Steps.{stepNamed}
 use Rattle.model.specs.Perform.{Call}
 use borrow.Author.Needs.{needs}
-use Rattle.frame.proofs.run.Statement.{statement}
-use Rattle.frame.proofs.run.Tie as tie
+use Rattle.lent_steps.proofs.run.Statement.{statement}
+use Rattle.lent_steps.proofs.run.Tie as tie
 
 begin-requires : tie.Need-begin-requires
 begin-requires c κs = search needs

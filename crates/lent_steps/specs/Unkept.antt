@@ -30,10 +30,11 @@ use Rattle.call.specs.Steps.{stepNamed}
 use Rattle.calls.specs.Steps.{stepOf}
 use Rattle.replies.specs.declared.Reply.{Reply}
 use Rattle.replies.specs.Replies.{replyOf, Returns}
 use Rattle.frame.specs.Finish.{admitted, kept, kept-copy, finished, copy-back}
 use Rattle.replies.specs.ReplyFor.{replyFor}
-use Rattle.frame.specs.Law.{call-returns, admitted-sized, admitted-long}
-use Rattle.frame.specs.Steps.{ran-step}
+use Rattle.frame.specs.Law.{admitted-sized, admitted-long}
+use Rattle.lent_steps.specs.Law.{call-returns}
+use Rattle.lent_steps.specs.Steps.{ran-step}
 
 -- Is the call refused, if at all, before it changes anything?
 abbrev pub checksFirst : model.Step → Bool

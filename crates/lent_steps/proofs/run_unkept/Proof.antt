@@ -2,14 +2,14 @@
 use denote.Ref.{now}
 use mathlib.Core.Path.{sym, _∙_}
 use Rattle.replies.specs.Replies.{replyOf}
 use Rattle.frame.specs.Finish.{each-word, kept-clear}
 use Rattle.frame.specs.Law.{memory-returns, admitted-sized}
-use Rattle.frame.specs.Unkept.{unkept-returns}
+use Rattle.lent_steps.specs.Unkept.{unkept-returns}
 use Rattle.call.specs.Steps.{stepNamed}
 use Rattle.model.specs.Perform.{Call}
 use borrow.Author.Needs.{needs}
-use Rattle.frame.proofs.run_unkept.Statement.{statement}
-use Rattle.frame.proofs.run_unkept.Tie as tie
+use Rattle.lent_steps.proofs.run_unkept.Statement.{statement}
+use Rattle.lent_steps.proofs.run_unkept.Tie as tie
 
 admits-requires : tie.Need-admits-requires
 admits-requires c κs = search needs
