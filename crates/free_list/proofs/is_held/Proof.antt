@@ -1,11 +1,11 @@
 -- Each test is what its definition says.
 use Prim.Native.Nat.{_-_}
 use Rattle.arena.specs.Arena.{heldB}
 use Rattle.arena.specs.Words.{links-many}
 use Rattle.tables.specs.View.{arenaOf}
 use borrow.Author.Needs.{needs}
-use Rattle.arena.proofs.is_held.Statement.{statement}
-use Rattle.arena.proofs.is_held.Tie as tie
+use Rattle.free_list.proofs.is_held.Statement.{statement}
+use Rattle.free_list.proofs.is_held.Tie as tie
 
 size-requires : tie.Need-size-requires
 size-requires c κs = search needs

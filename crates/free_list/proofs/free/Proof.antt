@@ -1,12 +1,12 @@
 -- The words that are read and stored are the definition's; a slot in use bounds the head and the count.
 use Prim.Native.Nat.{_-_}
-use Rattle.arena.specs.Steps.{held-facts, free-done, free-spent, free-not}
+use Rattle.free_list.specs.Steps.{held-facts, free-done, free-spent, free-not}
 use Rattle.arena.specs.Words.{links-many}
 use Rattle.tables.specs.View.{arenaOf}
 use borrow.Author.Needs.{needs}
 use native.Mathlib.Omega.{arith}
-use Rattle.arena.proofs.free.Statement.{statement}
-use Rattle.arena.proofs.free.Tie as tie
+use Rattle.free_list.proofs.free.Statement.{statement}
+use Rattle.free_list.proofs.free.Tie as tie
 
 is-held-requires : tie.Need-is-held-requires
 is-held-requires c κs = search needs

@@ -1,11 +1,11 @@
 -- The link at the head, where the count leaves room.
 use Prim.Native.Nat.{_-_}
-use Rattle.arena.specs.Steps.{head-link-is, no-head-link}
+use Rattle.free_list.specs.Steps.{head-link-is, no-head-link}
 use Rattle.arena.specs.Words.{links-many}
 use Rattle.tables.specs.View.{arenaOf}
 use borrow.Author.Needs.{needs}
-use Rattle.arena.proofs.head_link.Statement.{statement}
-use Rattle.arena.proofs.head_link.Tie as tie
+use Rattle.free_list.proofs.head_link.Statement.{statement}
+use Rattle.free_list.proofs.head_link.Tie as tie
 
 size-requires : tie.Need-size-requires
 size-requires c κs = search needs

@@ -1,16 +1,16 @@
 -- The first i slots are as `FreeList::new` has them.
 use Prim.Native.Nat.{_+_, _-_, _≤_}
 use Rattle.arena.specs.Arena.{freshLink}
-use Rattle.arena.specs.Fresh.{Filled, filled-none, filled-more, filled-all}
+use Rattle.free_list.specs.Fresh.{Filled, filled-none, filled-more, filled-all}
 use Rattle.arena.specs.Words.{links-many, gens-many}
 use Rattle.tables.specs.View.{arenaOf}
 use Rattle.sizes.specs.Sizes.{poolWidth}
 use lib.ListN.{length}
 use mathlib.Core.Path.{_≡_, sym, _∙_}
 use native.Mathlib.Nat.{mod-lt}
 use native.Mathlib.Omega.{arith}
-use Rattle.arena.proofs.fresh.Statement.{statement}
-use Rattle.arena.proofs.fresh.Tie as tie
+use Rattle.free_list.proofs.fresh.Statement.{statement}
+use Rattle.free_list.proofs.fresh.Tie as tie
 
 abbrev Inv-loop : tie.InvT-loop
 Inv-loop p₀ n i₀ p i = (i ≤ n) × (length p ≡ poolWidth n) × Filled n i (arenaOf n p)

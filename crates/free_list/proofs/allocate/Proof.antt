@@ -1,12 +1,12 @@
 -- The words that are read and stored are the definition's; a link at the head leaves room in the count.
 use Prim.Native.Nat.{_-_}
-use Rattle.arena.specs.Steps.{count-room, allocate-some, allocate-none}
+use Rattle.free_list.specs.Steps.{count-room, allocate-some, allocate-none}
 use Rattle.arena.specs.Words.{links-many}
 use Rattle.tables.specs.View.{arenaOf}
 use borrow.Author.Needs.{needs}
 use native.Mathlib.Omega.{arith}
-use Rattle.arena.proofs.allocate.Statement.{statement}
-use Rattle.arena.proofs.allocate.Tie as tie
+use Rattle.free_list.proofs.allocate.Statement.{statement}
+use Rattle.free_list.proofs.allocate.Tie as tie
 
 head-link-requires : tie.Need-head-link-requires
 head-link-requires c κs = search needs
