@@ -8,10 +8,10 @@ ghost use Rattle.region.specs.Turns.{walked, addRegion, removeRegion};
 use answers::Answer;
 use refusals::Refusal;
 use region::AccessRights;
-use region::Cursor;
-use region::Progress;
 use region::Way;
 use tracker_records::links;
+use walk_cursors::Cursor;
+use walk_cursors::Progress;
 
 // A walk from the first record on. The bound on its turns is met only where links go round.
 fn walk(t: &mut [u64], d: usize, way: Way, a: AccessRights, marks: u64) -> Answer
