@@ -1,9 +1,10 @@
 -- The search first. Where a place other than the write place is found it lies in the array, and marks are gathered there; else the domain is pushed.
 use mathlib.Core.Path.{sym, _∙_}
-use Rattle.ring.specs.Ring.{inside, queueOf}
+use Rattle.ring.specs.Ring.{inside}
+use Rattle.ring_search.specs.Queueing.{queueOf}
 use borrow.Author.Needs.{needs}
-use Rattle.ring.proofs.queued.Statement.{statement}
-use Rattle.ring.proofs.queued.Tie as tie
+use Rattle.ring_search.proofs.queued.Statement.{statement}
+use Rattle.ring_search.proofs.queued.Tie as tie
 
 place-of-requires : tie.Need-place-of-requires
 place-of-requires c κs = search needs

@@ -1,8 +1,8 @@
 -- Both tests of the handle.
-use Rattle.ring.specs.Ring.{namesOf}
+use Rattle.ring_search.specs.Queueing.{namesOf}
 use borrow.Author.Needs.{needs}
-use Rattle.ring.proofs.names.Statement.{statement}
-use Rattle.ring.proofs.names.Tie as tie
+use Rattle.ring_search.proofs.names.Statement.{statement}
+use Rattle.ring_search.proofs.names.Tie as tie
 
 both-requires : tie.Need-both-requires
 both-requires c κs = search needs

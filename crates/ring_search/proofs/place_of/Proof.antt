@@ -4,9 +4,10 @@ use mathlib.Core.Path.{_≡_, refl, sym, _∙_}
 use native.Mathlib.Omega.{arith}
 use borrow.Author.Needs.{needs}
 use borrow.Author.Tests.{eq-eqb, ne-eqb, lt-ltb, le-ltb}
-use Rattle.ring.specs.Ring.{cap, placeOf, placeFrom, place-step, place-none}
-use Rattle.ring.proofs.place_of.Statement.{statement}
-use Rattle.ring.proofs.place_of.Tie as tie
+use Rattle.ring.specs.Ring.{cap}
+use Rattle.ring_search.specs.Queueing.{placeOf, placeFrom, place-step, place-none}
+use Rattle.ring_search.proofs.place_of.Statement.{statement}
+use Rattle.ring_search.proofs.place_of.Tie as tie
 
 abbrev Inv-loop : tie.InvT-loop
 Inv-loop slot generation ring write size i₀ n₀ i n =

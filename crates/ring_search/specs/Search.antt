@@ -12,11 +12,12 @@ use lib.ListN.{length, getD, set}
 use Rattle.base.specs.Cases.{pick, test, holds, fails}
 use Rattle.base.specs.Tests.{true-false}
 use Rattle.base.specs.Rounds.{along-at}
 use Rattle.ring.specs.declared.Entry.{Entry}
 use Rattle.ring.specs.declared.Ring.{Ring}
-use Rattle.ring.specs.Ring.{cap, noEntry, afterOf, permissionOf, namesOf, placeFrom, placeOf, gathered, foundB, pushOf, queueOf}
+use Rattle.ring.specs.Ring.{cap, noEntry, afterOf, permissionOf, pushOf}
+use Rattle.ring_search.specs.Queueing.{namesOf, placeFrom, placeOf, gathered, foundB, queueOf}
 use Rattle.ring.specs.Turns.{after-is, away, turn-none}
 use Rattle.ring.specs.Queue.{Queues, set-queues}
 
 -- whether a permission update of the domain is among the entries
 abbrev pub anyNames : ℕ → ℕ → List Entry → Bool
