@@ -1,11 +1,11 @@
 -- One law for each pair of kinds.
-use Rattle.slots.specs.Capas.{isInvalidB}
-use Rattle.slots.specs.Steps.{by-region, by-domain, by-other}
+use Rattle.slot_sweep.specs.Sweep.{isInvalidB}
+use Rattle.slot_sweep.specs.Steps.{by-region, by-domain, by-other}
 use borrow.Author.Needs.{needs}
 use mathlib.Core.Path.{_≡_}
 use native.Mathlib.Omega.{arith}
-use Rattle.slots.proofs.sweep.is_invalid.Statement.{statement}
-use Rattle.slots.proofs.sweep.is_invalid.Tie as tie
+use Rattle.slot_sweep.proofs.is_invalid.Statement.{statement}
+use Rattle.slot_sweep.proofs.is_invalid.Tie as tie
 
 region-is-live-requires : tie.Need-region-is-live-requires
 region-is-live-requires c κs = search needs

@@ -2,9 +2,8 @@
 use Rattle.sizes.specs.Limits.{mostSlots}
 use Prim.Native.Nat.{_-_, _≤_}
 use Rattle.slot_list.specs.Arrays.{length-mapped}
-use Rattle.slots.specs.Capas.{isInvalidB}
-use Rattle.slots.specs.Sweep.{sweepSlot, sweepFrom, sweep}
-use Rattle.slots.specs.Steps.{sweep-turn, sweep-end, sweep-freed, sweep-left}
+use Rattle.slot_sweep.specs.Sweep.{isInvalidB, sweepSlot, sweepFrom, sweep}
+use Rattle.slot_sweep.specs.Steps.{sweep-turn, sweep-end, sweep-freed, sweep-left}
 use Rattle.slot_list.specs.declared.SlotList.{SlotList}
 use Rattle.tables.specs.View.{view}
 use borrow.Author.Needs.{needs}
@@ -12,8 +11,8 @@ use lib.ListN.{length}
 use mathlib.Core.Logic.{⊎-elim}
 use mathlib.Core.Path.{_≡_, refl, sym, _∙_}
 use native.Mathlib.Omega.{arith}
-use Rattle.slots.proofs.sweep.free_invalid_capas.Statement.{statement}
-use Rattle.slots.proofs.sweep.free_invalid_capas.Tie as tie
+use Rattle.slot_sweep.proofs.free_invalid_capas.Statement.{statement}
+use Rattle.slot_sweep.proofs.free_invalid_capas.Tie as tie
 
 abbrev Inv-loop : tie.InvT-loop
 Inv-loop t size slots₀ head₀ count₀ i₀ slots head count i = (i ≤ mostSlots) × (sweepFrom (isInvalidB (view t)) (mostSlots - i) i (record { slots = slots; head = head; count = count; size = size }) ≡ sweepFrom (isInvalidB (view t)) mostSlots 0 (record { slots = slots₀; head = head₀; count = count₀; size = size }))

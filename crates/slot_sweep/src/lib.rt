@@ -1,7 +1,7 @@
-// **Sweep** (document 01): slots that hold None or a dead handle are freed in rising order.
+// **Sweep** (domain.rs; document 01) of a domain's slot list: slots that hold None or a dead handle are freed in rising order.
 ghost use mathlib.Core.Path.{_≡_};
 ghost use Rattle.tables.specs.View.{view, Sized};
-ghost use Rattle.slots.specs.Capas.{isInvalidB, swept};
+ghost use Rattle.slot_sweep.specs.Sweep.{isInvalidB, swept};
 use sizes::MOST_SLOTS;
 use slot_list::SlotList;
 use tables::Slot;
