@@ -1,9 +1,9 @@
 -- Each test leaves the answer to those behind it, and the work area as it was.
 use mathlib.Core.Path.{refl, _∙_}
-use Rattle.sound.specs.Turns.{goes-on, ends, area-same}
+use Rattle.sound_outside.specs.Turns.{goes-on, ends, area-same}
 use borrow.Author.Needs.{needs}
-use Rattle.sound.proofs.outside_holds.Statement.{statement}
-use Rattle.sound.proofs.outside_holds.Tie as tie
+use Rattle.sound_outside.proofs.outside_holds.Statement.{statement}
+use Rattle.sound_outside.proofs.outside_holds.Tie as tie
 
 outside-pools-hold-requires : tie.Need-outside-pools-hold-requires
 outside-pools-hold-requires c κs = search needs
