@@ -1,5 +1,5 @@
 // The tracker of a domain (`RegionTracker`; document 01, **Tracker**): a range gained or lost by walks over records.
-// A walk's types and definitions, and what a turn does to one record, are crate `region`'s.
+// Where a walk is, is crate `walk_cursors`'; its definitions, and what a turn does to one record, are crate `region`'s.
 pub mod turns;
 
 ghost use mathlib.Core.Path.{_≡_};
