@@ -1,4 +1,2 @@
 pub mod Arena
 pub mod Words
-pub mod Steps
-pub mod Fresh

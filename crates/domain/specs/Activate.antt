@@ -6,7 +6,8 @@ use lib.ListN.{getD}
 use Rattle.base.specs.Cases.{pick}
 use Rattle.tables.specs.declared.Slot.{Slot}
 use Rattle.tables.specs.Tables.{Tables, headAt}
-use Rattle.ring.specs.Ring.{queueOf, pushOf, cleanupOf}
+use Rattle.ring.specs.Ring.{pushOf, cleanupOf}
+use Rattle.ring_search.specs.Queueing.{queueOf}
 use Rattle.update.specs.Stored.{ringOf, withRingOf}
 use Rattle.region.specs.declared.AccessRights.{AccessRights}
 use Rattle.region.specs.Turns.{addRegion, removeRegion}

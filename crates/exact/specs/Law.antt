@@ -41,7 +41,8 @@ use Rattle.exact_capas.specs.Full as capas
 use Rattle.exact_queue.specs.Words.{ring-stored}
 use Rattle.exact_queue.specs.Queue as queue
 use Rattle.exact_trackers.specs.Law.{trackers-exact}
-use Rattle.sound.specs.Test.{outsideHolds, trackedHolds, groupsHold, isSound}
+use Rattle.sound_outside.specs.Test.{outsideHolds}
+use Rattle.sound.specs.Test.{trackedHolds, groupsHold, isSound}
 use Rattle.exact.specs.Gens.{domain-gens, region-gens, record-gens, interface-words}
 
 -- ---- the three groups of the test

@@ -19,7 +19,8 @@ use Rattle.decoded.specs.Canonical.WellFormed.{OutsideWellFormed, TrackersWellF
 use Rattle.decoded.specs.Canonical.Pools.{table-used, table-in}
 use Rattle.list_links.specs.declared.Stack.the-variants.{Domains, Regions, Records, Trackers}
 use Rattle.list_links.specs.Stacks.{mayMeet, stackHolds}
-use Rattle.sound_pools.specs.Hold.{domainHolds, rowsHold, trackersHold, poolHolds, outsidePoolsHold, recordPoolHolds}
+use Rattle.sound_pools.specs.Hold.{trackersHold, poolHolds, outsidePoolsHold, recordPoolHolds}
+use Rattle.sound_rows.specs.Hold.{domainHolds, rowsHold}
 use Rattle.exact_pools.specs.Clauses.{PoolsClauses, RecordClauses}
 use Rattle.exact_pools.specs.Pools.{PoolGood, pool-good, good-pool, good-well-formed, good-marked, good-beyond, good-used, good-free, good-once, once-good, marked-good, list-once, once-list}
 use Rattle.exact_pools.specs.Rows.{region-zero, zero-region, record-zero, zero-record}

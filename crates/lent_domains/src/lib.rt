@@ -28,7 +28,7 @@ fn opened(t: &[u64], r: Reply) -> DomainReply
 pub fn open_domain(t: &mut [u64], w: &mut [u64], cores: u64) -> DomainReply
     ensures { λ r. ⌜ Returns domainReplyOf (now (t .entry)) (now (w .entry)) (Call.Do (Step.Open none cores)) r (now (t .exit)) (now (w .exit)) ⌝ }
 {
-    let r = frame::run(t, w, domain_arguments::open(cores));
+    let r = lent_steps::run(t, w, domain_arguments::open(cores));
     opened(t, r)
 }
 
@@ -42,7 +42,7 @@ pub fn open_under(
 ) -> DomainReply
     ensures { λ r. ⌜ Returns domainReplyOf (now (t .entry)) (now (w .entry)) (Call.Do (Step.Open (some (handle manager generation)) cores)) r (now (t .exit)) (now (w .exit)) ⌝ }
 {
-    let r = frame::run(
+    let r = lent_steps::run(
         t,
         w,
         domain_arguments::open_under(manager, generation, cores),

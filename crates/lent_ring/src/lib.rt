@@ -1,6 +1,7 @@
 // The ring lent (document 01, "The update ring is handed to the steps and changed there").
 ghost use mathlib.Core.Path.{_≡_};
-ghost use Rattle.ring.specs.Ring.{pushOf, popOf, queueOf};
+ghost use Rattle.ring.specs.Ring.{pushOf, popOf};
+ghost use Rattle.ring_search.specs.Queueing.{queueOf};
 use ring::Entry;
 use ring::Item;
 use ring::PopOut;
@@ -8,7 +9,7 @@ use ring::PushOut;
 use ring::Ring;
 use ring::popped;
 use ring::pushed;
-use ring::queued;
+use ring_search::queued;
 
 pub fn push(ring: &mut Ring, e: Entry) -> bool
     ensures { λ r. ⌜ (r ≡ pushOf (now (ring .entry)) e .ok) × (now (ring .exit) ≡ pushOf (now (ring .entry)) e .ring) ⌝ }

@@ -73,7 +73,7 @@ pub fn allocate_in(t: &mut [u64], q: Pool) -> Given
     let s = span_of(t, q);
     let a = s.start;
     let e = s.end;
-    arena::allocate(&mut t[a..e], s.slots)
+    free_list::allocate(&mut t[a..e], s.slots)
 }
 
 fn push_in(t: &mut [u64], q: Pool, i: usize) -> Freed
@@ -84,7 +84,7 @@ fn push_in(t: &mut [u64], q: Pool, i: usize) -> Freed
     let s = span_of(t, q);
     let a = s.start;
     let e = s.end;
-    arena::free(&mut t[a..e], s.slots, i)
+    free_list::free(&mut t[a..e], s.slots, i)
 }
 
 // A region's record and its hash (document 02, request 1: a slot that is given again has none).
@@ -139,7 +139,7 @@ pub fn fresh_in(t: &mut [u64], q: Pool)
     let s = span_of(t, q);
     let a = s.start;
     let e = s.end;
-    arena::fresh(&mut t[a..e], s.slots);
+    free_list::fresh(&mut t[a..e], s.slots);
 }
 
 pub fn is_live_in(t: &[u64], q: Pool, h: Handle) -> bool

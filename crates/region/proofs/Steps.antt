@@ -11,12 +11,13 @@ use Rattle.answers.specs.declared.Answer.the-variants.{Done, Refused}
 use Rattle.refusals.specs.declared.Refusal.{Refusal}
 use Rattle.answers.specs.Answers.{Effect}
 use Rattle.region.specs.declared.AccessRights.{AccessRights}
-use Rattle.region.specs.declared.Cursor.{Cursor}
-use Rattle.region.specs.declared.Progress.the-variants.{Going, Over}
+use Rattle.walk_cursors.specs.declared.Cursor.{Cursor}
+use Rattle.walk_cursors.specs.declared.Progress.the-variants.{Going, Over}
 use Rattle.counts.specs.Counts.{lowered, crossingsOf}
 use Rattle.tables.specs.Links.{slotTo}
 use Rattle.tracker_records.specs.Links.{withNext, freedRecord}
-use Rattle.region.specs.Turns.{onward, nextOf, droppedOf, lowerTurn}
+use Rattle.walk_cursors.specs.Cursors.{nextOf, droppedOf}
+use Rattle.region.specs.Turns.{onward, lowerTurn}
 
 -- a step that is done goes onward with its value; one that is refused ends the walk
 module _ (x : Effect) (f : ℕ → Cursor) (r : Answer) (u : List ℕ) (h : (r ≡ x .answer) × Left u (x .tables)) where

@@ -1,6 +1,5 @@
 -- One turn of a walk over a domain's records (document 01, **Tracker**). Each turn changes one record, or goes on to the next.
 use Prim.Native.Nat.{ℕ, zero, suc, _+_, _*_}
-use lib.Bits.{bitOr}
 use lib.Dec.{eqb, ltb, leb}
 use Rattle.base.specs.Cases.{pick}
 use Rattle.tables.specs.declared.Region.{Region}
@@ -10,11 +9,12 @@ use Rattle.answers.specs.declared.Answer.the-variants.{Done, Refused}
 use Rattle.refusals.specs.Refusals.{memory}
 use Rattle.answers.specs.Answers.{Effect, refused, andThen}
 use Rattle.region.specs.declared.AccessRights.{AccessRights}
-use Rattle.region.specs.declared.Cursor.{Cursor}
-use Rattle.region.specs.declared.Progress.{Progress}
-use Rattle.region.specs.declared.Progress.the-variants.{Going, Over}
+use Rattle.walk_cursors.specs.declared.Cursor.{Cursor}
+use Rattle.walk_cursors.specs.declared.Progress.{Progress}
+use Rattle.walk_cursors.specs.declared.Progress.the-variants.{Going, Over}
 use Rattle.region.specs.declared.Way.{Way}
 use Rattle.region.specs.declared.Way.the-variants.{Add, Remove, Merge}
+use Rattle.walk_cursors.specs.Cursors.{noted, nextOf, droppedOf}
 use Rattle.counts.specs.Counts.{made, raised, lowered, crossingsOf, mergeableB}
 use Rattle.tables.specs.Links.{slotTo}
 use Rattle.tracker_records.specs.Links.{withEnd, withNext, firstLink, inserted, split, freedRecord}
@@ -37,20 +37,6 @@ onward x f = record { answer = afterStep (x .answer) f; tables = x .tables }
 
 abbrev pub over : Cursor → Tables → Turn
 over c s = to (Over (Done (c .marks))) s
-
--- ---- cursors
-
--- further marks
-abbrev pub noted : Cursor → ℕ → ℕ
-noted c m = bitOr (c .marks) m
-
--- on to the record behind the one at hand, with the range done up to `start`
-abbrev pub nextOf : Cursor → ℕ → ℕ → ℕ → Cursor
-nextOf c k start m = record { prev = c .at; at = k; start = start; marks = noted c m }
-
--- the record at hand is gone
-abbrev pub droppedOf : Cursor → ℕ → ℕ → Cursor
-droppedOf c k m = record { prev = c .prev; at = k; start = c .start; marks = noted c m }
 
 -- ---- the turns; q is the record at hand
 

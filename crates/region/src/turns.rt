@@ -1,26 +1,13 @@
 // What a turn of a walk does to the record at hand, or before it: a step changes one record, or goes on to the next.
 ghost use mathlib.Core.Path.{_≡_};
 ghost use Rattle.tables.specs.View.{view, Sized, Left};
-ghost use Rattle.region.specs.declared.Progress.the-variants.{Going};
-ghost use Rattle.region.specs.Turns.{nextOf, droppedOf, fillTurn, cutStart, cutEnd, raiseTurn, lowerTurn, mergeAt};
+ghost use Rattle.region.specs.Turns.{fillTurn, cutStart, cutEnd, raiseTurn, lowerTurn, mergeAt};
 use crate::AccessRights;
-use crate::Cursor;
-use crate::Progress;
 use answers::Answer;
 use tables::Region;
 use tracker_records::links;
-
-// On to the record behind the one at hand, with the range done up to `start`.
-pub fn going(c: Cursor, next: u64, start: u64, marks: u64) -> Progress
-    ensures { λ r. ⌜ r ≡ Going (nextOf c next start marks) ⌝ }
-{
-    Progress::Going(Cursor {
-        prev: c.at,
-        at: next,
-        start,
-        marks: c.marks | marks,
-    })
-}
+use walk_cursors::Cursor;
+use walk_cursors::Progress;
 
 // A gap before the record at hand becomes a record up to `end`, whose counts were 0.
 pub fn fill(t: &mut [u64], d: usize, a: AccessRights, c: Cursor, end: u64) -> Progress
@@ -77,7 +64,7 @@ pub fn raise(t: &mut [u64], a: AccessRights, c: Cursor, q: Region) -> Progress
 {
     let p = counts::increase(q, a.ops);
     record_rows::store_record(t, tables::slot_to(c.at), p);
-    going(c, q.next, q.end, counts::crossings(q, p))
+    walk_cursors::going(c, q.next, q.end, counts::crossings(q, p))
 }
 
 // It loses, and at reach 0 it is dropped at once.
@@ -90,25 +77,17 @@ pub fn lower(t: &mut [u64], d: usize, a: AccessRights, c: Cursor, q: Region) -> 
     let i = tables::slot_to(c.at);
     if p.ref_count != 0 {
         record_rows::store_record(t, i, p);
-        return going(c, q.next, c.start, counts::crossings(q, p));
+        return walk_cursors::going(c, q.next, c.start, counts::crossings(q, p));
     }
     links::set_next(t, d, c.prev, q.next);
     match links::free(t, i) {
-        Answer::Done(v) => dropped(c, q.next, counts::crossings(q, tables::no_record())),
+        Answer::Done(v) => walk_cursors::dropped(
+            c,
+            q.next,
+            counts::crossings(q, tables::no_record()),
+        ),
         Answer::Refused(r) => Progress::Over(Answer::Refused(r)),
     }
-}
-
-// The record at hand is gone.
-fn dropped(c: Cursor, next: u64, marks: u64) -> Progress
-    ensures { λ r. ⌜ r ≡ Going (droppedOf c next marks) ⌝ }
-{
-    Progress::Going(Cursor {
-        prev: c.prev,
-        at: next,
-        start: c.start,
-        marks: c.marks | marks,
-    })
 }
 
 // `coalesce`: record q at hand takes in record n behind it, which is freed; else n is at hand.
@@ -118,7 +97,7 @@ pub fn merge_at(t: &mut [u64], c: Cursor, q: Region, n: Region) -> Progress
     ensures { λ _. ⌜ Left (now (t .exit)) (mergeAt (view (now (t .entry))) c q n .tables) ⌝ }
 {
     if !counts::mergeable(q, n) {
-        return going(c, q.next, c.start, 0);
+        return walk_cursors::going(c, q.next, c.start, 0);
     }
     record_rows::store_record(t, tables::slot_to(c.at), links::bounded(q, n.end, n.next));
     match links::free(t, tables::slot_to(q.next)) {

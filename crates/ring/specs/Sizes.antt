@@ -8,9 +8,9 @@ use Rattle.ring.specs.declared.Entry.{Entry}
 use Rattle.ring.specs.declared.Ring.{Ring}
 use Rattle.ring.specs.declared.PushOut.{PushOut}
 use Rattle.ring.specs.declared.PopOut.{PopOut}
-use Rattle.ring.specs.Ring.{noEntry, roomB, putIn, pushOf, permissionOf, placeOf, gatherIn, foundB, queueOf, someB, takeOut, popOf}
+use Rattle.ring.specs.Ring.{noEntry, roomB, putIn, pushOf, someB, takeOut, popOf}
 
-size-picked : {A : Type 0} (g : A → Ring) (b : Bool) (x y : A) (n : ℕ) → g x .size ≡ n → g y .size ≡ n → g (pick b x y) .size ≡ n
+pub size-picked : {A : Type 0} (g : A → Ring) (b : Bool) (x y : A) (n : ℕ) → g x .size ≡ n → g y .size ≡ n → g (pick b x y) .size ≡ n
 size-picked g true x y n e f = e
 size-picked g false x y n e f = f
 
@@ -20,12 +20,6 @@ left o = o .ring
 pub push-size : (r : Ring) (u : Entry) → pushOf r u .ring .size ≡ r .size
 unfolding pushOf
 push-size r u = size-picked left (roomB r) (record { ok = true; ring = putIn r u }) (record { ok = false; ring = r }) (r .size) refl refl
-
-pub queue-size : (r : Ring) (d g c m : ℕ) → queueOf r d g c m .ring .size ≡ r .size
-unfolding queueOf
-queue-size r d g c m =
-    let i = placeOf r d g in
-    size-picked left (foundB r i) (record { ok = true; ring = gatherIn r i m }) (pushOf r (permissionOf d g c m)) (r .size) refl (push-size r (permissionOf d g c m))
 
 pub pop-size : (r : Ring) → popOf r .ring .size ≡ r .size
 unfolding popOf

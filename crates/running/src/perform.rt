@@ -10,5 +10,5 @@ pub fn run(t: &mut [u64], w: &mut [u64], r: Record) -> Reply
     requires { ⌜ Given r ⌝ }
     ensures { λ x. ⌜ Returns replyOf (now (t .entry)) (now (w .entry)) (callIn r) x (now (t .exit)) (now (w .exit)) ⌝ }
 {
-    frame::run(t, w, naming::call_of(r))
+    lent_steps::run(t, w, naming::call_of(r))
 }

@@ -1,31 +1,17 @@
 -- The capabilities of domain d: what the calls on its list answer and leave.
-use mathlib.Core.Bool.{Bool, true, false, not}
-use mathlib.Core.List.{[], _∷_}
+use mathlib.Core.Bool.{Bool}
 use Prim.Native.Nat.{ℕ}
 use lib.Dec.{ltb}
 use lib.ListN.{getD}
 use Rattle.base.specs.Cases.{pick}
 use Rattle.tables.specs.declared.Slot.{Slot}
 use Rattle.tables.specs.Tables.{Tables}
-use Rattle.arena.specs.Arena.{liveB}
 use Rattle.slot_list.specs.declared.SlotList.{SlotList}
 use Rattle.slot_list.specs.declared.Inserted.{Inserted}
 use Rattle.slot_list.specs.declared.Inserted.the-variants.{At, Full}
 use Rattle.slot_list.specs.Lists.{freeSlot, putIn, emptySlot, giveSlot, takeSlot}
-use Rattle.slots.specs.Sweep.{sweep}
+use Rattle.slot_sweep.specs.Sweep.{swept}
 use Rattle.stored_slots.specs.Record.{domainOr, listAt, withList}
-
--- by the kinds 0 to 5: None; free; Region and RegionRevoke; Management and Channel
-abbrev pub byKind : Bool → Bool → ℕ → Bool
-byKind region domain k = getD (true ∷ false ∷ region ∷ region ∷ domain ∷ domain ∷ []) k false
-
--- None or a dead handle (the model's isInvalid)
-unfoldable pub isInvalidB : Tables → Slot → Bool
-isInvalidB s x = byKind (not (liveB (s .regionPool) (x .handle))) (not (liveB (s .domainPool) (x .handle))) (x .kind)
-
--- **Sweep** (the model's freeInvalidCapas)
-abbrev pub swept : Tables → SlotList → SlotList
-swept s l = sweep (isInvalidB s) l
 
 -- the list of domain d has a free slot
 unfoldable pub roomB : Tables → ℕ → Bool

@@ -1,14 +1,12 @@
 -- The steps of the functions: what the values that they read make of their tests and their answers.
 use mathlib.Core.Path.{_≡_, refl, sym, ap, _∙_}
 use mathlib.Core.Bool.{Bool, true, false}
-use mathlib.Core.List.{List, [], _∷_}
-use Prim.Native.Nat.{ℕ, suc, _+_, _-_, _≤_, _<_}
-use native.Mathlib.Numerals.{add-one}
+use mathlib.Core.List.{List}
+use Prim.Native.Nat.{ℕ, _-_}
 use native.Mathlib.Omega.{arith}
 use borrow.Author.Tests.{lt-ltb, le-ltb, ltb-true}
 use lib.Dec.{ltb}
 use lib.ListN.{getD, List·getD-eq-default}
-use Rattle.sizes.specs.Limits.{mostSlots}
 use Rattle.base.specs.Cases.{cmp, lt, ge}
 use Rattle.base.specs.Tests.{both, both-true}
 use Rattle.base.specs.Lists.{getD-any}
@@ -19,43 +17,11 @@ use Rattle.tables.specs.View.{view, Sized, Left}
 use Rattle.slot_list.specs.declared.SlotList.{SlotList}
 use Rattle.slot_list.specs.declared.Given.{Given}
 use Rattle.slot_list.specs.declared.Inserted.the-variants.{At, Full}
-use Rattle.slot_list.specs.Lists.{freeSlot, putIn, giveSlot, freed}
-use Rattle.slots.specs.Sweep.{sweepSlot, sweepFrom}
+use Rattle.slot_list.specs.Lists.{freeSlot, putIn, giveSlot}
+use Rattle.slot_sweep.specs.Sweep.{swept}
 use Rattle.stored_slots.specs.Record.{domainOr, listOf, listAt, withList}
 use Rattle.stored_slots.specs.Rows.{domain-slots, no-domain}
-use Rattle.slots.specs.Capas.{byKind, roomB, swept, withCapacity, withCapa, capaAt}
-
--- ---- a turn of the sweep
-
-module _ (bad : Slot → Bool) (l : SlotList) (i : ℕ) where
-  pub sweep-turn : (m : SlotList) → i < mostSlots → m ≡ sweepSlot bad l i → sweepFrom bad (mostSlots - (i + 1)) (i + 1) m ≡ sweepFrom bad (mostSlots - i) i l
-  unfolding sweepFrom
-  sweep-turn m h e = let n : mostSlots - i ≡ suc (mostSlots - suc i) = omega arith in rw (n, add-one, e)
-
-  pub sweep-end : mostSlots ≤ i → sweepFrom bad (mostSlots - i) i l ≡ l
-  unfolding sweepFrom
-  sweep-end h = let n : mostSlots - i ≡ 0 = omega arith in rw n
-
-  module _ (b c : Bool) (x : Slot) (ex : x ≡ getD (l .slots) i noSlot) (ec : c ≡ bad x) (eb : b ≡ both (ltb i (l .size)) c) where
-    pub sweep-freed : b ≡ true → freed l i ≡ sweepSlot bad l i
-    unfolding sweepSlot
-    sweep-freed h = rw (← ex, ← ec, ← eb, h)
-
-    pub sweep-left : b ≡ false → l ≡ sweepSlot bad l i
-    unfolding sweepSlot
-    sweep-left h = rw (← ex, ← ec, ← eb, h)
-
--- ---- the kinds
-
-module _ (region domain : Bool) (k : ℕ) where
-  pub by-region : 2 ≤ k → k ≤ 3 → region ≡ byKind region domain k
-  by-region lo hi = elim (cmp k 3) [ lt h ↦ let e : k ≡ 2 = omega arith in rw e | ge h ↦ let e : k ≡ 3 = omega arith in rw e ]
-
-  pub by-domain : 4 ≤ k → k ≤ 5 → domain ≡ byKind region domain k
-  by-domain lo hi = elim (cmp k 5) [ lt h ↦ let e : k ≡ 4 = omega arith in rw e | ge h ↦ let e : k ≡ 5 = omega arith in rw e ]
-
-  pub by-other : 5 < k → false ≡ byKind region domain k
-  by-other h = sym (List·getD-eq-default (true ∷ false ∷ region ∷ region ∷ domain ∷ domain ∷ []) false {n = k} (omega arith))
+use Rattle.slots.specs.Capas.{roomB, withCapacity, withCapa, capaAt}
 
 -- ---- a domain of the tables; its sizes are read from the words
 

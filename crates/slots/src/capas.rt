@@ -4,7 +4,6 @@ ghost use Rattle.tables.specs.View.{view, Sized, Left};
 ghost use Rattle.slot_list.specs.Lists.{giveSlot};
 ghost use Rattle.stored_slots.specs.Record.{listAt};
 ghost use Rattle.slots.specs.Capas.{roomB, withCapacity, withCapa, withoutCapa, withEmpty, capaAt};
-use crate::sweep;
 use slot_list::Inserted;
 use tables::Slot;
 
@@ -27,7 +26,7 @@ pub fn has_capacity_for(t: &mut [u64], d: usize) -> bool
     if has_room(t, d) {
         return true;
     }
-    let list = sweep::free_invalid_capas(t, stored_slots::load_list(t, d));
+    let list = slot_sweep::free_invalid_capas(t, stored_slots::load_list(t, d));
     stored_slots::store_list(t, d, list);
     has_room(t, d)
 }

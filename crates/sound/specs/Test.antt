@@ -6,20 +6,12 @@ use Rattle.base.specs.Tests.{both}
 use Rattle.tables.specs.Tables.{Tables}
 use Rattle.tables.specs.View.{view}
 use Rattle.sizes.specs.Tests.{sizedB}
-use Rattle.sound_pools.specs.Hold.{outsidePoolsHold, recordPoolHolds}
-use Rattle.sound_tree.specs.Tree.{treeHolds}
-use Rattle.sound_hashes.specs.Hashes.{hashesHold}
-use Rattle.sound_interfaces.specs.Interfaces.{interfacesHold}
-use Rattle.sound_capas.specs.Capas.{capasHold}
+use Rattle.sound_pools.specs.Hold.{recordPoolHolds}
+use Rattle.sound_outside.specs.Test.{outsideHolds}
 use Rattle.sound_queue.specs.Ring.{queueHolds}
 use Rattle.sound_trackers.specs.Trackers.{trackersHold}
 
--- what document 01, **Sound**, says outside the trackers and the ring: of the pools of domains and regions and their lists, of regions, of their hashes
--- (document 02, request 1), of the domains' interfaces (request 2), of capabilities
-abbrev pub outsideHolds : Tables → Bool
-outsideHolds v = both (outsidePoolsHold v) (both (treeHolds v) (both (hashesHold v) (both (interfacesHold v) (capasHold v))))
-
--- of the pool of records, and of the trackers
+-- what document 01, **Sound**, says of the pool of records, and of the trackers
 abbrev pub trackedHolds : Tables → Bool
 trackedHolds v = both (recordPoolHolds v) (trackersHold v)
 

@@ -7,7 +7,6 @@ ghost use Rattle.sound_pools.specs.Hold.{outsidePoolsHold, recordPoolHol
 use list_links::Stack;
 use sound_lists::walks;
 
-pub mod rows;
 pub mod trackers;
 
 // The pools of domains and of regions, with their rows and the slot lists. `w` is a work area as long as the tables, and all zero.
@@ -19,10 +18,10 @@ pub fn outside_pools_hold(t: &[u64], w: &mut [u64]) -> bool
     ensures { λ _. ⌜ now (w .exit) ≡ now (w .entry) ⌝ }
 {
     let stack = walks::stack_holds(t, Stack::Domains, w);
-    let rows = rows::domains_hold(t, w);
+    let rows = sound_rows::domains_hold(t, w);
     let domains = words::both(stack, rows);
     let stack = walks::stack_holds(t, Stack::Regions, w);
-    let rows = rows::regions_hold(t);
+    let rows = sound_rows::regions_hold(t);
     words::both(domains, words::both(stack, rows))
 }
 
@@ -35,7 +34,7 @@ pub fn record_pool_holds(t: &[u64], w: &mut [u64]) -> bool
     ensures { λ _. ⌜ now (w .exit) ≡ now (w .entry) ⌝ }
 {
     let stack = walks::stack_holds(t, Stack::Records, w);
-    let rows = rows::records_hold(t);
+    let rows = sound_rows::records_hold(t);
     let trackers = trackers::trackers_hold(t, w);
     words::both(words::both(stack, rows), trackers)
 }

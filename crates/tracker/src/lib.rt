@@ -1,5 +1,5 @@
 // The tracker of a domain (`RegionTracker`; document 01, **Tracker**): a range gained or lost by walks over records.
-// A walk's types and definitions, and what a turn does to one record, are crate `region`'s.
+// Where a walk is, is crate `walk_cursors`'; its definitions, and what a turn does to one record, are crate `region`'s.
 pub mod turns;
 
 ghost use mathlib.Core.Path.{_≡_};
@@ -8,10 +8,10 @@ ghost use Rattle.region.specs.Turns.{walked, addRegion, removeRegion};
 use answers::Answer;
 use refusals::Refusal;
 use region::AccessRights;
-use region::Cursor;
-use region::Progress;
 use region::Way;
 use tracker_records::links;
+use walk_cursors::Cursor;
+use walk_cursors::Progress;
 
 // A walk from the first record on. The bound on its turns is met only where links go round.
 fn walk(t: &mut [u64], d: usize, way: Way, a: AccessRights, marks: u64) -> Answer

@@ -4,10 +4,10 @@ ghost use Rattle.tables.specs.View.{view, Sized, Left};
 ghost use Rattle.region.specs.Turns.{addAt, addTurn, removeAt, removeTurn, mergeTurn, turn};
 use answers::Answer;
 use region::AccessRights;
-use region::Cursor;
-use region::Progress;
 use region::Way;
 use tables::Region;
+use walk_cursors::Cursor;
+use walk_cursors::Progress;
 
 // `add_region`, with record q at hand: a gap before it is filled, the range's edges cut it, and in the range it is raised.
 fn add_at(t: &mut [u64], d: usize, a: AccessRights, c: Cursor, q: Region) -> Progress
@@ -19,7 +19,7 @@ fn add_at(t: &mut [u64], d: usize, a: AccessRights, c: Cursor, q: Region) -> Pro
         return region::turns::fill(t, d, a, c, counts::least(q.start, a.end));
     }
     if q.end <= c.start {
-        return region::turns::going(c, q.next, c.start, 0);
+        return walk_cursors::going(c, q.next, c.start, 0);
     }
     if q.start < c.start {
         return region::turns::cut_start(t, c);
@@ -56,7 +56,7 @@ fn remove_at(t: &mut [u64], d: usize, a: AccessRights, c: Cursor, q: Region) -> 
         return Progress::Over(Answer::Done(c.marks));
     }
     if q.end <= c.start {
-        return region::turns::going(c, q.next, c.start, 0);
+        return walk_cursors::going(c, q.next, c.start, 0);
     }
     if q.start < c.start {
         return region::turns::cut_start(t, c);

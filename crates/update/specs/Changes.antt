@@ -14,8 +14,9 @@ use Rattle.ring.specs.declared.Entry.{Entry}
 use Rattle.ring.specs.declared.Ring.{Ring}
 use Rattle.ring.specs.declared.PushOut.{PushOut}
 use Rattle.ring.specs.declared.PopOut.{PopOut}
-use Rattle.ring.specs.Ring.{cap, noEntry, roomB, putIn, pushOf, permissionOf, placeOf, gathered, foundB, queueOf, someB, takeOut, popOf}
-use Rattle.ring.specs.Search.{place-missed}
+use Rattle.ring.specs.Ring.{cap, noEntry, roomB, putIn, pushOf, permissionOf, someB, takeOut, popOf}
+use Rattle.ring_search.specs.Queueing.{placeOf, gathered, foundB, queueOf}
+use Rattle.ring_search.specs.Search.{place-missed}
 use Rattle.update.specs.Fitted.{fitted, length-fitted}
 use Rattle.update.specs.Stored.{entries, updatesOf, marksOf, ringOf, withRingOf, placeIn, updates-set, marks-set, ring-few, marks-many}
 

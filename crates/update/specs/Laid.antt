@@ -11,12 +11,14 @@ use Rattle.ring.specs.declared.Entry.{Entry}
 use Rattle.ring.specs.declared.Ring.{Ring}
 use Rattle.ring.specs.declared.PushOut.{PushOut}
 use Rattle.ring.specs.declared.PopOut.{PopOut}
-use Rattle.ring.specs.Ring.{cap, noEntry, pushOf, popOf, permissionOf, queueOf}
+use Rattle.ring.specs.Ring.{cap, noEntry, pushOf, popOf, permissionOf}
+use Rattle.ring_search.specs.Queueing.{queueOf}
 use Rattle.update.specs.Fitted.{fitted, length-fitted, getD-fitted, fitted-back}
 use Rattle.update.specs.Stored.{entries, updatesOf, marksOf, ringOf, withRingOf, length-entries, getD-entries, entries-updates, entries-marks}
 use Rattle.ring.specs.Queue.{Queues, push-joins, push-full, pop-empty, pop-takes}
-use Rattle.ring.specs.Search.{anyNames, gatherFirst, queue-new, queue-gathers}
-use Rattle.ring.specs.Sizes.{push-size, queue-size, pop-size}
+use Rattle.ring_search.specs.Search.{anyNames, gatherFirst, queue-new, queue-gathers}
+use Rattle.ring.specs.Sizes.{push-size, pop-size}
+use Rattle.ring_search.specs.Sizes.{queue-size}
 
 -- the tables' places as the layout has them: place k has the update and the marks of the entry that is as far on in the queue as k is from the first place
 pub record Laid (s : Tables) (first : ℕ) (items : List Entry) : Type 0 where

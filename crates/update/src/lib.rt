@@ -6,7 +6,8 @@ ghost use Rattle.words.specs.Runs.{part};
 ghost use Rattle.sizes.specs.Sizes.{updateWidth, markWidth};
 ghost use Rattle.tables.specs.Tables.{withPlaces, withUpdate, withMark};
 ghost use Rattle.tables.specs.View.{view, Sized, Left, updateOf};
-ghost use Rattle.ring.specs.Ring.{cap, cleanupOf, pushOf, popOf, queueOf};
+ghost use Rattle.ring.specs.Ring.{cap, cleanupOf, pushOf, popOf};
+ghost use Rattle.ring_search.specs.Queueing.{queueOf};
 ghost use Rattle.update.specs.Stored.{ringOf, withRingOf, ringIn, placeIn, RingAt};
 use ring::Entry;
 use ring::Item;
@@ -125,7 +126,7 @@ pub fn queue_domain(t: &mut [u64], slot: u64, generation: u64, cores: u64, marks
         × Left (now (t .exit)) (withRingOf (view (now (t .entry))) (queueOf (ringOf (view (now (t .entry)))) slot generation cores marks .ring)) ⌝ }
 {
     let ring = load_ring(t);
-    let at = ring::place_of(ring, slot, generation);
+    let at = ring_search::place_of(ring, slot, generation);
     let p = lent_ring::queue_lent(ring, slot, generation, cores, marks);
     store_place(t, at, p.ring);
     p.ok

@@ -42,15 +42,15 @@ use denote.Exit.{yes}
 use Rattle.ring.specs.declared.Ring.{Ring}
 use Rattle.lent_ring.proofs.Held.{vals, mach}
 use Rattle.ring.specs.declared.PushOut.{PushOut}
-use Rattle.ring.specs.Ring.{queueOf}
+use Rattle.ring_search.specs.Queueing.{queueOf}
 use Rattle.ring.proofs.Ring as Ring-T
 use Rattle.ring.proofs.Ring.Laws as Ring-L
 use Rattle.ring.proofs.PushOut as PushOut-T
 use Rattle.ring.proofs.PushOut.Laws as PushOut-L
-use Rattle.ring.proofs.queued as callee
-use Rattle.ring.proofs.queued.Symbol as callee-def
-use Rattle.ring.proofs.queued.Symbol.{name as #callee}
-use Rattle.ring.proofs.queued.Met as callee-thm
+use Rattle.ring_search.proofs.queued as callee
+use Rattle.ring_search.proofs.queued.Symbol as callee-def
+use Rattle.ring_search.proofs.queued.Symbol.{name as #callee}
+use Rattle.ring_search.proofs.queued.Met as callee-thm
 use Rattle.lent_ring.proofs.queue.Key.{name as #own}
 use Rattle.lent_ring.proofs.queue as own
 use Rattle.lent_ring.proofs.queue.Statement as stated
@@ -155,4 +155,4 @@ queue-spec 𝓤 H 𝓜 𝓖 𝓡 =
     entered 𝓤 H (tripleOf 𝓤 H (𝓖 .A) own.signature (own.spec 𝓤 H (𝓖 .A) (𝓜 .mem) (𝓡 .run)))
     (tables 𝓤 H 𝓜 𝓡 code.env .C) (tables 𝓤 H 𝓜 𝓡 code.env .Λ) #own code.function (code.unfolded 𝓤 H 𝓜 𝓡)
     (meets 𝓤 H (𝓖 .A) (givenOf 𝓤 H 𝓜 𝓖) (𝓜 .mem) (𝓡 .run) (tablesOf 𝓤 H 𝓜 (tables 𝓤 H 𝓜 𝓡 code.env))
-    (cited 𝓤 H (Core 𝓤 H (𝓖 .A) (𝓜 .mem) (𝓡 .run)) 𝓜 𝓡 code.env #callee callee-def.routine code.calls-ring·queued (callee-thm.met 𝓤 H 𝓜 𝓖 𝓡)))
+    (cited 𝓤 H (Core 𝓤 H (𝓖 .A) (𝓜 .mem) (𝓡 .run)) 𝓜 𝓡 code.env #callee callee-def.routine code.calls-ring-search·queued (callee-thm.met 𝓤 H 𝓜 𝓖 𝓡)))

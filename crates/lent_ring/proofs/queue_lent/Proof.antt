@@ -42,7 +42,7 @@ use denote.Exit.{yes}
 use Rattle.ring.specs.declared.Ring.{Ring}
 use Rattle.lent_ring.proofs.Held.{vals, mach, state-typed, lays, lifts}
 use Rattle.ring.specs.declared.PushOut.{PushOut}
-use Rattle.ring.specs.Ring.{queueOf}
+use Rattle.ring_search.specs.Queueing.{queueOf}
 use Rattle.ring.proofs.Ring as Ring-T
 use Rattle.ring.proofs.Ring.Laws as Ring-L
 use Rattle.ring.proofs.PushOut as PushOut-T

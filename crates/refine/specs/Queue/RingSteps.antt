@@ -31,9 +31,10 @@ use Rattle.ring.specs.declared.Entry.{Entry}
 use Rattle.ring.specs.declared.PushOut.{PushOut}
 use Rattle.ring.specs.declared.Item.{Item}
 use Rattle.ring.specs.declared.Ring.{Ring}
-use Rattle.ring.specs.Ring.{noEntry, pushOf, popOf, namesOf, gathered, queueOf}
+use Rattle.ring.specs.Ring.{noEntry, pushOf, popOf}
+use Rattle.ring_search.specs.Queueing.{namesOf, gathered, queueOf}
 use Rattle.update.specs.Stored.{ringOf, withRingOf}
-use Rattle.ring.specs.Search.{anyNames, gatherFirst}
+use Rattle.ring_search.specs.Search.{anyNames, gatherFirst}
 use Rattle.update.specs.Laid.{Laid, push-laid, full-laid, queue-laid, new-laid, empty-laid, pop-laid}
 use Rattle.domain.specs.Activate.{orRefused, notify, cleanup}
 use Rattle.decoded.specs.Rows.{map-up-length, getD-up}

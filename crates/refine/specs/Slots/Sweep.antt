@@ -26,9 +26,9 @@ use Rattle.laws.specs.Tree.Steps.{domain-at}
 use Rattle.tables.specs.declared.Slot.{Slot}
 use Rattle.tables.specs.Tables.{Tables, noSlot}
 use Rattle.slot_list.specs.declared.SlotList.{SlotList}
-use Rattle.slots.specs.Sweep.{sweepSlot, sweepFrom, sweep}
+use Rattle.slot_sweep.specs.Sweep.{sweepSlot, sweepFrom, sweep, isInvalidB, swept}
 use Rattle.stored_slots.specs.Record.{padded}
-use Rattle.slots.specs.Capas.{isInvalidB, roomB, swept, withCapacity}
+use Rattle.slots.specs.Capas.{roomB, withCapacity}
 use Rattle.domain.specs.Activate.{orRefused, reserve}
 use Rattle.decoded.specs.Tables.{capaSlot, freeSlot, slotFor, slotsFor, tablesOf}
 use Rattle.refine.specs.Agrees.{Agrees, agrees-call}

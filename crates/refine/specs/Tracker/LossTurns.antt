@@ -17,13 +17,14 @@ use Rattle.laws.specs.Words.SameTrackers.{firstSlot}
 use Rattle.tables.specs.declared.Region.{Region}
 use Rattle.tables.specs.Tables.{Tables, noRecord, recordAt, withRecord}
 use Rattle.region.specs.declared.AccessRights.{AccessRights}
-use Rattle.region.specs.declared.Cursor.{Cursor}
-use Rattle.region.specs.declared.Progress.the-variants.{Going}
+use Rattle.walk_cursors.specs.declared.Cursor.{Cursor}
+use Rattle.walk_cursors.specs.declared.Progress.the-variants.{Going}
 use Rattle.region.specs.declared.Way.the-variants.{Remove}
 use Rattle.tables.specs.Links.{slotTo}
 use Rattle.tracker_records.specs.Links.{withNext, split, freedRecord}
 use Rattle.counts.specs.Counts.{crossingsOf}
-use Rattle.region.specs.Turns.{Turn, to, over, onward, nextOf, droppedOf, cutStart, cutEnd, lowerTurn, removeAt, removeTurn, turn}
+use Rattle.walk_cursors.specs.Cursors.{nextOf, droppedOf}
+use Rattle.region.specs.Turns.{Turn, to, over, onward, cutStart, cutEnd, lowerTurn, removeAt, removeTurn, turn}
 use Rattle.decoded.specs.Tables.{recordFor, tablesOf}
 use Rattle.refine.specs.Tracker.Linked.{slot-of, lastLink}
 use Rattle.refine.specs.Tracker.RecordSteps.{tracked}

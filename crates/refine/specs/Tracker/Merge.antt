@@ -21,8 +21,8 @@ use Rattle.laws.specs.Tracker.Pools.{uses-append}
 use Rattle.tables.specs.declared.Region.{Region}
 use Rattle.tables.specs.Tables.{Tables, recordAt, withRecord}
 use Rattle.region.specs.declared.AccessRights.{AccessRights}
-use Rattle.region.specs.declared.Cursor.{Cursor}
-use Rattle.region.specs.declared.Progress.the-variants.{Going}
+use Rattle.walk_cursors.specs.declared.Cursor.{Cursor}
+use Rattle.walk_cursors.specs.declared.Progress.the-variants.{Going}
 use Rattle.region.specs.declared.Way.the-variants.{Merge}
 use Rattle.tables.specs.Links.{slotTo}
 use Rattle.tracker_records.specs.Links.{freedRecord}

@@ -25,8 +25,8 @@ use Rattle.answers.specs.declared.Answer.{Answer}
 use Rattle.answers.specs.declared.Answer.the-variants.{Done, Refused}
 use Rattle.answers.specs.Answers.{Effect, andThen}
 use Rattle.region.specs.declared.AccessRights.{AccessRights}
-use Rattle.region.specs.declared.Cursor.{Cursor}
-use Rattle.region.specs.declared.Progress.the-variants.{Going, Over}
+use Rattle.walk_cursors.specs.declared.Cursor.{Cursor}
+use Rattle.walk_cursors.specs.declared.Progress.the-variants.{Going, Over}
 use Rattle.region.specs.declared.Way.{Way}
 use Rattle.tracker_records.specs.Links.{withNext, firstLink, inserted, split, freedRecord}
 use Rattle.region.specs.Turns.{Turn, to, onward, turn, walk}

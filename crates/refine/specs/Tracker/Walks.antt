@@ -18,8 +18,8 @@ use Rattle.tables.specs.Tables.{Tables}
 use Rattle.answers.specs.declared.Answer.the-variants.{Done}
 use Rattle.answers.specs.Answers.{Effect, done}
 use Rattle.region.specs.declared.AccessRights.{AccessRights}
-use Rattle.region.specs.declared.Cursor.{Cursor}
-use Rattle.region.specs.declared.Progress.the-variants.{Going}
+use Rattle.walk_cursors.specs.declared.Cursor.{Cursor}
+use Rattle.walk_cursors.specs.declared.Progress.the-variants.{Going}
 use Rattle.region.specs.declared.Way.{Way}
 use Rattle.tracker_records.specs.Links.{split}
 use Rattle.region.specs.Turns.{to, over, onward, turn, walk}

@@ -3,7 +3,7 @@ use mathlib.Core.Path.{refl, sym, _∙_}
 use borrow.Author.Tests.{not-false}
 use Rattle.tables.specs.Tests.{sized-true}
 use Rattle.sound.specs.Test.{isSound}
-use Rattle.sound.specs.Turns.{goes-on, ends, area-same}
+use Rattle.sound_outside.specs.Turns.{goes-on, ends, area-same}
 use borrow.Author.Needs.{needs}
 use Rattle.sound.proofs.is_sound.Statement.{statement}
 use Rattle.sound.proofs.is_sound.Tie as tie

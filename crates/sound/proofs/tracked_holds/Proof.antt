@@ -1,6 +1,6 @@
 -- The pool leaves the answer to the trackers, and both leave the work area as it was.
 use mathlib.Core.Path.{refl, _∙_}
-use Rattle.sound.specs.Turns.{goes-on, ends, area-same}
+use Rattle.sound_outside.specs.Turns.{goes-on, ends, area-same}
 use borrow.Author.Needs.{needs}
 use Rattle.sound.proofs.tracked_holds.Statement.{statement}
 use Rattle.sound.proofs.tracked_holds.Tie as tie

@@ -5,7 +5,7 @@ use native.Mathlib.Omega.{arith}
 use borrow.Author.Needs.{needs}
 use borrow.Author.Tests.{not-true, not-false}
 use Rattle.sections.specs.Rows.{hashIn}
-use Rattle.sound_pools.specs.Passed.{Passed, passed-start, passed-go, passed-stop, passed-end}
+use Rattle.sound_rows.specs.Passed.{Passed, passed-start, passed-go, passed-stop, passed-end}
 use Rattle.sound_hashes.specs.Hashes.{rowHolds, lent-hold}
 use Rattle.sound_hashes.proofs.hashes_hold.Statement.{statement}
 use Rattle.sound_hashes.proofs.hashes_hold.Tie as tie

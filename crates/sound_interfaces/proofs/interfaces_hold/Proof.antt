@@ -5,7 +5,7 @@ use native.Mathlib.Omega.{arith}
 use borrow.Author.Needs.{needs}
 use borrow.Author.Tests.{not-true, not-false}
 use Rattle.sections.specs.Rows.{interfaceIn}
-use Rattle.sound_pools.specs.Passed.{Passed, passed-start, passed-go, passed-stop, passed-end}
+use Rattle.sound_rows.specs.Passed.{Passed, passed-start, passed-go, passed-stop, passed-end}
 use Rattle.sound_interfaces.specs.Interfaces.{rowHolds, lent-hold}
 use Rattle.sound_interfaces.proofs.interfaces_hold.Statement.{statement}
 use Rattle.sound_interfaces.proofs.interfaces_hold.Tie as tie

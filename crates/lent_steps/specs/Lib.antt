@@ -1,0 +1,3 @@
+pub mod Law
+pub mod Steps
+pub mod Unkept

@@ -1,0 +1,4 @@
+pub mod Hold
+pub mod Rows
+pub mod Passed
+pub mod Answers
