@@ -105,6 +105,9 @@ pub fn call(random: &mut Random, style: &Style, tables: &Tables) -> Call {
         return Call::Open { manager: None, cores: random.below(8) };
     }
     let mut kind = kind(random, style, tables, &live);
+    if kind == CLOSE && style.empties && tables.read != tables.write && !random.one_in(4) {
+        return Call::Pop;
+    }
     if kind == CLOSE {
         match closing_draws::close(random, tables, &live) {
             Some(close) => return close,
