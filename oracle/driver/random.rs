@@ -38,7 +38,7 @@ impl Random {
 /// Generations near the end for some free slots: how 16 is reached. Now and then for all the first records, so that a merge meets it.
 pub fn presets(random: &mut Random, sizes: &Sizes) -> Vec<Call> {
     match random.below(16) {
-        0 => {
+        0 | 4 => {
             let gen = random.pick(&[u64::MAX, u64::MAX - 1]);
             let all = 0..sizes.records.min(8) as u64;
             all.map(|slot| Call::Generation { pool: PoolName::Record, slot, gen }).collect()

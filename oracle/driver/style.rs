@@ -56,13 +56,13 @@ impl Style {
             absurd: random.pick(&[12, 40, 400]),
             domains: random.pick(&[1, 2, 3, 8, usize::MAX]),
             closes: random.pick(&[6, 8, 12]),
-            roots: random.pick(&[1, 1, 2, 3, usize::MAX]),
+            roots: if random.one_in(5) { 1 } else { usize::MAX },
             pops: !random.one_in(3),
             empties: false,
             apt: false,
             carves: true,
         };
-        if random.one_in(2) { style.supplying(random) } else { style }
+        if random.below(5) < 2 { style.supplying(random) } else { style }
     }
 
     /// The same addresses, one root or two, and chains of domains below it that come and go.
