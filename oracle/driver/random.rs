@@ -38,7 +38,7 @@ impl Random {
 /// Generations near the end for some free slots: how 16 is reached. Now and then for all the first records, so that a merge meets it.
 pub fn presets(random: &mut Random, sizes: &Sizes) -> Vec<Call> {
     match random.below(16) {
-        0 => {
+        0 | 4 => {
             let gen = random.pick(&[u64::MAX, u64::MAX - 1]);
             let all = 0..sizes.records.min(8) as u64;
             all.map(|slot| Call::Generation { pool: PoolName::Record, slot, gen }).collect()
@@ -105,6 +105,9 @@ pub fn call(random: &mut Random, style: &Style, tables: &Tables) -> Call {
         return Call::Open { manager: None, cores: random.below(8) };
     }
     let mut kind = kind(random, style, tables, &live);
+    if kind == CLOSE && style.empties && tables.read != tables.write && !random.one_in(4) {
+        return Call::Pop;
+    }
     if kind == CLOSE {
         match closing_draws::close(random, tables, &live) {
             Some(close) => return close,

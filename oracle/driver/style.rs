@@ -20,6 +20,8 @@ pub struct Style {
     pub roots: usize,
     /// Where the ring is full, is it mostly popped?
     pub pops: bool,
+    /// Is the queue mostly emptied before a close? Else old generations stay in it.
+    pub empties: bool,
     /// Is nearly every call one that can be accepted?
     pub apt: bool,
     /// Do domains with a manager carve? Then closes are mostly due a range back.
@@ -54,18 +56,20 @@ impl Style {
             absurd: random.pick(&[12, 40, 400]),
             domains: random.pick(&[1, 2, 3, 8, usize::MAX]),
             closes: random.pick(&[6, 8, 12]),
-            roots: random.pick(&[1, 1, 2, 3, usize::MAX]),
+            roots: if random.one_in(5) { 1 } else { usize::MAX },
             pops: !random.one_in(3),
+            empties: false,
             apt: false,
             carves: true,
         };
-        if random.one_in(2) { style.supplying(random) } else { style }
+        if random.below(5) < 2 { style.supplying(random) } else { style }
     }
 
     /// The same addresses, one root or two, and chains of domains below it that come and go.
     fn supplying(self, random: &mut Random) -> Style {
         let (weights, roots) = (random.pick(&SUPPLYING), random.pick(&[1, 1, 2]));
-        Style { weights, roots, absurd: 400, domains: usize::MAX, closes: 2, pops: !random.one_in(6), apt: true, carves: random.one_in(3), ..self }
+        let (carves, empties) = (random.one_in(2), !random.one_in(3));
+        Style { weights, roots, absurd: 400, domains: usize::MAX, closes: 2, pops: !random.one_in(6), apt: true, carves, empties, ..self }
     }
 
     /// Roots and aliases in ever more domains, hardly any revoked: regions or records run out.
@@ -81,6 +85,7 @@ impl Style {
             closes: 6,
             roots: usize::MAX,
             pops: false,
+            empties: false,
             apt: false,
             carves: true,
         }
