@@ -114,13 +114,7 @@ pub fn call(random: &mut Random, style: &Style, tables: &Tables) -> Call {
             None => kind = random.pick(&[0, 4, 5, 6]),
         }
     }
-    // A domain that holds what the call needs, if there is one, and has room for what it makes.
-    let holds = |h: &Handle| tables.domains[h.slot as usize].iter().any(|d| d.held.iter().flatten().any(|c| needed(kind, *c)));
-    let room = matches!(kind, 1 | 3 | 4 | 5 | 8) && !random.one_in(8);
-    let useful = live.iter().filter(|h| holds(h) && (!room || closing_draws::has_room(tables, **h)));
-    let useful: Vec<Handle> = useful.copied().collect();
-    let from = if useful.is_empty() || random.one_in(style.stray()) { &live } else { &useful };
-    let domain = any_domain(random, style, tables, from);
+    let domain = useful_domain(random, style, tables, &live, kind);
     match kind {
         0 => {
             let manager = (!random.one_in(3)).then(|| closing_draws::opener(random, tables, &live, domain));
@@ -147,6 +141,16 @@ pub fn call(random: &mut Random, style: &Style, tables: &Tables) -> Call {
         10 => reading(random, style, domain),
         _ => interfaces::call(random, tables, domain),
     }
+}
+
+/// A domain that holds what the call needs, if there is one, and has room for what it makes.
+fn useful_domain(random: &mut Random, style: &Style, tables: &Tables, live: &[Handle], kind: usize) -> Handle {
+    let holds = |h: &Handle| tables.domains[h.slot as usize].iter().any(|d| d.held.iter().flatten().any(|c| needed(kind, *c)));
+    let room = matches!(kind, 1 | 3 | 4 | 5 | 8) && !random.one_in(8);
+    let useful = live.iter().filter(|h| holds(h) && (!room || closing_draws::has_room(tables, **h)));
+    let useful: Vec<Handle> = useful.copied().collect();
+    let from = if useful.is_empty() || random.one_in(style.stray()) { live } else { &useful };
+    any_domain(random, style, tables, from)
 }
 
 /// A send: half the time of something that goes to a domain below.
