@@ -20,8 +20,9 @@
  * copy of the tables and its own work; lent words that are refused take about as long at most (bench/README.md).
  *
  * Of its host the archive asks for memcpy and memset, nothing else; it uses SSE registers and the red zone, the 128 bytes below the stack
- * pointer: code that interrupts a call must not write there, so it needs a stack of its own. Stack, measured at the largest sizes: up to
- * 22 KiB for a call, and for a revoke some 120 bytes more for each level of the tree: 132 KiB for 1,023 regions, each below the other. */
+ * pointer: code that interrupts a call must not write there, so it needs a stack of its own. Stack, measured at the largest sizes
+ * (bench/stack): up to 41 KiB for a call, 66 KiB for a revoke, and some 110 bytes more for each level of the tree: 176 KiB for 1,023
+ * regions, each below the other. Closing 31 domains, each below the other, takes no more: 176 KiB with 1,023 regions below the innermost. */
 #ifndef MITYVURNO_H
 #define MITYVURNO_H
 
@@ -172,8 +173,7 @@ mityvurno_reply mityvurno_make_tables(MITYVURNO_LENT, uint64_t domains, uint64_t
  * marks, since which rights moved was not kept. `old` is only read. The lengths: MITYVURNO_FORMER_WORDS of `old`; MITYVURNO_WORDS of `t`,
  * `v` and `w`, by the sizes that `old` stores. What `t` held before does not matter; `v` and `w` are two work areas, zero afterwards. Wrong
  * lengths and old tables that are not sound give 1, and `t` is as found. Tables from before request 2 go through that delivery's converter
- * first.
- * Refusals: none but 1. */
+ * first. Refusals: none but 1. */
 mityvurno_reply mityvurno_convert_tables(const uint64_t *MITYVURNO_APART old, size_t old_words, uint64_t *MITYVURNO_APART t,
                                          size_t t_words, uint64_t *MITYVURNO_APART v, size_t v_words, uint64_t *MITYVURNO_APART w,
                                          size_t w_words);

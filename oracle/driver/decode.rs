@@ -11,7 +11,7 @@ pub fn total(z: &Sizes) -> usize {
     former_total(z) + z.updates + 1
 }
 
-/// How many words the last delivery's tables of these sizes have: all sections but the marks, which stand last.
+/// How many words former tables of these sizes have, from before request 4: all sections but the marks, which stand last.
 pub fn former_total(z: &Sizes) -> usize {
     interfaces_at(z) + 2 * z.domains
 }

@@ -1,4 +1,4 @@
-//! Tables of the last delivery: what this delivery's are to be, and files that hold such tables (oracle/README.md, "The converter").
+//! Former tables, from before request 4: what this delivery's are to be, and files that hold such tables (oracle/README.md, "The converter").
 
 use shared::calls::{show, Answer, Call, Reply, Update};
 use shared::decode::{former_total, stored_sizes};
@@ -21,7 +21,7 @@ pub fn carried(old: &[u64]) -> Option<Vec<u64>> {
     Some(old.iter().copied().chain(marks).collect())
 }
 
-/// An answer as the last delivery has it: without marks.
+/// An answer as a delivery without marks has it.
 pub fn show_former(answer: &Answer) -> String {
     let shown = show(answer);
     match answer {
@@ -30,13 +30,13 @@ pub fn show_former(answer: &Answer) -> String {
     }
 }
 
-/// A list of calls with the answers, and the words, of the last delivery.
+/// A list of calls with the answers, and the words, of a delivery without marks.
 pub struct Kept {
     pub calls: Vec<(Call, String)>,
     pub words: Vec<u64>,
 }
 
-/// The lists of a file that have this build's sizes. A line `sizes ..` begins a list; lines `words ..` hold the words. The last delivery refused to
+/// The lists of a file that have this build's sizes. A line `sizes ..` begins a list; lines `words ..` hold the words. That delivery refused to
 /// close a domain with 10, and changed nothing: such calls are left out.
 pub fn read(file: &str) -> Result<Vec<Kept>, String> {
     let text = std::fs::read_to_string(file).map_err(|e| format!("{file}: {e}"))?;

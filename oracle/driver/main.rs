@@ -23,8 +23,8 @@ driver linked SEED CALLS LENGTH        random lists, the Rust beside the exporte
 driver linked FILE                     fixed lists on these functions
 driver damage SEED SHAPES LENGTH WORDS sound tables by lists of up to LENGTH calls, damaged, lent to the exported functions
 driver free-lists SEED                 free lists at sizes about 64, sound and damaged, lent to the exported functions
-driver convert SEED SHAPES LENGTH WORDS  the last delivery's tables, sound and damaged, lent to the converter
-driver convert FILE                    the last delivery's tables as it wrote them, and the lists that made them
+driver convert SEED SHAPES LENGTH WORDS  former tables, sound and damaged, lent to the converter
+driver convert FILE                    former tables as their delivery wrote them, and the lists that made them
 driver former FILE                     the same tables and lists beside the Rust
 driver script < SCRIPT                 what the script program is to print
 driver scripts PROGRAM SEED COUNT      random scripts, the Rust beside the script program

@@ -1,4 +1,4 @@
-//! Lists of calls on the last delivery's library: each with its answers, and the words of the tables behind it (oracle/former/make).
+//! Lists of calls on the library of a delivery without marks: each with its answers, and the words of the tables behind it (oracle/former/make).
 
 // That delivery's own; its converter is not used.
 #[allow(dead_code)]

@@ -5,7 +5,7 @@ use shared::calls::Update;
 use shared::sound;
 use shared::tables::Tables;
 
-/// The small example of docs/TABLES.md, as the last delivery had it.
+/// The small example of docs/TABLES.md, as former tables had it.
 #[rustfmt::skip]
 const OLD: [u64; 129] = [
     2, 2, 3, 3, 1, 0, 1,

@@ -1,4 +1,4 @@
-//! Drawn lists of calls: after each call the tables are sound, they carry over from the last delivery, and the page-table writer of check_marks.rs
+//! Drawn lists of calls: after each call the tables are sound, they carry over from former tables, and the page-table writer of check_marks.rs
 //! has missed nothing. Ports that lose marks must be found by that.
 
 use crate::check_convert::carries_over;

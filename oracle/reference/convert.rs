@@ -50,7 +50,7 @@ fn stored_sizes(old: &[u64]) -> Option<Sizes> {
     })
 }
 
-/// How many words the last delivery's tables have (docs/TABLES.md, the sections up to the interfaces).
+/// How many words former tables have (docs/TABLES.md, the sections up to the interfaces).
 fn last_length(z: &Sizes) -> usize {
     ring_at(z) + (z.updates + 1) * 4 + z.regions * 5 + z.domains * 2
 }

@@ -1,4 +1,4 @@
-//! The converter: the last delivery's tables, sound and damaged, in memory of right and wrong lengths. It must answer 1 exactly where the
+//! The converter: former tables, sound and damaged, in memory of right and wrong lengths. It must answer 1 exactly where the
 //! test of driver/sound.rs says so of what they are to become; then the new tables are as found. Both work areas are zero behind it.
 
 use std::collections::BTreeMap;
@@ -107,7 +107,7 @@ fn broken(expected: Option<&[u64]>, others: [usize; 3]) -> Option<&'static str> 
     }
 }
 
-/// How many words the last delivery's tables of this build's sizes have.
+/// How many words former tables of this build's sizes have.
 fn old_length() -> usize {
     former_total(&engine::utils::mirror::sizes())
 }
@@ -211,7 +211,7 @@ fn one_kept(converter: &mut Converter, kept: &Kept) -> Result<(), String> {
     for (k, (call, stored)) in kept.calls.iter().enumerate() {
         let answer = former::show_former(&both.perform(k as u64, call).map_err(|what| format!("call {}, {call}: {what}", k + 1))?);
         if answer != *stored {
-            return Err(format!("call {}, {call}: {answer}; the last delivery: {stored}", k + 1));
+            return Err(format!("call {}, {call}: {answer}; in the file: {stored}", k + 1));
         }
     }
     converter.fitting(&kept.words, both.lent.len())?;

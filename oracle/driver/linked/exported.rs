@@ -113,7 +113,7 @@ pub fn make(t: &mut [u64], w: &mut [u64], sizes: [u64; 5]) -> Numbers {
     call!(mityvurno_make_tables, t, w, domains, slots, regions, records, updates)
 }
 
-/// Tables of the last delivery become tables of this one; `first` and `second` are work areas.
+/// Former tables become tables of this delivery; `first` and `second` are work areas.
 pub fn convert(old: &[u64], tables: &mut [u64], first: &mut [u64], second: &mut [u64]) -> Numbers {
     let from = if old.is_empty() { ptr::null() } else { old.as_ptr() };
     let (t, v, w) = (start(tables), start(first), start(second));
