@@ -240,7 +240,8 @@ mityvurno_reply mityvurno_create_revoke_capa(MITYVURNO_LENT, uint64_t domain, ui
  * What a page-table writer may lean on: for each popped domain it reads the domain's permissions anew, for the rights that are marked. The
  * count of a right that is not marked has not come to 0 or left it since the domain's update before was popped, or since the domain was
  * opened: at each address the domain has that right, or has it not, as then. UNCACHEABLE has no mark of its own and goes with
- * MITYVURNO_MARK_REACH. A right that came and went again is marked, too. */
+ * MITYVURNO_MARK_REACH. A right that came and went again is marked, too. A domain may have been closed since it was queued: then its handle is
+ * dead, and reading its permissions is refused with 3, whatever its slot holds now. */
 mityvurno_update_reply mityvurno_pop(MITYVURNO_LENT);
 
 /* ---- readings */
