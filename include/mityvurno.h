@@ -196,7 +196,8 @@ mityvurno_reply mityvurno_set_core_map(MITYVURNO_LENT, uint64_t domain, uint64_t
  * Refusals: 3, 21. */
 mityvurno_reply mityvurno_set_interface(MITYVURNO_LENT, uint64_t domain, uint64_t generation, uint64_t word);
 
-/* Platform only. The word stays as it is while the domain lives: only its closing, or a making, ends the freeze. Freezing twice is accepted. Refusals: 3. */
+/* Platform only. The word stays as it is while the domain lives: only its closing, or a making, ends the freeze. Freezing twice is
+ * accepted. Refusals: 3. */
 mityvurno_reply mityvurno_freeze_interface(MITYVURNO_LENT, uint64_t domain, uint64_t generation);
 
 /* A new region, `start` up to but not including `end`; value: its local slot. Refusals: 3, 11, 12, 7; 13, 14, 16. */
