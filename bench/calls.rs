@@ -21,6 +21,7 @@ use shared::calls::{Access, Call, Extras, Handle};
 use shared::decode::former_total;
 
 use states::full::{own_channel, room, roots};
+use states::managed::chain;
 use states::mixed::{mixed_locals, mixed_room};
 use states::{domain, in_use, made, read_write, State, END, STATES};
 use table::{timed, words};
@@ -134,6 +135,24 @@ impl Rows {
     }
 }
 
+impl Rows {
+    /// Both sides begin each time with a plain copy of the state that is closed.
+    fn close(&mut self, w: &mut [u64]) {
+        let before = made(chain);
+        let from = words(&before);
+        let close = Call::Revoke { domain: FIRST, local: 0 };
+        let ours = |t: &mut [u64]| {
+            t.copy_from_slice(&from);
+            lent(t, w, &close, 0);
+        };
+        self.row(&format!("copy and close; {}", in_use(chain)), chain, ours, |e, keep| {
+            mirror::copy(&before, e);
+            keep(e);
+            e.revoke(domain(0), LocalCapa::new(0)).unwrap();
+        });
+    }
+}
+
 /// Where calls are made by domain 0: states with nothing else to see to, with room for a region, and with a channel to itself; where it
 /// has its root and that channel, and the root's range in the second state.
 struct Site {
@@ -164,6 +183,7 @@ fn beside_rust(w: &mut [u64]) {
     let plain = timing::single(|| black_box(&mut to).copy_from_slice(black_box(&from)));
     let mut rows = Rows { kept: mirror::new_engine(), plain };
     sites().iter().for_each(|site| rows.calls(site, w));
+    rows.close(w);
 }
 
 fn main() {

@@ -5,6 +5,7 @@ mod deep;
 mod forest;
 mod free_lists;
 pub mod full;
+pub mod managed;
 pub mod mixed;
 
 use engine::utils::{calls, mirror};
