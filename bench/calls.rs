@@ -3,6 +3,8 @@
 //!   calls                 the tables
 //!   calls once STATE      one pop in that state, for a program that counts instructions
 
+// The driver uses more of it.
+#[allow(dead_code)]
 #[path = "../oracle/driver/linked/exported.rs"]
 mod exported;
 mod random;
