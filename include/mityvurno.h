@@ -253,9 +253,9 @@ mityvurno_reply mityvurno_get_refcount(MITYVURNO_READ_ONLY, uint64_t domain, uin
 /* Value: the domain's core map. Refusals: 3. */
 mityvurno_reply mityvurno_core_map(MITYVURNO_READ_ONLY, uint64_t domain, uint64_t generation);
 
-/* The slots of the domains that reach an address, in any order, each once. Value: how many there are; those past the run are not
- * written, and unused places stay as they are, as does the whole run on refusal. A run as long as the tables have domains has room for
- * all. Refusals: none. */
+/* The slots of the domains that reach an address, rising, each once. Value: how many there are; those past the run are not written, so
+ * that a short run holds the lowest slots, and unused places stay as they are, as does the whole run on refusal. A run as long as the
+ * tables have domains has room for all. Refusals: none. */
 mityvurno_reply mityvurno_holders(MITYVURNO_READ_ONLY, uint64_t address, uint64_t *MITYVURNO_APART run, size_t places);
 
 /* The domain's permissions, rising; value and run likewise. A run as long as the tables have records has room for all. Refusals: 3. */

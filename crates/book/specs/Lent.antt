@@ -11,7 +11,7 @@ use Rattle.model.specs.Layout.{words}
 use Rattle.model.specs.Perform.{Call, Value, Answer, step}
 use Rattle.model.specs.CallWords.{CallWords}
 use Rattle.model.specs.Sound.{Sound}
-use Rattle.model.specs.Memory.{Lent, madeAnswer, madeTables, After, made, notSound, performed, held}
+use Rattle.model.specs.Memory.{Lent, madeAnswer, madeTables, After, made, notSound, performed}
 use Rattle.laws.specs.Accepted.{All, accepted, both}
 use Rattle.laws.specs.Empty.{made-sound}
 use Rattle.laws.specs.Words.Unique.{words-unique}
@@ -90,7 +90,6 @@ book-of-call b t w t₁ w₁ c y u h (notSound d p n) = h
 book-of-call b t w t₁ w₁ c y u h (performed d s p l) =
     let q = matches-step b s d u (l .sound) (book-of-state b t w s h l) in
     record { state = step s d .1; tables = refl; sound = q .1; matches = q .0 }
-book-of-call b t w t₁ w₁ c y u h (held a s l k i) = h
 
 -- THEOREM: any chain of calls keeps it
 pub book-of-chain : (b : Book) (t t₂ : List ℕ) (cs : List Call) (ys : List Answer) → Each CallWords cs → BookOf b t → Chain t cs ys t₂ → BookOf (noteAll b cs ys) t₂

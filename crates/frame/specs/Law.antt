@@ -14,7 +14,7 @@ use Rattle.refusals.specs.Refusals.{memory}
 use Rattle.model.specs.State.{State, Word}
 use Rattle.model.specs.Perform.{Call, Answer, step}
 use Rattle.model.specs.Layout.{words}
-use Rattle.model.specs.Memory.{Lent, NotMake, Settled, After, zeroed}
+use Rattle.model.specs.Memory.{Lent, NotMake, After, zeroed}
 use Rattle.tables.specs.View.{Sized}
 use Rattle.sizes.specs.Tests.{sizedB}
 use Rattle.tables.specs.Tests.{sized-true}
@@ -47,7 +47,7 @@ module _ (t w : List ℕ) where
 -- ---- as the calls cite it
 
 -- what a call on a sound state returns by f, where its answer is that of the model
-pub step-returns : {R : Type 0} (f : Answer → R) (t w : List ℕ) (c : Call) → Settled c
+pub step-returns : {R : Type 0} (f : Answer → R) (t w : List ℕ) (c : Call) → NotMake c
     → (s : State) → Lent t w s → (r : R) (t₂ w₂ : List ℕ) → r ≡ f (step s c .0) → t₂ ≡ words (step s c .1) → w₂ ≡ zeroed w → Returns f t w c r t₂ w₂
 step-returns f t w c q s l r t₂ w₂ er et ew = record {
   answer = step s c .0;

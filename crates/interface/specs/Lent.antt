@@ -17,7 +17,7 @@ use Rattle.model.specs.Outcome.{Outcome, ok, refuse}
 use Rattle.model.specs.State.{Word, State, Domain}
 use Rattle.model.specs.Making.{makeIn}
 use Rattle.model.specs.Perform.{Call, Value, Answer, perform, after, step}
-use Rattle.model.specs.Memory.{Lent, madeAnswer, After, made, notSound, performed, held}
+use Rattle.model.specs.Memory.{Lent, madeAnswer, After, made, notSound, performed}
 use Rattle.laws.specs.Lists.{word-at}
 use Rattle.laws.specs.Words.Unique.{words-unique}
 use Rattle.interface.specs.Fewer.{FewerDomain, free, used, Fewer}
@@ -101,17 +101,12 @@ module _ (t t′ w : List ℕ) (k : Each Word t) (h : FewerTables t t′) where
   lent-too (notSound c q u) (made z) r e = absurd q
   lent-too (notSound c q u) (notSound c′ q′ u′) r e = (r, e, inl refl)
   lent-too (notSound c q u) (performed c′ s q′ l) r e = absurd (u _ (back t t′ w k h s l))
-  lent-too (notSound c q u) (held a s m l i) r e = absurd (u _ (back t t′ w k h s l))
   lent-too (performed c s q l) (made z) r e = absurd q
   lent-too (performed c s q l) (notSound c′ q′ u) r e = absurd (u _ (forth t t′ w k h s l))
   lent-too (performed c s q l) (performed c′ s′ q′ l′) r e =
       let f = forth t t′ w k h s l in
       let same = words-unique _ s′ (f .sound) (l′ .sound) (sym (f .tables) ∙ l′ .tables) in
       subst (λ x. Too r (step x c .0)) same (step-too s _ (fewer-states t t′ w k h s l) c r e)
-  lent-too (performed c s q l) (held a s′ m l′ i) r e = absurd q
-  lent-too (held a s m l i) (notSound c q u) r e = absurd (yes-no _ r e)
-  lent-too (held a s m l i) (performed c s′ q l′) r e = absurd (yes-no _ r e)
-  lent-too (held a s m l i) (held a′ s′ m′ l′ i′) r e = absurd (yes-no _ r e)
 
 -- Of lent memory, whatever it holds: a call that is refused on the tables t is refused on t′, with the same number or with 20. Memory is of 64-bit words:
 -- a number above could lose bits and so become a word.

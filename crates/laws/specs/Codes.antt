@@ -11,7 +11,7 @@ use Rattle.model.specs.Outcome.{Outcome, ok, refuse}
 use Rattle.model.specs.State.{State}
 use Rattle.model.specs.Perform.{Call, Value, Answer, after, perform, step}
 use Rattle.model.specs.Making.{makeIn}
-use Rattle.model.specs.Memory.{madeAnswer, After, made, notSound, performed, held}
+use Rattle.model.specs.Memory.{madeAnswer, After, made, notSound, performed}
 use Rattle.laws.specs.CallRefusals.{refusal-above, making-above}
 
 -- The numbers go 1, 2, 3, .., so that no two refusals have the same.
@@ -39,4 +39,3 @@ pub after-coded : (t w t′ w′ : List ℕ) (c : Call) (y : Answer) → After t
 after-coded t w t′ w′ c y (made z) = made-coded (makeIn (length t) (length w) z) (making-above _ _ z)
 after-coded t w t′ w′ c y (notSound d q n) = omega arith
 after-coded t w t′ w′ c y (performed d s q l) = step-coded s d
-after-coded t w t′ w′ c y (held a s l k i) = tt

@@ -65,7 +65,6 @@ sized-after : (t w t₂ w₂ : List ℕ) (c : Call) (a : Answer) → NotMake c �
 sized-after t w t₂ w₂ c a n k e (made z) = absurd n
 sized-after t w t₂ w₂ c a n k e (notSound d m f) = absurd (omega arith)
 sized-after t w t₂ w₂ c a n k e (performed d s q l) = words-held (step s d .1) (step-sound s d (l .sound) k) _ refl .sized
-sized-after t w t₂ w₂ c a n k e (After.held x s l y z) = words-held s (y .sound) t (y .tables) .sized
 
 opened-after : (t w t₂ w₂ : List ℕ) (m : Option state.Handle) (cores : ℕ) (c : Call) (a : Answer) → c ≡ Call.Do (Step.Open m cores) → CallWords c → After t w c a t₂ w₂
     → openedFor (view t₂) (replyOf a) ≡ domainReplyOf a
@@ -74,7 +73,6 @@ opened-after t w t₂ w₂ m cores c a e k (notSound d n f) = opens-none memory 
 opened-after t w t₂ w₂ m cores c a e k (performed d s q l) =
     let see = words-held (step s d .1) (step-sound s d (l .sound) k) _ refl .seen in
     ap (λ v. openedFor v (replyOf (step s d .0))) see ∙ opens-as s m cores d e
-opened-after t w t₂ w₂ m cores c a e k (After.held x s l y z) = let v : _≡_ {A = ℕ} 0 1 = cc in absurd (omega arith)
 
 -- ---- as the exported functions cite it: d is the step of the call that was run
 

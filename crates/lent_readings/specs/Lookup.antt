@@ -12,7 +12,7 @@ use Rattle.model.specs.State.{State, Handle, Domain, Word}
 use Rattle.model.specs.Calls as model
 use Rattle.model.specs.Perform.{Reading, Call, Value, Answer, readTables, perform, step, after as outcome-after}
 use Rattle.model.specs.Layout.{words}
-use Rattle.model.specs.Memory.{Lent, Settled, After, zeroed}
+use Rattle.model.specs.Memory.{Lent, After, zeroed}
 use Rattle.laws.specs.Accepted.{all-ok}
 use Rattle.laws.specs.Keep.Base.{sound-base}
 use Rattle.laws.specs.Keep.Checks.{domain-live}
@@ -43,7 +43,7 @@ domainRead t w domain generation = pick (admitted t w) (liveDomain (named domain
 
 -- the reading r reads f of domain h
 abbrev pub Reads : Reading → Handle → (State → ℕ → Value) → Type 0
-Reads r h f = Settled (Call.Read r) × ((s : State) → readTables s r ≡ (model.liveDomain s h >>= λ d. ok (f s d)))
+Reads r h f = (s : State) → readTables s r ≡ (model.liveDomain s h >>= λ d. ok (f s d))
 
 -- slot d holds the live domain h of a sound state whose words were lent
 pub record Live (t w : List ℕ) (h : Handle) (d : ℕ) : Type 0 where
@@ -63,9 +63,9 @@ Says t w h (Done d) = Live t w h d
 Says t w h (Refused r) = Refuses t w h r
 
 -- a reading on the sound state whose words were lent
-after-step : (t w : List ℕ) (r : Reading) (s : State) → Lent t w s → Settled (Call.Read r) → (a : Answer) → step s (Call.Read r) ≡ (a, s) → After t w (Call.Read r) a t (zeroed w)
-after-step t w r s l q a e =
-    subst (λ v. After t w (Call.Read r) a v (zeroed w)) (sym (l .tables)) (subst (λ (y : Answer × State). After t w (Call.Read r) (y .0) (words (y .1)) (zeroed w)) e (After.performed (Call.Read r) s q l))
+pub after-step : (t w : List ℕ) (r : Reading) (s : State) → Lent t w s → (a : Answer) → step s (Call.Read r) ≡ (a, s) → After t w (Call.Read r) a t (zeroed w)
+after-step t w r s l a e =
+    subst (λ v. After t w (Call.Read r) a v (zeroed w)) (sym (l .tables)) (subst (λ (y : Answer × State). After t w (Call.Read r) (y .0) (words (y .1)) (zeroed w)) e (After.performed (Call.Read r) s tt l))
 
 -- what a caller sees of it, by what is read
 abbrev seenOf : State → Outcome Value → Answer × State
@@ -82,7 +82,7 @@ module _ (t w : List ℕ) (known : Each Word t) (domain generation : ℕ) where
       subst (Says t w h) (sym (g .0)) (record { state = s; lent = l; seen = see; found = e; domain = y .0; at = y .1 })
   by-outcome s l see x (refuse r) e g =
       subst (Says t w h) (sym g)
-      (λ q f p. after-step t w q s l (p .0) (Answer.no r) (ap (seenOf s) (p .1 s ∙ ap (λ (o : Outcome ℕ). o >>= λ d. ok (f s d)) e)))
+      (λ q f p. after-step t w q s l (Answer.no r) (ap (seenOf s) (p s ∙ ap (λ (o : Outcome ℕ). o >>= λ d. ok (f s d)) e)))
 
   on-lent : (s : State) → Lent t w s → Says t w h (liveDomain (named domain generation) (view t) .answer)
   on-lent s l =
@@ -103,7 +103,7 @@ pub live-after : (t w : List ℕ) (h : Handle) (d : ℕ) (y : Live t w h d) (r :
 unfolding _>>=_ step perform
 live-after t w h d y r f p =
     let s = y .state in
-    after-step t w r s (y .lent) (p .0) (Answer.yes (f s d)) (ap (seenOf s) (p .1 s ∙ ap (λ (o : Outcome ℕ). o >>= λ i. ok (f s i)) (y .found)))
+    after-step t w r s (y .lent) (Answer.yes (f s d)) (ap (seenOf s) (p s ∙ ap (λ (o : Outcome ℕ). o >>= λ i. ok (f s i)) (y .found)))
 
 -- the tables that a live domain is read in are as long as their sizes ask
 pub read-sized : (t w : List ℕ) (domain generation : ℕ) (a : code.Answer) → a ≡ domainRead t w domain generation → (d : ℕ) → a ≡ Done d → Sized t

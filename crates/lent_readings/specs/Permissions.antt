@@ -45,7 +45,7 @@ listIn s d = map permissionOf (domainAt s d .tracker)
 
 list-reads : (h : Handle) → Reads (Reading.Permissions h) h (λ s d. Value.permissionList (listIn s d))
 unfolding readTables permissions _>>=_
-list-reads h = (tt, λ s. bind-assoc (model.liveDomain s h) _ _)
+list-reads h s = bind-assoc (model.liveDomain s h) _ _
 
 -- a list of the model that the code gives, and back
 given-back : (l : List Record) → map accessOf (map (λ q. permissionIn (permissionOf q)) l) ≡ map permissionOf l

@@ -1,5 +1,5 @@
 -- The readings return and leave what `After` says: what is read of the tables of a live domain is what the model reads of the domain.
-use mathlib.Core.Path.{_≡_, sym, ap, subst, _∙_}
+use mathlib.Core.Path.{_≡_, refl, sym, ap, subst, _∙_}
 use Prim.Native.Nat.{ℕ}
 use mathlib.Core.Bool.{Bool, true, false}
 use mathlib.Core.List.{List}
@@ -10,9 +10,8 @@ use Rattle.model.specs.Outcome.{_>>=_}
 use Rattle.model.specs.State.{State, Handle, Domain, Word, domainAt}
 use Rattle.model.specs.Calls as model
 use Rattle.model.specs.Readings.{getRefcount, coreMap, holders, largestReach, fillRun}
-use Rattle.model.specs.Perform.{Reading, Call, Value, Answer, readTables}
-use Rattle.model.specs.Memory.{After, Filled, AfterHolders, zeroed}
-use Rattle.laws.specs.Tree.Holders as laws
+use Rattle.model.specs.Perform.{Reading, Call, Value, Answer, readTables, perform, step}
+use Rattle.model.specs.Memory.{Lent, After, Filled, AfterHolders, zeroed}
 use Rattle.laws.specs.Tree.Steps.{domain-at}
 use Rattle.tables.specs.Tables.{headAt}
 use Rattle.tables.specs.View.{view}
@@ -20,6 +19,7 @@ use Rattle.answers.specs.declared.Answer as code
 use Rattle.answers.specs.declared.Answer.the-variants.{Done, Refused}
 use Rattle.refusals.specs.declared.Refusal.{Refusal}
 use Rattle.readings.specs.Readings as readings
+use Rattle.holders.specs.Holders.{holdersOf}
 use Rattle.decoded.specs.Tables.{tablesOf}
 use Rattle.decoded.specs.Words.{words-held}
 use Rattle.refine.specs.Agrees.{bind-assoc}
@@ -30,7 +30,7 @@ use Rattle.replies.specs.Replies.{replyOf, Returns, ListsHolders}
 use Rattle.frame.specs.Finish.{admitted}
 use Rattle.replies.specs.ReplyFor.{replyFor}
 use Rattle.frame.specs.Law.{lent, not-admitted}
-use Rattle.lent_readings.specs.Lookup.{domainRead, Reads, Live, Refuses, Says, read-says, live-after}
+use Rattle.lent_readings.specs.Lookup.{domainRead, Reads, Live, Refuses, Says, read-says, after-step, live-after}
 
 -- ---- a number of a live domain
 
@@ -63,11 +63,11 @@ coresIn s d = domainAt s d .cores
 
 refcount-reads : (h : Handle) (a b : ℕ) → Reads (Reading.Refcount h a b) h (λ s d. Value.number (reachIn a b s d))
 unfolding readTables getRefcount _>>=_
-refcount-reads h a b = (tt, λ s. bind-assoc (model.liveDomain s h) _ _)
+refcount-reads h a b s = bind-assoc (model.liveDomain s h) _ _
 
 cores-reads : (h : Handle) → Reads (Reading.CoreMap h) h (λ s d. Value.number (coresIn s d))
 unfolding readTables coreMap _>>=_
-cores-reads h = (tt, λ s. bind-assoc (model.liveDomain s h) _ _)
+cores-reads h s = bind-assoc (model.liveDomain s h) _ _
 
 module _ (t w : List ℕ) (h : Handle) (d : ℕ) (y : Live t w h d) where
   reach-same : (a b : ℕ) → readings.largestReach a b (readings.recordsOf (view t) d) ≡ reachIn a b (y .state) d
@@ -111,19 +111,23 @@ module _ (t w : List ℕ) (known : Each Word t) (domain generation : ℕ) (a : c
 
 -- ---- the holders of an address: b is what the test said, run₂ and w₂ what was left
 
+holders-after : (t w : List ℕ) (a : ℕ) (s : State) → Lent t w s → After t w (Call.Read (Reading.Holders a)) (Answer.yes (Value.domainList (holders a s))) t (zeroed w)
+unfolding _>>=_ readTables step perform
+holders-after t w a s l = after-step t w (Reading.Holders a) s l _ refl
+
 module _ (t w : List ℕ) (a : ℕ) (run : List ℕ) (b : Bool) (said : b ≡ admitted t w) (w₂ : List ℕ) (ew : w₂ ≡ zeroed w) where
-  pub holders-returns : Each Word t → b ≡ true → (n : ℕ) (run₂ : List ℕ) → n ≡ length (readings.holdersOf (view t) a) → run₂ ≡ readings.fillRun (readings.holdersOf (view t) a) run
+  pub holders-returns : Each Word t → b ≡ true → (n : ℕ) (run₂ : List ℕ) → n ≡ length (holdersOf (view t) a) → run₂ ≡ readings.fillRun (holdersOf (view t) a) run
       → ListsHolders t w a run (record { refusal = 0; value = n }) w₂ run₂
   holders-returns known e n run₂ en er =
       let l = lent t w known (sym said ∙ e) in
       let s = l .0 in
       let see : view t ≡ tablesOf s = words-held s (l .1 .sound) t (l .1 .tables) .seen in
-      let same : readings.holdersOf (view t) a ≡ holders a s = ap (λ v. readings.holdersOf v a) see ∙ holders-are s (l .1 .sound) a in
+      let same : holdersOf (view t) a ≡ holders a s = ap (λ v. holdersOf v a) see ∙ holders-are s (l .1 .sound) a in
       let yes = Answer.yes (Value.number (length (holders a s))) in
       record {
         answer = yes;
         after = subst (λ u. AfterHolders t w a run yes t u run₂) (sym ew) (subst (λ u. AfterHolders t w a run yes t (zeroed w) u) (sym (er ∙ ap (λ u. readings.fillRun u run) same ∙ fill-same (holders a s) run))
-            (Filled.filled (holders a s) t (zeroed w) (After.held a s (holders a s) (l .1) (laws.holders-are a s))));
+            (Filled.filled (holders a s) t (zeroed w) (holders-after t w a s (l .1))));
         reply = ap (λ (m : ℕ). record { refusal = 0; value = m }) (en ∙ ap length same);
       }
 

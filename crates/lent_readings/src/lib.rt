@@ -101,7 +101,7 @@ pub fn holders(t: &[u64], w: &mut [u64], address: u64, run: &mut [u64]) -> Reply
     if frame::admits(t, w) {
         return Reply {
             refusal: 0,
-            value: readings::holders(t, address, run),
+            value: holders::holders(t, address, run),
         };
     }
     replies::refused(Refusal::MEMORY)

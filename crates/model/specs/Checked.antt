@@ -9,4 +9,5 @@ pub mod HashAlone
 pub mod Interface
 pub mod Marks
 pub mod Closing
+pub mod Holders
 pub mod Example

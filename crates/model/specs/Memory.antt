@@ -8,7 +8,7 @@ use Rattle.refusals.specs.Refusals.{memory}
 use Rattle.model.specs.State.{Sizes, Handle, Access, State}
 use Rattle.model.specs.Outcome.{Outcome, ok, refuse}
 use Rattle.model.specs.Making.{makeIn}
-use Rattle.model.specs.Readings.{IsHolders, fillRun}
+use Rattle.model.specs.Readings.{fillRun}
 use Rattle.model.specs.Layout.{words}
 use Rattle.model.specs.Perform.{Reading, Call, Value, Answer, step}
 use Rattle.model.specs.Sound.{Sound}
@@ -39,27 +39,15 @@ NotMake (Call.Do c) = Unit {0}
 NotMake Call.Pop = Unit {0}
 NotMake (Call.Read r) = Unit {0}
 
--- The calls that `step` settles: not making, which has a rule of its own below, and not the holders, whose order is left open.
-abbrev pub Settled : Call → Type 0
-Settled (Call.Make z) = ⊥
-Settled (Call.Do c) = Unit {0}
-Settled Call.Pop = Unit {0}
-Settled (Call.Read (Reading.Permissions h)) = Unit {0}
-Settled (Call.Read (Reading.Refcount h from to)) = Unit {0}
-Settled (Call.Read (Reading.CoreMap h)) = Unit {0}
-Settled (Call.Read (Reading.Holders a)) = ⊥
-
--- `After t w c a t′ w′`: the call c on tables t and work area w is answered a, and leaves t′ and w′. But for the holders' order there is one answer, one t′
--- and one w′ (`after-unique`, crate laws).
+-- `After t w c a t′ w′`: the call c on tables t and work area w is answered a, and leaves t′ and w′. There is one answer, one t′ and one w′
+-- (`after-unique`, crate laws).
 pub data After (t w : List ℕ) : Call → Answer → List ℕ → List ℕ → Type 0 where
   -- making, on memory with any contents: 2, then 1 by the lengths alone
   made : (z : Sizes) → After t w (Call.Make z) (madeAnswer (makeIn (length t) (length w) z)) (madeTables t (makeIn (length t) (length w) z)) (zeroed w)
   -- any other call: "1 Memory, either length wrong or tables not sound"
   notSound : (c : Call) → NotMake c → ((s : State) → ¬ Lent t w s) → After t w c (Answer.no memory) t (zeroed w)
   -- on sound tables what the model says: on refusal the state, and so the tables, are as found
-  performed : (c : Call) (s : State) → Settled c → Lent t w s → After t w c (step s c .0) (words (step s c .1)) (zeroed w)
-  -- the holders' order is left open
-  held : (a : ℕ) (s : State) (l : List ℕ) → Lent t w s → IsHolders a s l → After t w (Call.Read (Reading.Holders a)) (Answer.yes (Value.domainList l)) t (zeroed w)
+  performed : (c : Call) (s : State) → NotMake c → Lent t w s → After t w c (step s c .0) (words (step s c .1)) (zeroed w)
 
 -- A reading whose list l is written into a lent run (**Reading**): "the answer is the whole number of records", which `values` has of the list, too; refused,
 -- the run is as found.

@@ -1,12 +1,11 @@
 -- The readings (document 01, **Reading**). They change nothing.
-use mathlib.Core.Path.{_≡_}
 use Prim.Native.Nat.{ℕ, _+_, max}
 use mathlib.Core.Bool.{Bool, _&&_}
 use mathlib.Core.List.{List, [], _∷_, map}
-use lib.Dec.{eqb, ltb}
+use lib.Dec.{ltb}
 use lib.ListN.{length}
 use Rattle.rights.specs.Rights.{READ, WRITE, EXEC, SUPER, UNCACHEABLE}
-use Rattle.model.specs.Lists.{if_then_else_, oneIf, isSome, countIf, keep, atSlot, countUp}
+use Rattle.model.specs.Lists.{if_then_else_, isSome, keep, atSlot, countUp}
 use Rattle.model.specs.Outcome.{Outcome, ok, _>>=_}
 use Rattle.model.specs.State.{State, Access, Counts, Record, Handle, domainAt}
 use Rattle.model.specs.Tracker.{meets}
@@ -58,11 +57,7 @@ coreMap h s = do
 abbrev pub isHolder : State → ℕ → ℕ → Bool
 isHolder s a d = isSome (atSlot (s .domains) d) && ltb 0 (storedCounts s d a .reach)
 
--- The holders' order is left open ("in any order"), so their list is given by its property: "each domain once", and no other.
-abbrev pub IsHolders : ℕ → State → List ℕ → Type 0
-IsHolders a s l = (d : ℕ) → countIf (eqb d) l ≡ oneIf (isHolder s a d)
-
--- One such list: all of them, by rising slot.
+-- "domain slot rising, each domain once" (document 02, [6]); `holders-once` and `holders-rise` (crate laws) say so of it.
 unfoldable pub holders : ℕ → State → List ℕ
 holders a s = keep (isHolder s a) (countUp 0 (length (s .domains)))
 

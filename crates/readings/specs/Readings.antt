@@ -1,5 +1,5 @@
 -- The readings of a domain's records (document 01, **Reading**), named as in the model's Readings and Tracker.
-use mathlib.Core.Bool.{Bool, not}
+use mathlib.Core.Bool.{Bool}
 use mathlib.Core.List.{List, [], _∷_, map}
 use Prim.Native.Nat.{ℕ, zero, suc, _+_, max}
 use lib.Dec.{eqb, ltb}
@@ -9,7 +9,6 @@ use Rattle.base.specs.Tests.{both}
 use Rattle.rights.specs.Rights.{READ, WRITE, EXEC, SUPER, UNCACHEABLE}
 use Rattle.tables.specs.declared.Region.{Region}
 use Rattle.tables.specs.Tables.{Tables, recordAt}
-use Rattle.arena.specs.Arena.{isFreeB}
 use Rattle.readings.specs.declared.Permission.{Permission}
 use Rattle.readings.specs.declared.Found.{Found}
 use Rattle.readings.specs.declared.Plan.{Plan}
@@ -66,21 +65,6 @@ abbrev pub planOf : Tables → ℕ → ℕ → Plan
 planOf s d room =
     let n = length (permissionList s d) in
     record { turns = pick (ltb n room) n room; at = firstLink s d; answer = n }
-
--- ---- the holders of address a
-
--- "live domains with reach above 0 there" (isHolder)
-unfoldable pub isHolder : Tables → ℕ → ℕ → Bool
-isHolder s a d = both (not (isFreeB (s .domainPool) d)) (ltb 0 (largestReach a (a + 1) (recordsOf s d)))
-
--- n domains from slot d on (holdersFrom)
-unfoldable pub holdersFrom : ℕ → Tables → ℕ → ℕ → List ℕ
-holdersFrom zero s a d = []
-holdersFrom (suc n) s a d = pick (isHolder s a d) (d ∷ holdersFrom n s a (suc d)) (holdersFrom n s a (suc d))
-
--- all, rising (holders)
-unfoldable pub holdersOf : Tables → ℕ → List ℕ
-holdersOf s a = holdersFrom (s .sizes .domains) s a 0
 
 -- ---- a lent run
 

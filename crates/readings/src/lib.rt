@@ -4,8 +4,7 @@ ghost use Prim.Native.Nat.{_+_, max};
 ghost use lib.ListN.{length};
 ghost use Rattle.base.specs.Cases.{pick};
 ghost use Rattle.tables.specs.View.{view, Sized};
-ghost use Rattle.arena.specs.Arena.{isFreeB};
-ghost use Rattle.readings.specs.Readings.{recordsOf, flagIf, rightsOf, meets, largestReach, permissionList, foundAt, planOf, isHolder, holdersOf, fillRun};
+ghost use Rattle.readings.specs.Readings.{recordsOf, flagIf, rightsOf, meets, largestReach, permissionList, foundAt, planOf};
 use rights::Rights;
 use tables::Region;
 use tracker_records::links;
@@ -70,7 +69,7 @@ fn reach_in(q: Region, start: u64, last: u64) -> u64
 }
 
 // The largest such reach in domain d.
-fn largest_reach(t: &[u64], d: usize, start: u64, last: u64) -> u64
+pub fn largest_reach(t: &[u64], d: usize, start: u64, last: u64) -> u64
     requires { ⌜ Sized (now t) ⌝ }
     ensures { λ r. ⌜ r ≡ largestReach start (last + 1) (recordsOf (view (now (t .entry))) d) ⌝ }
 {
@@ -148,34 +147,4 @@ pub fn found_at(t: &[u64], k: u64) -> Found
         rights: get_ops(q),
     };
     Found { p, next: q.next }
-}
-
-// ---- The holders of an address
-
-// Whether domain d is in use and has reach above 0 at a.
-fn is_holder(t: &[u64], d: usize, a: u64) -> bool
-    requires { ⌜ Sized (now t) ⌝ }
-    ensures { λ r. ⌜ r ≡ isHolder (view (now (t .entry))) a d ⌝ }
-{
-    words::both(!pools::domain_is_free(t, d), 0 < largest_reach(t, d, a, a))
-}
-
-// The slots of the domains with reach above 0 at a into a lent run, rising; the answer is their number.
-pub fn holders(t: &[u64], a: u64, run: &mut [u64]) -> u64
-    requires { ⌜ Sized (now t) ⌝ }
-    ensures { λ r. ⌜ r ≡ length (holdersOf (view (now (t .entry))) a) ⌝ }
-    ensures { λ _. ⌜ now (run .exit) ≡ fillRun (holdersOf (view (now (t .entry))) a) (now (run .entry)) ⌝ }
-{
-    let mut left = words::size(t, sizes::DOMAINS);
-    let mut n: usize = 0;
-    let mut d: usize = 0;
-    while 0 < left {
-        if is_holder(t, d, a) {
-            words::put(run, n, d as u64);
-            n += 1;
-        }
-        d += 1;
-        left -= 1;
-    }
-    n as u64
 }

@@ -172,7 +172,7 @@ fn run_holders(t: &[u64], a: u64)
     requires { ⌜ Sized (now t) ⌝ }
 {
     let mut run = [0u64; 32];
-    let n = readings::holders(t, a, &mut run);
+    let n = holders::holders(t, a, &mut run);
     output::number(0);
     output::number(n);
     output::slots(&run, n);

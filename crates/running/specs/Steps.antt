@@ -10,7 +10,7 @@ use Rattle.refusals.specs.Refusals.{number, badRecord}
 use Rattle.model.specs.Lists.{Each, if_then_else_}
 use Rattle.model.specs.Perform.{Call, Answer}
 use Rattle.model.specs.CallWords.{CallWords}
-use Rattle.model.specs.Memory.{After, made, notSound, performed, held, zeroed}
+use Rattle.model.specs.Memory.{After, made, notSound, performed, zeroed}
 use Rattle.book.specs.Lent.{Chain}
 use Rattle.script_records.specs.declared.Record.{Record}
 use Rattle.script_records.specs.declared.Parsed.the-variants as found
@@ -39,7 +39,6 @@ after-clear : (t w : List ℕ) (c : Call) (y : Answer) (t₂ w₂ : List ℕ) �
 after-clear t w c y t₂ w₂ (made z) = refl
 after-clear t w c y t₂ w₂ (notSound d q n) = refl
 after-clear t w c y t₂ w₂ (performed d s q l) = refl
-after-clear t w c y t₂ w₂ (held a s l k i) = refl
 
 zeroed-twice : (w : List ℕ) → zeroed (zeroed w) ≡ zeroed w
 zeroed-twice w = ap (λ (n : ℕ). replicate n 0) (length-replicate (length w) 0)

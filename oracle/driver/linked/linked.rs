@@ -124,14 +124,15 @@ impl Both {
             self.words = self.tables.words();
         }
         if linked {
-            fill(&mut self.random, &mut self.work);
-            let places = runs::places(&mut self.random, &answer);
-            let mut run = Lent::new(places, self.at_end);
-            fill(&mut self.random, &mut run);
-            let before = run.to_vec();
-            let got = exported::perform(&mut self.lent, &mut self.work, call, &mut run);
-            self.check("", got, expected(call, &answer))?;
-            runs::check(&answer, &before, &run)?;
+            for places in runs::places(&mut self.random, &answer) {
+                fill(&mut self.random, &mut self.work);
+                let mut run = Lent::new(places, self.at_end);
+                fill(&mut self.random, &mut run);
+                let before = run.to_vec();
+                let got = exported::perform(&mut self.lent, &mut self.work, call, &mut run);
+                self.check("", got, expected(call, &answer))?;
+                runs::check(&answer, &before, &run)?;
+            }
         }
         Ok(answer)
     }

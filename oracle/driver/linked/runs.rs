@@ -4,43 +4,29 @@ use shared::calls::{Answer, Reply};
 
 use driver::random::Random;
 
-/// How many words are lent for the list of this answer: none, too few, enough, more.
-pub fn places(random: &mut Random, answer: &Answer) -> usize {
-    let whole = match answer {
-        Ok(Reply::Permissions(l)) => 3 * l.len(),
-        Ok(Reply::Holders(l)) => l.len(),
-        _ => 0,
+/// How many words are lent for the list of this answer, one run after the other: none, room for one record, for all but one, for all, for one
+/// more, and any number. For an answer with no list one run.
+pub fn places(random: &mut Random, answer: &Answer) -> Vec<usize> {
+    let (records, width) = match answer {
+        Ok(Reply::Permissions(l)) => (l.len(), 3),
+        Ok(Reply::Holders(l)) => (l.len(), 1),
+        _ => return vec![random.below(9) as usize],
     };
-    match random.below(4) {
-        0 => random.below(whole as u64 + 1) as usize,
-        1 => whole,
-        _ => whole + random.below(9) as usize,
-    }
+    let edges = [0, 1, records.saturating_sub(1), records, records + 1].map(|n| width * n);
+    let any = random.below((width * records) as u64 + 9) as usize;
+    edges.into_iter().chain([any]).collect()
 }
 
 /// Is the run what the answer says, and untouched behind it?
 pub fn check(answer: &Answer, before: &[u64], after: &[u64]) -> Result<(), String> {
-    let written = match answer {
-        Ok(Reply::Permissions(l)) => {
-            let words: Vec<u64> = l.iter().flat_map(|a| [a.start, a.end, u64::from(a.rights)]).collect();
-            let written = words.len().min(after.len() / 3 * 3);
-            if after[..written] != words[..written] {
-                return Err(format!("the run holds {:?}, expected {words:?}", &after[..written]));
-            }
-            written
-        }
-        Ok(Reply::Holders(l)) => {
-            // Any order, each once.
-            let written = l.len().min(after.len());
-            let mut found = after[..written].to_vec();
-            found.sort_unstable();
-            found.dedup();
-            if found.len() != written || !found.iter().all(|d| l.contains(d)) {
-                return Err(format!("the run holds {:?}, expected holders {l:?}", &after[..written]));
-            }
-            written
-        }
-        _ => 0,
+    let (words, width) = match answer {
+        Ok(Reply::Permissions(l)) => (l.iter().flat_map(|a| [a.start, a.end, u64::from(a.rights)]).collect(), 3),
+        Ok(Reply::Holders(l)) => (l.clone(), 1),
+        _ => (Vec::new(), 1),
     };
+    let written = words.len().min(after.len() / width * width);
+    if after[..written] != words[..written] {
+        return Err(format!("the run holds {:?}, expected {words:?}", &after[..written]));
+    }
     (after[written..] == before[written..]).then_some(()).ok_or("the run changed behind what was written".to_string())
 }

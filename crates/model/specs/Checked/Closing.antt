@@ -21,17 +21,17 @@ abbrev again : ℕ → Handle
 again d = record { slot = d; generation = 1 }
 
 -- a domain under domain d, with a core map; region calls of domain d
-abbrev under : ℕ → ℕ → Call
+abbrev pub under : ℕ → ℕ → Call
 under d cores = Call.Do (Step.Open (some (dom d)) cores)
 
-abbrev alias : ℕ → ℕ → ℕ → ℕ → ℕ → Call
+abbrev pub alias : ℕ → ℕ → ℕ → ℕ → ℕ → Call
 alias d l s e r = Call.Do (Step.Alias (dom d) l (access s e r))
 
 abbrev carve : ℕ → ℕ → ℕ → ℕ → ℕ → Call
 carve d l s e r = Call.Do (Step.Carve (dom d) l (access s e r))
 
 -- domain d sends slot l to the domain that its slot t names
-abbrev send : ℕ → ℕ → ℕ → Call
+abbrev pub send : ℕ → ℕ → ℕ → Call
 send d l t = Call.Do (Step.Send (dom d) l t noOptions)
 
 -- what was queued is popped

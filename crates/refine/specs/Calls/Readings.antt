@@ -30,7 +30,9 @@ use Rattle.arena.specs.Arena.{isFreeB}
 use Rattle.tracker_records.specs.Links.{firstLink}
 use Rattle.readings.specs.declared.Permission.{Permission}
 use Rattle.readings.specs.Readings as readings
-use Rattle.readings.specs.Readings.{recordsFrom, recordsOf, permissionList, holdersOf}
+use Rattle.readings.specs.Readings.{recordsFrom, recordsOf, permissionList}
+use Rattle.holders.specs.Holders as holders
+use Rattle.holders.specs.Holders.{holdersOf}
 use Rattle.decoded.specs.Rows.{getD-up}
 use Rattle.decoded.specs.Free.{used-not-free}
 use Rattle.decoded.specs.Tables.{poolOf, recordFor, recordIn, recordsFor, tablesOf}
@@ -163,8 +165,8 @@ module _ (s : State) (sound : Sound s) where
     holder-from d none e = refl
     holder-from d (some x) e = ap (ltb 0) (refcount-is d x e a (a + 1) ∙ reach-at a 0 (x .tracker) (sound .tracked .trackers d x e .rising))
 
-    holder-is : (d : ℕ) (o : Option state.Domain) → d < s .sizes .domains → atSlot (s .domains) d ≡ o → readings.isHolder (tablesOf s) a d ≡ holder o
-    unfolding readings.isHolder tablesOf
+    holder-is : (d : ℕ) (o : Option state.Domain) → d < s .sizes .domains → atSlot (s .domains) d ≡ o → holders.isHolder (tablesOf s) a d ≡ holder o
+    unfolding holders.isHolder tablesOf
     holder-is d o l e =
         let u = used-is (s .sizes .domains) (s .domains) (s .domainPool) (sound .outside .domainPool) d l ∙ ap isSome e in
         ap (λ (b : Bool). both b (ltb 0 (readings.largestReach a (a + 1) (recordsOf (tablesOf s) d)))) u ∙ holder-from d o e
@@ -175,18 +177,18 @@ module _ (s : State) (sound : Sound s) where
     holder-same (some x) = refl
 
     -- n slots from d on
-    holders-from : (n d : ℕ) → d + n ≤ s .sizes .domains → readings.holdersFrom n (tablesOf s) a d ≡ keep (model.isHolder s a) (countUp d n)
-    unfolding readings.holdersFrom
+    holders-from : (n d : ℕ) → d + n ≤ s .sizes .domains → holders.holdersFrom n (tablesOf s) a d ≡ keep (model.isHolder s a) (countUp d n)
+    unfolding holders.holdersFrom
     holders-from zero d b = refl
     holders-from (suc n) d b =
-        let t : readings.isHolder (tablesOf s) a d ≡ model.isHolder s a d = holder-is d (atSlot (s .domains) d) (omega arith) refl ∙ holder-same (atSlot (s .domains) d) in
+        let t : holders.isHolder (tablesOf s) a d ≡ model.isHolder s a d = holder-is d (atSlot (s .domains) d) (omega arith) refl ∙ holder-same (atSlot (s .domains) d) in
         let r = holders-from n (suc d) (omega arith) in
         (λ i. pick (t i) (d ∷ r i) (r i)) ∙ pick-if (model.isHolder s a d) _ _
 
     pub holders-are : holdersOf (tablesOf s) a ≡ model.holders a s
     unfolding holdersOf model.holders tablesOf
     holders-are =
-        ap (λ (n : ℕ). readings.holdersFrom n (tablesOf s) a 0) (sym (sound .outside .domainsLength))
+        ap (λ (n : ℕ). holders.holdersFrom n (tablesOf s) a 0) (sym (sound .outside .domainsLength))
         ∙ holders-from (length (s .domains)) 0 (omega (arith, sound .outside .domainsLength))
 
 -- ---- a lent run

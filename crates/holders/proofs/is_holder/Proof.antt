@@ -1,8 +1,8 @@
 -- Both tests.
-use Rattle.readings.specs.Readings.{isHolder}
+use Rattle.holders.specs.Holders.{isHolder}
 use borrow.Author.Needs.{needs}
-use Rattle.readings.proofs.is_holder.Statement.{statement}
-use Rattle.readings.proofs.is_holder.Tie as tie
+use Rattle.holders.proofs.is_holder.Statement.{statement}
+use Rattle.holders.proofs.is_holder.Tie as tie
 
 domain-is-free-requires : tie.Need-domain-is-free-requires
 domain-is-free-requires c κs = search needs

@@ -1,6 +1,6 @@
 -- The run and the number so far and the holders from here on are the whole.
 use Prim.Native.Nat.{_+_, _≤_}
-use Rattle.readings.proofs.Runs.{Filling, filling-start, filling-end, filling-one, filling-other, holders-start}
+use Rattle.holders.proofs.Filling.{Filling, filling-start, filling-end, filling-one, filling-other, holders-start}
 use Rattle.tables.specs.View.{view}
 use Rattle.sizes.specs.Sizes.{sizesOf}
 use borrow.Author.Needs.{needs}
@@ -8,8 +8,8 @@ use lib.ListN.{length, length-set}
 use mathlib.Core.Logic.{⊎-elim}
 use mathlib.Core.Path.{_≡_, refl, sym, _∙_}
 use native.Mathlib.Omega.{arith}
-use Rattle.readings.proofs.holders.Statement.{statement}
-use Rattle.readings.proofs.holders.Tie as tie
+use Rattle.holders.proofs.holders.Statement.{statement}
+use Rattle.holders.proofs.holders.Tie as tie
 
 abbrev Inv-loop : tie.InvT-loop
 Inv-loop t a run₀ left₀ n₀ d₀ run left n d = (n ≤ d) × (d + left ≡ left₀) × (length run ≡ length run₀) × Filling (view t) a left n d run left₀ run₀
