@@ -1,6 +1,7 @@
 //! Runs the lists whose answers were written from the documents alone: documents.txt for request 1, interface.txt for request 2, marks.txt for
-//! request 4, closing.txt for request 5. Behind `# region` stand a region's rights and hash after the call above, behind `# domain` a domain's word
-//! and its freeze, or its slot's generation and whether that is free, behind `# place` the marks' word of a place of the ring.
+//! request 4, closing.txt for request 5, holders.txt for request 6. Behind `# region` stand a region's rights and hash after the call above, behind
+//! `# domain` a domain's word and its freeze, or its slot's generation and whether that is free, behind `# place` the marks' word of a place of the
+//! ring.
 
 use crate::check_convert::carries_over;
 use crate::check_marks::Writer;
@@ -10,11 +11,12 @@ use shared::calls::{hash_word, show, Call, Handle};
 use shared::lists::parse;
 use shared::tables;
 
-const FILES: [(&str, &str); 4] = [
+const FILES: [(&str, &str); 5] = [
     ("documents.txt", include_str!("documents.txt")),
     ("interface.txt", include_str!("interface.txt")),
     ("marks.txt", include_str!("marks.txt")),
     ("closing.txt", include_str!("closing.txt")),
+    ("holders.txt", include_str!("holders.txt")),
 ];
 
 /// Every call answered as written, every entry as written, and the tables sound after each call.

@@ -127,14 +127,21 @@ pub enum Fault {
     GenerationKept,
     InterfaceStays,
     CloseSparesAliases,
+    // Document 02, request 6.
+    HoldersFalling,
+    HoldersByOpening,
+    HolderPerRegion,
+    HolderAtEnd,
+    HolderNeedsRights,
+    // Document 02, request 5, and told apart by no list.
     DeadManagementNotCarried,
 }
 
 use Fault::*;
 
 /// All, and those that a list of calls can tell apart: all but the last, since no call leaves a dead Management capability.
-const FAULTS: usize = 122;
-const LISTED: usize = 121;
+const FAULTS: usize = 127;
+const LISTED: usize = 126;
 
 /// Each fault with the words of the list of wrong ports, in the order of the enum.
 const NAMES: [(Fault, &str); FAULTS] = [
@@ -259,6 +266,11 @@ const NAMES: [(Fault, &str); FAULTS] = [
     (GenerationKept, "a closed domain's generation stays"),
     (InterfaceStays, "a closed domain's word and freeze stay for the next in its slot"),
     (CloseSparesAliases, "a close leaves aliases alive"),
+    (HoldersFalling, "holders in falling order of their slots"),
+    (HoldersByOpening, "holders in the order in which they were opened"),
+    (HolderPerRegion, "a holder listed as often as it reaches the address"),
+    (HolderAtEnd, "the end of a range held, too"),
+    (HolderNeedsRights, "holders without a right there left out"),
     (DeadManagementNotCarried, "a revoke of a closed domain's Management gives 10"),
 ];
 

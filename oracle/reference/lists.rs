@@ -81,6 +81,8 @@ pub struct Lists {
     pub left_marks: BTreeMap<usize, u64>,
     /// Fault only: the words of closed domains, by slot.
     pub left_interfaces: BTreeMap<usize, Interface>,
+    /// Fault only: domain slots in the order in which they were opened last.
+    pub opened: Vec<usize>,
 }
 
 /// Arenas: fresh slots go 0, 1, 2.
@@ -118,6 +120,7 @@ impl Lists {
             left: BTreeMap::new(),
             left_marks: BTreeMap::new(),
             left_interfaces: BTreeMap::new(),
+            opened: Vec::new(),
         }
     }
 }

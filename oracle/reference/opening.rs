@@ -29,6 +29,7 @@ impl Engine {
         let interface = self.first_interface(d, manager);
         let domain = Domain { manager, cores, interface, held: vec![None; slots], free: fresh(slots), tracker: Vec::new() };
         self.lists.domains[d] = Some(Arc::new(domain));
+        self.remember_opened(d);
         if let Some(m) = manager {
             self.give_slot(m, Capa::Management(handle));
         }

@@ -1,4 +1,4 @@
-//! Document 01's readings: core map, permission list, counts and holders.
+//! Document 01's readings: core map, permission list and counts. The holders are in holders.rs.
 
 use crate::lists::{listed_rights, UNCACHEABLE};
 use crate::seen::Branch;
@@ -34,16 +34,6 @@ impl Engine {
         self.seen.note_if(a == b && largest > 0, Branch::CountInside);
         self.seen.note_if(a > b, Branch::CountBackward);
         Ok(Reply::Number(largest))
-    }
-
-    /// Live domains with reach above 0 at the address, slots rising.
-    pub fn holders(&self, address: u64) -> Answer {
-        let held = |d: &usize| match &self.lists.domains[*d] {
-            Some(domain) => domain.tracker.iter().any(|r| r.start <= address && address < r.end),
-            None => false,
-        };
-        let domains = (0..self.sizes.domains).filter(held);
-        Ok(Reply::Holders(domains.map(|d| d as u64).collect()))
     }
 
     /// The permission list with touching records of equal rights joined.

@@ -1,5 +1,5 @@
 //! Document 01's calls over plain lists and stacks, and document 02's requests 1 (flags and hashes at send), 2 (each domain's word), 4 (which rights
-//! moved) and 5 (closing a domain). A wrong port can be put in as a fault.
+//! moved), 5 (closing a domain) and 6 (the holders' order). A wrong port can be put in as a fault.
 
 mod branches;
 mod closing;
@@ -7,6 +7,7 @@ mod convert;
 mod entries;
 mod faults;
 mod flags;
+mod holders;
 mod interface;
 mod lists;
 mod marks;
