@@ -14,7 +14,7 @@ pub fn call(random: &mut Random, tables: &Tables, domain: Handle) -> Call {
     // A stale handle to a word that may be frozen.
     let domain = Handle { gen: domain.gen.wrapping_add(u64::from(random.one_in(20))), ..domain };
     let lacking = found.is_some_and(|d| d.interface & ALL != ALL);
-    // A word that lacks a bit is mostly left open, so that few lists answer 20 from then on.
+    // A word that lacks a bit is mostly not frozen, so that few lists answer 20 from then on.
     if random.one_in(16) && (!lacking || random.one_in(4)) {
         return Call::FreezeInterface { domain };
     }

@@ -1,5 +1,5 @@
 -- The pieces that a walk makes. Invariant: a piece reads as one range with one set of counts, and rises inside that range.
--- The two cuts of a record are proved once, for gain and loss, with what stands between them left open.
+-- The two cuts of a record are proved once, for gain and loss, whatever stands between them.
 use mathlib.Core.Path.{_≡_, refl, sym, ap₂, _∙_}
 use Prim.Native.Nat.{ℕ, _≤_, min, max}
 use mathlib.Core.Bool.{not}
