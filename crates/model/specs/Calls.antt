@@ -90,8 +90,8 @@ openDomain (some h) cores s = do
   (l, s₃) ← insertCapa m (management (handleOf (s₂ .domainPool) i)) s₂
   ok (handleOf (s₃ .domainPool) i, s₃)
 
--- "open a channel (a Channel capability to a domain, put in another's list or its own; platform only)". Here and below a call that
--- gives a slot answers the local slot.
+-- "open a channel (a Channel capability to a domain, put in another's list or its own; platform only)": to domain k, in h's list. Here and below a
+-- call that gives a slot answers the local slot.
 unfoldable pub openChannel : Handle → Handle → State → Outcome (ℕ × State)
 openChannel h k s = do
   d ← liveDomain s h  -- 3
@@ -227,7 +227,7 @@ revokeCapa (regionRevoke h) s = if isLive (s .regionPool) (s .regions) h then re
 revokeCapa (management h) s = closeManaged h s  -- 3, 22, 23, then 13, 14, 16
 revokeCapa (channel h) s = ok s
 
--- **Revoke** (`revoke`).
+-- **Revoke** (`revoke`). The caller is live still when its slot is emptied: no domain closes itself (`caller-stays`, crate laws).
 unfoldable pub revoke : Handle → ℕ → State → Outcome State
 revoke h l s = do
   d ← liveDomain s h  -- 3

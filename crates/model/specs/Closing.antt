@@ -21,11 +21,11 @@ abbrev pub closesWith : List (Option Domain) → ℕ → ℕ → ℕ → Bool
 closesWith ds zero d e = eqb e d
 closesWith ds (suc n) d e = eqb e d || elim (atSlot ds e) [ none ↦ false | some x ↦ elim (x .manager) [ none ↦ false | some m ↦ closesWith ds n d m ] ]
 
--- no domain has more managers above it than there are domains
+-- The same, with a limit that is never met: no domain has more managers above it than there are domains.
 abbrev pub isClosed : State → ℕ → ℕ → Bool
 isClosed s d e = closesWith (s .domains) (s .sizes .domains) d e
 
--- 22: a live root of a domain to be closed. The domain that owns a live region holds it in its list.
+-- 22: a live root whose owner is to be closed; in sound tables who owns a region holds it.
 abbrev pub rootToClose : State → ℕ → Option Region → Bool
 rootToClose s d none = false
 rootToClose s d (some g) = isRootKind (g .kind) && isClosed s d (g .owner)
@@ -57,15 +57,15 @@ unfoldable pub revokeSlots : (Option Capa → State → Outcome State) → List 
 revokeSlots f [] s = ok s
 revokeSlots f (c ∷ cs) s = f c s >>= λ s₁. revokeSlots f cs s₁
 
--- "last in its turn its slot is freed, its generation raised" (16). The record goes with its slot list, which "is as a making leaves it"; its tracker is
--- empty by then (`idle`, crate laws).
+-- "last in its turn its slot is freed, its generation raised" (16). Nothing of the domain stays: its slot list "is as a making leaves it", its tracker is
+-- empty by then (`idle`, crate laws). The queue is not looked at: an update of the domain stays there, by the old generation.
 unfoldable pub freeDomain : ℕ → State → Outcome State
 freeDomain d s = do
   p ← free d (s .domainPool)
   ok (withDomains p (set (s .domains) d none) s)
 
--- A domain below stands one step further from the domain that the call closes, so that from the number of live domains on the first equation is never
--- reached (`close-sound`, crate laws). No step of a close changes the list that is gone through (`still-there`, crate laws).
+-- The turn of domain d: its slots, as they are when it begins, which no step of it changes (`still-there`, crate laws); then its own slot is freed. n limits
+-- the depth: calls give the number of live domains, so that the first equation is never reached (`close-sound`, crate laws).
 unfoldable pub closeDomain : ℕ → List ℕ → ℕ → State → Outcome State
 closeDomain zero closing d s = ok s
 closeDomain (suc n) closing d s = do

@@ -35,7 +35,7 @@ passes Field.Super r = has r SUPER
 abbrev pub counter : Field → ℕ → ℕ
 counter f r = oneIf (passes f r)
 
--- Counts with n f in each field f, and the uncacheable count u.
+-- Counts with n f in each field f, and the uncacheable count u. (`Each`, of Lists, is a fact about a list.)
 abbrev pub each : (Field → ℕ) → ℕ → Counts
 each n u = record { reach = n Field.Reach; read = n Field.Read; write = n Field.Write; exec = n Field.Exec; super = n Field.Super; uncacheable = u }
 

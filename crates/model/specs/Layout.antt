@@ -1,5 +1,5 @@
--- The words of the tables (docs/TABLES.md): section by section, in its order. The state settles every word, and for sound states the words settle the
--- state (`words-unique`, crate laws).
+-- The words of the tables, section by section. docs/TABLES.md has the same as tables, with one written out: read it first. The state settles every word, and
+-- for sound states the words settle the state (`words-unique`, crate laws).
 -- D domains, S slots in each domain's list, R regions, T tracker records, U updates; slot numbers count from 0.
 use Prim.Native.Nat.{ℕ, suc, _+_, _-_, _*_, _%_}
 use mathlib.Core.Option.{Option, none, some, Option·getD}

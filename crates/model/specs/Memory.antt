@@ -32,7 +32,7 @@ abbrev pub madeTables : List ℕ → Outcome State → List ℕ
 madeTables t (ok s) = words s
 madeTables t (refuse r) = t
 
--- Every call but making is on tables that are there.
+-- The call is no making.
 abbrev pub NotMake : Call → Type 0
 NotMake (Call.Make z) = ⊥
 NotMake (Call.Do c) = Unit {0}
@@ -49,8 +49,8 @@ pub data After (t w : List ℕ) : Call → Answer → List ℕ → List ℕ → 
   -- on sound tables what the model says: on refusal the state, and so the tables, are as found
   performed : (c : Call) (s : State) → NotMake c → Lent t w s → After t w c (step s c .0) (words (step s c .1)) (zeroed w)
 
--- A reading whose list l is written into a lent run (**Reading**): "the answer is the whole number of records", which `values` has of the list, too; refused,
--- the run is as found.
+-- A reading whose list is written into a lent run (**Reading**): accepted, the run holds the list's first elements, and the answer is the list's length ("the
+-- whole number of records"); refused, the run is as found.
 pub data Filled {A : Type 0} (t w : List ℕ) (c : Call) (reply : List A → Value) (run : List A) : Answer → List ℕ → List ℕ → List A → Type 0 where
   filled : (l : List A) (t′ w′ : List ℕ) → After t w c (Answer.yes (reply l)) t′ w′ → Filled t w c reply run (Answer.yes (Value.number (length l))) t′ w′ (fillRun l run)
   untouched : (r : Refusal) (t′ w′ : List ℕ) → After t w c (Answer.no r) t′ w′ → Filled t w c reply run (Answer.no r) t′ w′ run

@@ -60,7 +60,7 @@ pub data Answer : Type 0 where
   yes : Value → Answer
   no : Refusal → Answer
 
--- What an exported call returns (Replies.antt of crate frame) has document 01's number of the answer: the refusal's, or 0 for an accepted call.
+-- What an exported call returns (Replies.antt of crate replies) has document 01's number of the answer: the refusal's, or 0 for an accepted call.
 abbrev pub code : Answer → ℕ
 code (Answer.yes r) = 0
 code (Answer.no r) = Refusals.number r
@@ -77,7 +77,7 @@ values (domainList l) = length l ∷ []
 
 -- ---- one call
 
--- A call's outcome as a reply, with the state that it leaves.
+-- A call's outcome, with what it answers as a value.
 abbrev answer : {A : Type 0} → (A → Value) → Outcome (A × State) → Outcome (Value × State)
 answer f m = m >>= λ (a, s). ok (f a, s)
 
@@ -85,7 +85,7 @@ answer f m = m >>= λ (a, s). ok (f a, s)
 abbrev silent : Outcome State → Outcome (Value × State)
 silent m = m >>= λ s. ok (done, s)
 
--- What a step does: the reply and the new state, or the refusal.
+-- What a step does: the value and the new state, or the refusal.
 unfoldable pub performStep : State → Step → Outcome (Value × State)
 performStep s (Open m cores) = answer domain (openDomain m cores s)
 performStep s (Channel h to) = answer local (openChannel h to s)
@@ -106,7 +106,7 @@ readTables s (Refcount h from to) = getRefcount h from to s >>= λ n. ok (number
 readTables s (CoreMap h) = coreMap h s >>= λ n. ok (number n)
 readTables s (Holders a) = ok (domainList (holders a s))
 
--- What a call does: the reply and the new state, or the refusal. A making is in the memory that holds s, so that it gives 1 unless the new
+-- What a call does: the value and the new state, or the refusal. A making is in the memory that holds s, so that it gives 1 unless the new
 -- sizes need as many words; after a reading the state is as it was.
 unfoldable pub perform : State → Call → Outcome (Value × State)
 perform s (Make z) = let n = lengthFor (s .sizes) in silent (makeIn n n z)

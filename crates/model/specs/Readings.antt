@@ -57,7 +57,7 @@ coreMap h s = do
 abbrev pub isHolder : State → ℕ → ℕ → Bool
 isHolder s a d = isSome (atSlot (s .domains) d) && ltb 0 (storedCounts s d a .reach)
 
--- "domain slot rising, each domain once" (document 02, [6]); `holders-once` and `holders-rise` (crate laws) say so of it.
+-- "domain slot rising, each domain once" (document 02, request 6); `holders-once` and `holders-rise` (crate laws) say so of it.
 unfoldable pub holders : ℕ → State → List ℕ
 holders a s = keep (isHolder s a) (countUp 0 (length (s .domains)))
 

@@ -19,7 +19,9 @@ use Rattle.model.specs.Tree.{Range, accessOf, removeChild, effectiveRang
 -- A domain's new tracker and the record pool are put back; a change, that is any mark, queues the domain (**Update ring**). Document 02, request 5: a closing
 -- domain's "tracker then gains and loses as in any revoke, but queues nothing"; an update of it that is queued already gathers nothing either.
 unfoldable pub putWalk : List ℕ → ℕ → Walk → State → Outcome State
-putWalk closing d w s = let s₁ = withRecordPool (w .pool) (putDomain d (withTracker (w .records) (domainAt s d)) s) in if exists (eqb d) closing || eqb (w .marks) 0 then ok s₁ else pushPermission d (w .marks) s₁
+putWalk closing d w s =
+    let s₁ = withRecordPool (w .pool) (putDomain d (withTracker (w .records) (domainAt s d)) s) in
+    if exists (eqb d) closing || eqb (w .marks) 0 then ok s₁ else pushPermission d (w .marks) s₁
 
 -- Domain d gains, or loses, a range with its rights (`activate_region`, `deactivate_region`).
 unfoldable pub activate : List ℕ → ℕ → Access → State → Outcome State

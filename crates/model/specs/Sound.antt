@@ -1,5 +1,5 @@
--- **Sound** (document 01, "Memory and who can be refused"): one named fact for each clause of that paragraph. Each record below is about the
--- tables that it names, and about nothing else.
+-- **Sound** (document 01, "Memory and who can be refused"): one named fact for each clause of that paragraph; a fact about a part of the state has its name
+-- (`domainPool`). Each record below is about the tables that it names, and about nothing else. The last three say which are asked of what: read them first.
 use mathlib.Core.Path.{_≡_}
 use mathlib.Core.Logic.{_≢_}
 use Prim.Native.Nat.{ℕ, _+_, _≤_, _<_}
@@ -53,7 +53,7 @@ abbrev pub Ordered : List ℕ → Type 0
 Ordered [] = Unit {0}
 Ordered (x ∷ l) = Each (λ y. x ≤ y) l × Ordered l
 
--- Is this the slot that is named, if one is?
+-- Is p the slot that is named? `none` names no slot.
 abbrev pub names : Option ℕ → ℕ → Bool
 names none p = false
 names (some q) p = eqb q p
@@ -159,7 +159,7 @@ Merged [] = Unit {0}
 Merged (q ∷ []) = Unit {0}
 Merged (q ∷ n ∷ l) = T (not (mergeable q n)) × Merged (n ∷ l)
 
--- The tracker of domain d: "each tracker record is on one list" stands with the record pool. That a record's numbers are words follows from the regions'.
+-- The tracker of domain d. That "each tracker record is on one list" stands with the record pool; that a record's numbers are words follows from the regions'.
 pub record TrackerSound (regions : List (Option Region)) (d : ℕ) (l : List Record) : Type 0 where
   -- "ordered, nonempty", "fully merged", "with reach above 0"
   pub rising : Rising 0 l
@@ -185,7 +185,7 @@ Singly [] = Unit {0}
 Singly (permission h cores marks ∷ us) = (countIf (isPermissionOf h) us ≡ 0) × Singly us
 Singly (cleanup a b ∷ us) = Singly us
 
--- what is stored are words, and the marks five bits (document 02, request 4)
+-- what is stored are words (the handle's by `handlesFit` already), and the marks five bits (document 02, request 4)
 abbrev pub UpdateWords : Update → Type 0
 UpdateWords (permission h cores marks) = Word (h .slot) × Word (h .generation) × Word cores × (marks < 32)
 UpdateWords (cleanup a b) = Word a × Word b

@@ -29,7 +29,8 @@ pub record Pool : Type 0 where
   pub gens : List ℕ
   pub free : List ℕ
 
--- What a slot in use of a domain's capability list holds (`Capa`); `noCapa` is `Capa::None`.
+-- What a slot in use of a domain's list holds (`Capa`): a region that the domain owns; one that it may revoke; a domain that it manages, and may send to and
+-- close; a domain that it may send to. `noCapa` is `Capa::None`: what a revoke leaves in the slot, until a sweep frees it.
 pub data Capa : Type 0 where
   noCapa : Capa
   region : Handle → Capa
@@ -42,7 +43,7 @@ pub record LocalList : Type 0 where
   pub held : List (Option Capa)
   pub free : List ℕ
 
--- **Tracker**: reach, four right counts and the uncacheable count of a record.
+-- **Tracker**: reach, four right counts and the uncacheable count of a record; what they count: Counts.antt.
 pub record Counts : Type 0 where
   pub reach : ℕ
   pub read : ℕ
@@ -85,7 +86,7 @@ pub record Domain : Type 0 where
   pub tracker : List Record
   pub interface : Interface
 
--- The parent's slot stands in the kind (`RegionKind`).
+-- Given by the platform; shared with the parent; taken out of the parent. The parent's slot stands in the kind (`RegionKind`).
 pub data Kind : Type 0 where
   Root : Kind
   Alias : ℕ → Kind
@@ -188,7 +189,7 @@ withRightsHash n x r = record { owner = r .owner; kind = r .kind; start = r .sta
 abbrev pub withChildren : List ℕ → Region → Region
 withChildren c r = record { owner = r .owner; kind = r .kind; start = r .start; end = r .end; rights = r .rights; children = c; hash = r .hash }
 
--- ---- a domain and a region by slot number; in sound tables the fallbacks are never met
+-- ---- a domain and a region by slot number; in sound tables the fallbacks change nothing: `closesRunning` meets them, and a free slot has no core map
 
 abbrev pub noneDomain : Domain
 noneDomain = record { manager = none; cores = 0; locals = record { held = []; free = [] }; tracker = []; interface = record { word = 0; frozen = false } }

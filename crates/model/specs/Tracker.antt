@@ -1,5 +1,7 @@
--- **Tracker** (document 01; `RegionTracker`). Records rise; both walks go from left to right and take and free record slots on the way.
--- A range is named by two addresses, from .. up to but not including to, and r is its rights.
+-- **Tracker** (document 01; `RegionTracker`). Records rise; both walks go from left to right and take and free record slots on the way. A range is named by
+-- two addresses, `from` and, not included, `to`; r is its rights. Proved in crate laws: what `gain` and `lose` make of the counts at each address
+-- (`gain-count`, `lose-count`), and that they mark exactly the counts that came to or left 0 (`gain-marks`, `lose-marks`). So who does not ask which record
+-- slot is taken, or when 13 comes, reads down to `Walk`, then `mergeable`.
 use Prim.Native.Nat.{ℕ, _+_, _-_, min, max}
 use mathlib.Core.Bool.{Bool, not, _&&_}
 use mathlib.Core.List.{List, [], _∷_, _++_}
@@ -66,7 +68,7 @@ cutBefore from q p = if ltb (q .start) from then (splitAt from q p >>= λ (l, r,
 unfoldable pub cutAfter : ℕ → Record → Pool → Outcome (Record × List Record × Pool)
 cutAfter to q p = if ltb to (q .end) then (splitAt to q p >>= λ (l, r, p₁). ok (l, r ∷ [], p₁)) else ok (q, [], p)
 
--- Does q end after `from` and start before `to`? For a range that is not empty: is there an address that both hold? Touching ranges hold none.
+-- Have q and the range an address in common? Touching ranges have none. (Of a range that is not empty; `getRefcount` asks it of any two numbers.)
 abbrev pub meets : ℕ → ℕ → Record → Bool
 meets from to q = ltb from (q .end) && ltb (q .start) to
 
@@ -111,7 +113,7 @@ addRegion r from to (q ∷ l) p = do
 unfoldable pub keepOrDrop : Record → Pool → Outcome (List Record × Pool)
 keepOrDrop q p = if eqb (q .counts .reach) 0 then (free (q .slot) p >>= λ p₁. ok ([], p₁)) else ok (q ∷ [], p)
 
--- what is left of counts k: none where the record is dropped
+-- what is left of counts k: none where the record is dropped (in sound tables its right counts are 0 by then)
 abbrev pub leftCounts : Counts → Counts
 leftCounts k = if eqb (k .reach) 0 then noCounts else k
 

@@ -18,7 +18,7 @@ push u s = do
   require (ltb (length (s .queue .items)) (s .sizes .updates)) ringFull  -- 14
   ok (withQueue (record { readPlace = s .queue .readPlace; items = s .queue .items ++ (u ∷ []) }) s)
 
--- Is this the queued domain with that handle?
+-- Is this a queued update of the domain with that handle?
 abbrev pub isPermissionOf : Handle → Update → Bool
 isPermissionOf h (permission k cores marks) = sameHandle h k
 isPermissionOf h (cleanup a b) = false

@@ -10,86 +10,86 @@ number r = r .0
 -- ---- the host that lends
 
 abbrev pub memory : Refusal
-memory = record { 0 = 1 }
+memory = record { 0 = 1 }  -- a length wrong, or tables not sound
 
 abbrev pub sizes : Refusal
-sizes = record { 0 = 2 }
+sizes = record { 0 = 2 }  -- making: a size outside its limits
 
 -- ---- a domain's program
 
 abbrev pub noDomain : Refusal
-noDomain = record { 0 = 3 }
+noDomain = record { 0 = 3 }  -- the handle of no live domain
 
 abbrev pub noSlot : Refusal
-noSlot = record { 0 = 4 }
+noSlot = record { 0 = 4 }  -- local number too large, or the slot free
 
 abbrev pub wrongKind : Refusal
-wrongKind = record { 0 = 5 }
+wrongKind = record { 0 = 5 }  -- the capability is of another kind
 
 abbrev pub stale : Refusal
-stale = record { 0 = 6 }
+stale = record { 0 = 6 }  -- the region is dead
 
 abbrev pub badRange : Refusal
-badRange = record { 0 = 7 }
+badRange = record { 0 = 7 }  -- start not below end
 
 abbrev pub beyond : Refusal
-beyond = record { 0 = 8 }
+beyond = record { 0 = 8 }  -- the rule of alias or carve broken: range, rights or overlap
 
 -- document 01's Root; `Root` is a kind of region
 abbrev pub isRoot : Refusal
-isRoot = record { 0 = 9 }
+isRoot = record { 0 = 9 }  -- revoking a root, or making its RegionRevoke
 
 abbrev pub notCarried : Refusal
-notCarried = record { 0 = 10 }
+notCarried = record { 0 = 10 }  -- sending a Management capability
 
 -- ---- all together
 
 abbrev pub noRegion : Refusal
-noRegion = record { 0 = 11 }
+noRegion = record { 0 = 11 }  -- no region slot free
 
 abbrev pub noLocal : Refusal
-noLocal = record { 0 = 12 }
+noLocal = record { 0 = 12 }  -- list full after the sweep
 
 abbrev pub noTracker : Refusal
-noTracker = record { 0 = 13 }
+noTracker = record { 0 = 13 }  -- a split or new record finds none free
 
 abbrev pub ringFull : Refusal
-ringFull = record { 0 = 14 }
+ringFull = record { 0 = 14 }  -- the ring holds as many as it can
 
 abbrev pub noDomainRoom : Refusal
-noDomainRoom = record { 0 = 15 }
+noDomainRoom = record { 0 = 15 }  -- no domain slot free
 
 abbrev pub spent : Refusal
-spent = record { 0 = 16 }
+spent = record { 0 = 16 }  -- a generation of 2^64 − 1 would be raised
 
 -- ---- the script's author
 
 abbrev pub badRecord : Refusal
-badRecord = record { 0 = 17 }
+badRecord = record { 0 = 17 }  -- a script's record is bad or cut
 
 -- ---- a send's options (document 02, request 1)
 
 abbrev pub badFlag : Refusal
-badFlag = record { 0 = 18 }
+badFlag = record { 0 = 18 }  -- a flag other than HASH, CLEANUP or VITAL
 
 abbrev pub noHash : Refusal
-noHash = record { 0 = 19 }
+noHash = record { 0 = 19 }  -- HASH without a hash
 
 -- ---- a domain's interface (document 02, request 2)
 
 abbrev pub notAllowed : Refusal
-notAllowed = record { 0 = 20 }
+notAllowed = record { 0 = 20 }  -- the caller's word lacks the bit
 
 abbrev pub isFrozen : Refusal
-isFrozen = record { 0 = 21 }
+isFrozen = record { 0 = 21 }  -- setting a frozen word
 
 -- ---- closing a domain (document 02, request 5)
 
 abbrev pub holdsRoot : Refusal
-holdsRoot = record { 0 = 22 }
+holdsRoot = record { 0 = 22 }  -- a domain to be closed holds a root
 
 abbrev pub running : Refusal
-running = record { 0 = 23 }
+running = record { 0 = 23 }  -- a domain to be closed has a nonzero core map
 
 -- ---- all of them, in the order of their numbers
 
