@@ -27,6 +27,7 @@ liveDomain s h = do
   ok (h .slot)
 
 -- Request 2: "20 for a missing bit, right after the caller's 3". The answer is the caller's slot. No other domain's word is read.
+-- Asked by `aliasRegion`, `carveRegion` and `send` alone.
 unfoldable pub callerWith : ℕ → State → Handle → Outcome ℕ
 callerWith bit s h = do
   d ← liveDomain s h  -- 3
@@ -148,7 +149,8 @@ aliasRegion h l a s = do
   ok (n, s₃)
 
 -- **Carve**: "the domain loses the range with the parent's rights and gains it with the new ones; if equal, the tracker isn't touched". The whole words
--- are compared: 35 and 3 differ, though the tracker counts alike.
+-- are compared: 35 and 3 differ, though the tracker counts alike. Loss and gain mark each for itself: where nothing else counts there, the reach goes to 0
+-- and back and is marked, though it is as before.
 unfoldable pub exchangeRights : ℕ → ℕ → Access → State → Outcome State
 exchangeRights d old a s = if eqb old (a .rights) then ok s else (do
   s₁ ← deactivate [] d (record { start = a .start; end = a .end; rights = old }) s
@@ -189,9 +191,9 @@ sendCapa (regionRevoke h) to o s = ok s
 sendCapa (management h) to o s = refuse notCarried  -- 10
 sendCapa (channel h) to o s = ok s
 
--- **Send**: "Moves the slot". The target's list is swept, if full, before the sent slot is looked at; where it is
--- the sender's own, the sweep may free that slot: a dead region gives 4 then, not 6. The sent slot is freed before one is taken, so that what is sent to
--- oneself comes back to its slot.
+-- **Send**: "Moves the slot". The target's list is swept, if full, before the sent slot is looked at; where it is the sender's own, the sweep may free that
+-- slot: a dead region gives 4 then, not 6, and so does a None or any other dead capability. The sent slot is freed before one is taken, so that what is sent
+-- to oneself comes back to its slot.
 unfoldable pub send : Handle → ℕ → ℕ → SendOptions → State → Outcome (ℕ × State)
 send h l target o s = do
   d ← callerWith SEND s h  -- 3, 20

@@ -43,7 +43,7 @@ makeTables z = do
   ok (emptyTables z)
 
 -- Making in lent memory, by the lengths of tables and work area: "2 Sizes, one outside its limits (empty tables only, before 1, which there tests lengths
--- alone)".
+-- alone)". `lengthFor z` (Layout) is how many words tables of sizes z have.
 unfoldable pub makeIn : ℕ → ℕ → Sizes → Outcome State
 makeIn tables work z = do
   s ← makeTables z  -- 2

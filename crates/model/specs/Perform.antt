@@ -19,24 +19,24 @@ use Rattle.model.specs.Layout.{updateWords, markWords, lengthFor}
 
 -- A step changes the tables, or is refused.
 pub data Step : Type 0 where
-  Open : Option Handle → ℕ → Step
-  Channel : Handle → Handle → Step
-  SetCoreMap : Handle → ℕ → Step
-  SetInterface : Handle → ℕ → Step
+  Open : Option Handle → ℕ → Step  -- manager or none, core map
+  Channel : Handle → Handle → Step  -- in whose list, to whom
+  SetCoreMap : Handle → ℕ → Step  -- domain, core map
+  SetInterface : Handle → ℕ → Step  -- domain, word
   FreezeInterface : Handle → Step
-  Root : Handle → Access → Step
-  Alias : Handle → ℕ → Access → Step
-  Carve : Handle → ℕ → Access → Step
-  Send : Handle → ℕ → ℕ → SendOptions → Step
-  Revoke : Handle → ℕ → Step
-  CreateRevokeCapa : Handle → ℕ → Step
+  Root : Handle → Access → Step  -- domain, range with rights
+  Alias : Handle → ℕ → Access → Step  -- caller, parent's local slot, range with rights
+  Carve : Handle → ℕ → Access → Step  -- the same
+  Send : Handle → ℕ → ℕ → SendOptions → Step  -- caller, slot sent, slot of a Management or Channel, options
+  Revoke : Handle → ℕ → Step  -- caller, slot; of a Management: close
+  CreateRevokeCapa : Handle → ℕ → Step  -- caller, slot of a region
 
 -- A reading leaves the tables.
 pub data Reading : Type 0 where
   Permissions : Handle → Reading
-  Refcount : Handle → ℕ → ℕ → Reading
+  Refcount : Handle → ℕ → ℕ → Reading  -- domain, from, to
   CoreMap : Handle → Reading
-  Holders : ℕ → Reading
+  Holders : ℕ → Reading  -- address
 
 -- A call: making, a step, the pop of the oldest update, or a reading.
 pub data Call : Type 0 where
@@ -65,7 +65,8 @@ abbrev pub code : Answer → ℕ
 code (Answer.yes r) = 0
 code (Answer.no r) = Refusals.number r
 
--- It has the values of an accepted call's answer, too. Of a list the "whole number of records"; of a pop the words of docs/TABLES.md, the marks last: "Pop answers them".
+-- It has the values of an accepted call's answer, too. Of a list the "whole number of records"; of a pop 1, slot, generation, core map and marks of a domain
+-- ("Pop answers them"), or 2, start, end, 0, 0 of a clean-up; of an empty ring five zeros.
 abbrev pub values : Value → List ℕ
 values done = []
 values (domain h) = h .slot ∷ h .generation ∷ []
@@ -107,7 +108,7 @@ readTables s (CoreMap h) = coreMap h s >>= λ n. ok (number n)
 readTables s (Holders a) = ok (domainList (holders a s))
 
 -- What a call does: the value and the new state, or the refusal. A making is in the memory that holds s, so that it gives 1 unless the new
--- sizes need as many words; after a reading the state is as it was.
+-- sizes need as many words; of a making in any lent memory: `After.made` (Memory). After a reading the state is as it was.
 unfoldable pub perform : State → Call → Outcome (Value × State)
 perform s (Make z) = let n = lengthFor (s .sizes) in silent (makeIn n n z)
 perform s (Do c) = performStep s c

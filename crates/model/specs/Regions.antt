@@ -40,7 +40,8 @@ newRegion d k a s = do
   (i, p) ← allocate noRegion (s .regionPool)
   ok (i, withRegions p (set (s .regions) i (some (record { owner = d; kind = k; start = a .start; end = a .end; rights = a .rights; children = []; hash = none }))) s)
 
--- Region i leaves its slot (16).
+-- Region i leaves its slot (16). No capability list is looked at: a Region or RegionRevoke of it stays in its slot, dead, until a sweep; `revoke` empties the
+-- caller's slot alone.
 unfoldable pub freeRegion : ℕ → State → Outcome State
 freeRegion i s = do
   p ← free i (s .regionPool)
@@ -76,14 +77,15 @@ giveBack closing g s = elim (g .kind) [
 unfoldable pub leaveParent : ℕ → State → State
 leaveParent i s = elim (regionAt s i .kind) [ Root ↦ s | Alias p ↦ removeChild p i s | Carve p ↦ removeChild p i s ]
 
--- **Revoke** of a region without children, in document 01's order; "CLEANUP queues start and end".
+-- **Revoke** of a region without children, in document 01's order; "CLEANUP queues start and end". Without children its whole range is effective. Queued at
+-- most, in this order: the owner, a carve's parent's domain, the clean-up.
 unfoldable pub revokeLeaf : List ℕ → ℕ → State → Outcome State
 revokeLeaf closing i s = do
   let g = regionAt s i
-  s₁ ← deactivate closing (g .owner) (accessOf g) (leaveParent i s)
-  s₂ ← giveBack closing g s₁
-  s₃ ← freeRegion i s₂
-  if has (g .rights) CLEANUP then push (cleanup (g .start) (g .end)) s₃ else ok s₃
+  s₁ ← deactivate closing (g .owner) (accessOf g) (leaveParent i s)  -- 13, 14, 16
+  s₂ ← giveBack closing g s₁  -- 13, 14, 16
+  s₃ ← freeRegion i s₂  -- 16
+  if has (g .rights) CLEANUP then push (cleanup (g .start) (g .end)) s₃ else ok s₃  -- 14
 
 -- **Revoke**: "Children go first, head child by head child, to any depth." The head child, and then i again
 -- without it, each get one less than n: as many as there are live regions at and below i suffice. Calls give the number of all live ones, so that the first

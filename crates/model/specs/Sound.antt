@@ -1,5 +1,6 @@
 -- **Sound** (document 01, "Memory and who can be refused"): one named fact for each clause of that paragraph; a fact about a part of the state has its name
--- (`domainPool`). Each record below is about the tables that it names, and about nothing else. The last three say which are asked of what: read them first.
+-- (`domainPool`). Each record below is about the tables that it names, and about nothing else. The last three say which are asked of what: read them
+-- first (a first reading: `LiveOrOlder`, then `Rising` to `QueueSound`).
 use mathlib.Core.Path.{_≡_}
 use mathlib.Core.Logic.{_≢_}
 use Prim.Native.Nat.{ℕ, _+_, _≤_, _<_}

@@ -189,7 +189,7 @@ withRightsHash n x r = record { owner = r .owner; kind = r .kind; start = r .sta
 abbrev pub withChildren : List ℕ → Region → Region
 withChildren c r = record { owner = r .owner; kind = r .kind; start = r .start; end = r .end; rights = r .rights; children = c; hash = r .hash }
 
--- ---- a domain and a region by slot number; in sound tables the fallbacks change nothing: `closesRunning` meets them, and a free slot has no core map
+-- ---- a domain and a region by slot number; a free slot reads as `noneDomain`, `noneRegion`: so `closesRunning` finds no core map in one
 
 abbrev pub noneDomain : Domain
 noneDomain = record { manager = none; cores = 0; locals = record { held = []; free = [] }; tracker = []; interface = record { word = 0; frozen = false } }

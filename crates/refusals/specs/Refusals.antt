@@ -1,5 +1,6 @@
 -- The refusals (document 01, "Memory and who can be refused"), by document 01's names. "A refusal gives its number and nothing else": it is its number.
--- The one table of names and numbers: model, mechanism, code and replies use these names.
+-- The one table of names and numbers: model, mechanism, code and replies use these names. `record { 0 = n }` is the refusal whose
+-- number, its part 0, is n.
 use Prim.Native.Nat.{ℕ}
 use mathlib.Core.List.{List, [], _∷_}
 use Rattle.refusals.specs.declared.Refusal.{Refusal}
