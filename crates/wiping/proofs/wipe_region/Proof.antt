@@ -1,7 +1,7 @@
 -- The record that is all zero is stored, then the hash that is.
 use borrow.Author.Needs.{needs}
-use Rattle.pools.proofs.wipe_region.Statement.{statement}
-use Rattle.pools.proofs.wipe_region.Tie as tie
+use Rattle.wiping.proofs.wipe_region.Statement.{statement}
+use Rattle.wiping.proofs.wipe_region.Tie as tie
 
 no-region-requires : tie.Need-no-region-requires
 no-region-requires c κs = search needs

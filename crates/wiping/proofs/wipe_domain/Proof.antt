@@ -1,7 +1,7 @@
 -- The record that is all zero is stored, then the interface that is.
 use borrow.Author.Needs.{needs}
-use Rattle.pools.proofs.wipe_domain.Statement.{statement}
-use Rattle.pools.proofs.wipe_domain.Tie as tie
+use Rattle.wiping.proofs.wipe_domain.Statement.{statement}
+use Rattle.wiping.proofs.wipe_domain.Tie as tie
 
 clear-domain-requires : tie.Need-clear-domain-requires
 clear-domain-requires c κs = search needs
