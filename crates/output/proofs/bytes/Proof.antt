@@ -3,8 +3,8 @@ use Prim.Native.Nat.{_-_, _≤_}
 use mathlib.Core.Path.{_≡_}
 use lib.ListN.{length}
 use borrow.Author.Needs.{needs}
-use Rattle.byte_io.proofs.output.bytes.Statement.{statement}
-use Rattle.byte_io.proofs.output.bytes.Tie as tie
+use Rattle.output.proofs.bytes.Statement.{statement}
+use Rattle.output.proofs.bytes.Tie as tie
 
 abbrev Inv-loop : tie.InvT-loop
 Inv-loop text₀ n s i₀ text i = (i ≤ length s) × (length text ≡ length text₀)

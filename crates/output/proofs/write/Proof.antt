@@ -2,8 +2,8 @@
 use mathlib.Core.Path.{sym}
 use lib.Seq.{length-take-le}
 use borrow.Author.Needs.{needs}
-use Rattle.byte_io.proofs.output.write.Statement.{statement}
-use Rattle.byte_io.proofs.output.write.Tie as tie
+use Rattle.output.proofs.write.Statement.{statement}
+use Rattle.output.proofs.write.Tie as tie
 
 slice-aggregate-write-all : tie.Need-slice-aggregate-write-all
 slice-aggregate-write-all c = sym (length-take-le _ _ (c .before .before .pre))

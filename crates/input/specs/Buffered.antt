@@ -7,7 +7,7 @@ use native.Mathlib.Omega.{arith}
 use lib.ListN.{length, length-take, getD, set, take, List·getD-append}
 use lib.Seq.{getD-take, getD-set-same, getD-set-other}
 use Rattle.base.specs.Cases.{lt, ge, cmp}
-use Rattle.byte_io.specs.declared.input.Buffered.{Buffered}
+use Rattle.input.specs.declared.Buffered.{Buffered}
 
 pub record Within (h : Buffered) (n : ℕ) : Type 0 where
   pub rising : h .at ≤ h .end

@@ -1,13 +1,13 @@
 -- The bytes before i are moved, and those from i on are as they were. The bytes that are left to move fall.
-use Rattle.byte_io.specs.Buffered.{move-more, move-rest}
+use Rattle.input.specs.Buffered.{move-more, move-rest}
 use Prim.Native.Nat.{ℕ, _+_, _-_, _<_, _≤_}
 use mathlib.Core.Path.{_≡_, refl}
 use native.Mathlib.Omega.{arith}
 use denote.Ref.{now}
 use lib.ListN.{length, getD}
 use borrow.Author.Needs.{needs}
-use Rattle.byte_io.proofs.input.move_down.Statement.{statement}
-use Rattle.byte_io.proofs.input.move_down.Tie as tie
+use Rattle.input.proofs.move_down.Statement.{statement}
+use Rattle.input.proofs.move_down.Tie as tie
 
 abbrev Inv-loop : tie.InvT-loop
 Inv-loop b₀ at n i₀ b i = (i ≤ n) × (length b ≡ length b₀) × ((k : ℕ) → k < i → getD b k 0 ≡ getD b₀ (at + k) 0) × ((k : ℕ) → i ≤ k → getD b k 0 ≡ getD b₀ k 0)

@@ -1,8 +1,8 @@
 -- The part that is read into comes back behind the first n bytes.
-use Rattle.byte_io.specs.Buffered.{keeps-front}
+use Rattle.input.specs.Buffered.{keeps-front}
 use borrow.Author.Needs.{needs}
-use Rattle.byte_io.proofs.input.read_behind.Statement.{statement}
-use Rattle.byte_io.proofs.input.read_behind.Tie as tie
+use Rattle.input.proofs.read_behind.Statement.{statement}
+use Rattle.input.proofs.read_behind.Tie as tie
 
 sub-read-full : tie.Need-sub-read-full
 sub-read-full c = search needs

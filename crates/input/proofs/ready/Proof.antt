@@ -1,8 +1,8 @@
 -- The bytes at hand are moved, and stay the first when more are read.
-use Rattle.byte_io.specs.Buffered.{keeps-moved}
+use Rattle.input.specs.Buffered.{keeps-moved}
 use borrow.Author.Needs.{needs}
-use Rattle.byte_io.proofs.input.ready.Statement.{statement}
-use Rattle.byte_io.proofs.input.ready.Tie as tie
+use Rattle.input.proofs.ready.Statement.{statement}
+use Rattle.input.proofs.ready.Tie as tie
 
 sub-n : tie.Need-sub-n
 sub-n c = search needs

@@ -3,8 +3,8 @@ use Prim.Native.Nat.{_+_, _-_, _*_, _≤_}
 use mathlib.Core.Path.{_≡_}
 use lib.ListN.{length}
 use borrow.Author.Needs.{needs}
-use Rattle.byte_io.proofs.output.domain_line.Statement.{statement}
-use Rattle.byte_io.proofs.output.domain_line.Tie as tie
+use Rattle.output.proofs.domain_line.Statement.{statement}
+use Rattle.output.proofs.domain_line.Tie as tie
 
 abbrev Inv-loop : tie.InvT-loop
 Inv-loop text₀ n run at m₀ i₀ text m i = (i ≤ 5) × (m ≤ n + 1 + 21 * i) × (length text ≡ length text₀)

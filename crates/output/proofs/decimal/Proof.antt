@@ -1,9 +1,9 @@
 -- A number has at most as many digits as the array has places.
-use Rattle.byte_io.specs.Bounds.{digits-few}
+use Rattle.output.specs.Bounds.{digits-few}
 use native.Mathlib.Omega.{arith}
 use borrow.Author.Needs.{needs}
-use Rattle.byte_io.proofs.output.decimal.Statement.{statement}
-use Rattle.byte_io.proofs.output.decimal.Tie as tie
+use Rattle.output.proofs.decimal.Statement.{statement}
+use Rattle.output.proofs.decimal.Tie as tie
 
 decimal-requires : tie.Need-decimal-requires
 decimal-requires c κs = search needs

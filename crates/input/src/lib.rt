@@ -3,7 +3,7 @@ ghost use mathlib.Core.Path.{_≡_};
 ghost use Prim.Native.Nat.{ℕ, _+_, _<_, _≤_};
 ghost use lib.ListN.{length, getD};
 ghost use mathlib.Core.Bool.{true};
-ghost use Rattle.byte_io.specs.Buffered.{Within, Keeps};
+ghost use Rattle.input.specs.Buffered.{Within, Keeps};
 use libc::STDIN_FILENO;
 
 // The bytes at hand are those from `at` up to `end`; `more`: the input had not ended behind them.
