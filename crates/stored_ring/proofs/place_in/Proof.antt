@@ -1,8 +1,8 @@
 -- By the test.
 use borrow.Author.Needs.{needs}
 use borrow.Author.Tests.{lt-ltb, le-ltb}
-use Rattle.update.proofs.place_in.Statement.{statement}
-use Rattle.update.proofs.place_in.Tie as tie
+use Rattle.stored_ring.proofs.place_in.Statement.{statement}
+use Rattle.stored_ring.proofs.place_in.Tie as tie
 
 mul-result : tie.Need-mul-result
 mul-result c = search needs

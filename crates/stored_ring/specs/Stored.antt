@@ -18,9 +18,9 @@ use Rattle.tables.specs.View.{view, ofParts, Sized, updateOf, markOf}
 use Rattle.tables.specs.Sections.{section-inside, section-lent}
 use Rattle.ring.specs.declared.Entry.{Entry}
 use Rattle.ring.specs.declared.Ring.{Ring}
-use Rattle.update.specs.declared.Span.{Span}
+use Rattle.stored_ring.specs.declared.Span.{Span}
 use Rattle.ring.specs.Ring.{cap, noEntry}
-use Rattle.update.specs.Fitted.{fitted, fitted-empty, fitted-more, fitted-set}
+use Rattle.stored_ring.specs.Fitted.{fitted, fitted-empty, fitted-more, fitted-set}
 
 -- updates with their marks, place by place
 abbrev pub entries : List Update → List ℕ → List Entry

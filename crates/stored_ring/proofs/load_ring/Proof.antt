@@ -1,9 +1,9 @@
 -- What is lent is the ring, and its marks.
 use mathlib.Core.Path.{_∙_}
-use Rattle.update.specs.Stored.{ring-read}
+use Rattle.stored_ring.specs.Stored.{ring-read}
 use borrow.Author.Needs.{needs}
-use Rattle.update.proofs.load_ring.Statement.{statement}
-use Rattle.update.proofs.load_ring.Tie as tie
+use Rattle.stored_ring.proofs.load_ring.Statement.{statement}
+use Rattle.stored_ring.proofs.load_ring.Tie as tie
 
 span-of-requires : tie.Need-span-of-requires
 span-of-requires c κs = search needs

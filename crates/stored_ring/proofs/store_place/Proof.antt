@@ -1,7 +1,7 @@
 -- The place first, then its marks, then the two of the header.
 use borrow.Author.Needs.{needs}
-use Rattle.update.proofs.store_place.Statement.{statement}
-use Rattle.update.proofs.store_place.Tie as tie
+use Rattle.stored_ring.proofs.store_place.Statement.{statement}
+use Rattle.stored_ring.proofs.store_place.Tie as tie
 
 place-in-requires : tie.Need-place-in-requires
 place-in-requires c κs = search needs

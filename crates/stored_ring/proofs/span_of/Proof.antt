@@ -1,9 +1,9 @@
 -- The ring and its marks are two of the sections, and lie in the words.
-use Rattle.update.specs.Stored.{ring-found}
+use Rattle.stored_ring.specs.Stored.{ring-found}
 use native.Mathlib.Omega.{arith}
 use borrow.Author.Needs.{needs}
-use Rattle.update.proofs.span_of.Statement.{statement}
-use Rattle.update.proofs.span_of.Tie as tie
+use Rattle.stored_ring.proofs.span_of.Statement.{statement}
+use Rattle.stored_ring.proofs.span_of.Tie as tie
 
 read-sizes-requires : tie.Need-read-sizes-requires
 read-sizes-requires c κs = search needs

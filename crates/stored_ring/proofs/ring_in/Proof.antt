@@ -5,9 +5,9 @@ use mathlib.Core.Path.{_≡_, sym, ap, _∙_}
 use native.Mathlib.Omega.{arith}
 use borrow.Author.Needs.{needs}
 use Rattle.ring.specs.Ring.{cap}
-use Rattle.update.specs.Stored.{readTo, read-none, read-more}
-use Rattle.update.proofs.ring_in.Statement.{statement}
-use Rattle.update.proofs.ring_in.Tie as tie
+use Rattle.stored_ring.specs.Stored.{readTo, read-none, read-more}
+use Rattle.stored_ring.proofs.ring_in.Statement.{statement}
+use Rattle.stored_ring.proofs.ring_in.Tie as tie
 
 abbrev Inv-loop : tie.InvT-loop
 Inv-loop p m n read write places₀ i₀ places i = (i ≤ n) × (places ≡ readTo p m i)

@@ -1,8 +1,8 @@
 -- Four words of the run.
-use Rattle.update.specs.Stored.{update-read}
+use Rattle.stored_ring.specs.Stored.{update-read}
 use borrow.Author.Needs.{needs}
-use Rattle.update.proofs.read_update.Statement.{statement}
-use Rattle.update.proofs.read_update.Tie as tie
+use Rattle.stored_ring.proofs.read_update.Statement.{statement}
+use Rattle.stored_ring.proofs.read_update.Tie as tie
 
 mul-t3 : tie.Need-mul-t3
 mul-t3 c = search needs
