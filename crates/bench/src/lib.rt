@@ -14,7 +14,7 @@ ghost use Rattle.stored_slots.specs.Record.{listAt};
 ghost use Rattle.slots.specs.Capas.{withCapa, withoutCapa};
 ghost use Rattle.ring.specs.Ring.{cleanupOf, pushOf, popOf};
 ghost use Rattle.ring_search.specs.Queueing.{queueOf};
-ghost use Rattle.update.specs.Stored.{ringOf, withRingOf};
+ghost use Rattle.stored_ring.specs.Stored.{ringOf, withRingOf};
 ghost use Rattle.bench.specs.Steps.{nothing, flagOf, insertedOf, givenOf, freedOf, capaOf, sizesOf, reply, left, makes, made};
 
 pub mod trackers;

@@ -8,7 +8,7 @@ use Rattle.tables.specs.declared.Slot.{Slot}
 use Rattle.tables.specs.Tables.{Tables, headAt}
 use Rattle.ring.specs.Ring.{pushOf, cleanupOf}
 use Rattle.ring_search.specs.Queueing.{queueOf}
-use Rattle.update.specs.Stored.{ringOf, withRingOf}
+use Rattle.stored_ring.specs.Stored.{ringOf, withRingOf}
 use Rattle.region.specs.declared.AccessRights.{AccessRights}
 use Rattle.region.specs.Turns.{addRegion, removeRegion}
 use Rattle.answers.specs.declared.Answer.{Answer}

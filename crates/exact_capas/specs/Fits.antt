@@ -12,7 +12,7 @@ use Rattle.base.specs.Tests.{both-true, true-false}
 use Rattle.model.specs.Lists.{oneIf}
 use Rattle.laws.specs.Stack.{one, one-at-most}
 use Rattle.laws.specs.Tree.Sum.{sum, sum-add, sum-zero, sum-same, sum-at}
-use Rattle.sound_capas.specs.Claims.{either, claimed, claimFits, claimsFit, claimCount, claimsHold}
+use Rattle.claims.specs.Claims.{either, claimed, claimFits, claimsFit, claimCount, claimsHold}
 
 -- among the n items from item k on
 pub record FitFrom (f : ℕ → ℕ) (m k n : ℕ) : Type 0 where

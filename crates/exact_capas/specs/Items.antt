@@ -16,7 +16,9 @@ use Rattle.arena.specs.Arena.{liveB, olderB}
 use Rattle.decoded.specs.Shape.{Shaped}
 use Rattle.decoded.specs.Decode.Read.{taken}
 use Rattle.decoded.specs.Canonical.Pools.{taken-used, not-taken}
-use Rattle.sound_capas.specs.Capas.{number, wrong, namesB, claimBy, regionClaim, revokeClaim, managementClaim, slotClaim, climbed, headClaim, rowClaim, named, managerOf}
+use Rattle.managers.specs.Managers.{climbed, managerOf}
+use Rattle.capa_claims.specs.CapaClaims.{number, wrong, namesB, claimBy, regionClaim, revokeClaim, managementClaim, slotClaim, headClaim, named}
+use Rattle.sound_capas.specs.Capas.{rowClaim}
 use Rattle.exact_capas.specs.Reads.{Lives, lives, live-at}
 
 -- ---- a handle

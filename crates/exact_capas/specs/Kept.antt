@@ -28,8 +28,8 @@ use Rattle.decoded.specs.Shape.{Shaped}
 use Rattle.decoded.specs.Decode.Read.{poolFrom, taken, linked, kindFrom, capaFrom, heldIn, domainRead, regionRead, domainsFrom, regionsFrom, stateOf}
 use Rattle.decoded.specs.Canonical.Pools.{table-used, table-in}
 use Rattle.decoded.specs.Canonical.Pools.{table-used, table-in}
-use Rattle.sound_capas.specs.Capas.{managerOf, above, climbed, rowClaim}
-use Rattle.sound_capas.specs.Managers.{climb-none}
+use Rattle.managers.specs.Managers.{managerOf, above, climbed, climb-none}
+use Rattle.sound_capas.specs.Capas.{rowClaim}
 use Rattle.exact_capas.specs.Clauses.{Before, CapasClauses}
 use Rattle.exact_capas.specs.Reads.{Lives, lives, live-read, fit-out}
 use Rattle.exact_capas.specs.Items.{kind, is2, is3, is4, is5, isNot, row-free, region-claims, management-claims, revoke-claims, channel-claims, other-row, old-region, old-domain, head-claims, head-passes}

@@ -20,7 +20,8 @@ use Rattle.tables.specs.Tables.{Tables, headAt, slotAt}
 use Rattle.decoded.specs.Shape.{Shaped}
 use Rattle.decoded.specs.Decode.Read.{poolFrom, taken, linked, heldIn, domainRead, domainsFrom, stateOf}
 use Rattle.decoded.specs.Canonical.Pools.{table-used, table-in}
-use Rattle.sound_capas.specs.Capas.{managerOf, above, climbed, rowClaim, capasHold}
+use Rattle.managers.specs.Managers.{managerOf, above, climbed}
+use Rattle.sound_capas.specs.Capas.{rowClaim, capasHold}
 use Rattle.exact_capas.specs.Grid.{sum-only}
 use Rattle.exact_capas.specs.Clauses.{Before}
 use Rattle.exact_capas.specs.Reads.{Lives, live-at}

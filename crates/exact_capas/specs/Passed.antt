@@ -21,7 +21,7 @@ use Rattle.decoded.specs.Shape.{Shaped}
 use Rattle.decoded.specs.Decode.Read.{poolFrom, taken, heldIn, domainRead, regionRead, domainsFrom, regionsFrom, stateOf}
 use Rattle.decoded.specs.Canonical.Pools.{table-used, table-in}
 use Rattle.decoded.specs.Canonical.Pools.{table-used, table-in}
-use Rattle.sound_capas.specs.Claims.{claimCount}
+use Rattle.claims.specs.Claims.{claimCount}
 use Rattle.sound_capas.specs.Capas.{inUse, rowClaim, capaClaim, capasHold}
 use Rattle.exact_capas.specs.Fits.{FitFrom, times, By, times-by, times-once, count-sum, sum-tight, holds-out}
 use Rattle.exact_capas.specs.Grid.{Rows, fit-rows, row-below, place-below, sum-only}

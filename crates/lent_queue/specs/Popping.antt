@@ -15,7 +15,7 @@ use Rattle.tables.specs.View.{view, Left}
 use Rattle.ring.specs.declared.Entry.{Entry}
 use Rattle.ring.specs.declared.Item.{Item}
 use Rattle.ring.specs.Ring.{popOf}
-use Rattle.update.specs.Stored.{ringOf, withRingOf}
+use Rattle.stored_ring.specs.Stored.{ringOf, withRingOf}
 use Rattle.decoded.specs.Tables.{tablesOf}
 use Rattle.decoded.specs.Words.{words-held, held-words}
 use Rattle.refine.specs.Queue.RingSteps.{itemFor}

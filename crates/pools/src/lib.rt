@@ -2,7 +2,7 @@
 ghost use mathlib.Core.Path.{_≡_};
 ghost use lib.ListN.{getD};
 ghost use Rattle.words.specs.Cuts.{offset};
-ghost use Rattle.tables.specs.Tables.{noRegion, noHash, noInterface, withDomainPool, withRegionPool, withRecordPool, withRegion, withHash, withInterface, withoutDomain};
+ghost use Rattle.tables.specs.Tables.{withDomainPool, withRegionPool, withRecordPool};
 ghost use Rattle.sizes.specs.Sizes.{sizesOf, widths};
 ghost use Rattle.tables.specs.View.{view, Sized, Left};
 ghost use Rattle.arena.specs.Arena.{given, allocated, answerTo, freed, isFreeB, liveB, capacityOf, newArena};
@@ -87,33 +87,15 @@ fn push_in(t: &mut [u64], q: Pool, i: usize) -> Freed
     free_list::free(&mut t[a..e], s.slots, i)
 }
 
-// A region's record and its hash (document 02, request 1: a slot that is given again has none).
-fn wipe_region(t: &mut [u64], i: usize)
-    requires { ⌜ Sized (now t) ⌝ }
-    ensures { λ _. ⌜ Left (now (t .exit)) (withHash (withRegion (view (now (t .entry))) i noRegion) i noHash) ⌝ }
-{
-    region_rows::store_region(t, i, tables::no_region());
-    hash_rows::store_hash(t, i, tables::no_hash());
-}
-
-// A domain's record with its slots, and its interface (document 02, request 5: its list is as a making leaves it).
-fn wipe_domain(t: &mut [u64], i: usize)
-    requires { ⌜ Sized (now t) ⌝ }
-    ensures { λ _. ⌜ Left (now (t .exit)) (withInterface (withoutDomain (view (now (t .entry))) i) i noInterface) ⌝ }
-{
-    domain_rows::clear_domain(t, i);
-    interface_rows::store_interface(t, i, tables::no_interface());
-}
-
-// Makes the words of record i 0.
+// Makes the rows of slot i 0.
 fn wipe(t: &mut [u64], q: Pool, i: usize)
     requires { ⌜ Sized (now t) ⌝ }
     ensures { λ _. ⌜ Left (now (t .exit)) (wiped (view (now (t .entry))) q i) ⌝ }
 {
     match q {
-        Pool::Domains => wipe_domain(t, i),
-        Pool::Regions => wipe_region(t, i),
-        Pool::Records => record_rows::store_record(t, i, tables::no_record()),
+        Pool::Domains => wiping::wipe_domain(t, i),
+        Pool::Regions => wiping::wipe_region(t, i),
+        Pool::Records => wiping::wipe_record(t, i),
     }
 }
 

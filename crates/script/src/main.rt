@@ -2,15 +2,13 @@
 // each, then what the domains reach, and then the queue. Both lists are of `ScriptTables`: tables that an accepted making and calls of the exported
 // functions left, of which demand 3 holds (`everything`, crate promise). No contract can say what is read or printed: that the calls are those of the
 // bytes at hand is the contract of `take` (crate running), that the lists are the tables' those of crates listing and engine. That every byte of a
-// line has its place, and that reading on loses none, is proved in crate byte_io.
+// line has its place, and that reading on loses none, is proved in crates output and input.
 ghost use Prim.Native.Nat.{_+_, _≤_};
 ghost use lib.ListN.{length};
 ghost use Rattle.tables.specs.View.{Sized};
 ghost use Rattle.promise.specs.Reached.{Leads};
 ghost use Rattle.running.specs.RunScript.{ScriptTables};
-use byte_io::input;
-use byte_io::input::Buffered;
-use byte_io::output;
+use input::Buffered;
 use refusals::Refusal;
 use replies::Reply;
 use running::Taken;

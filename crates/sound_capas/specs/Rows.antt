@@ -12,11 +12,13 @@ use Rattle.tables.specs.declared.Slot.{Slot}
 use Rattle.tables.specs.Tables.{Tables, slotAt}
 use Rattle.arena.specs.Arena.{isFreeB}
 use Rattle.sizes.specs.declared.Sizes.{Sizes}
-use Rattle.sound_capas.specs.declared.Tally.{Tally}
-use Rattle.sound_capas.specs.Claims.{claimsHold}
-use Rattle.sound_capas.specs.Capas.{Named, managerOf, headClaim, rowClaim, capaClaim}
-use Rattle.sound_capas.specs.Lent.{lentOf, listClaim, slot-lent}
-use Rattle.sound_capas.specs.Walk.{Marking, marking, taken, walked, rowsWalked, ended, walk-more, walk-same, walk-none, rows-walk, walk-holds}
+use Rattle.claims.specs.declared.Tally.{Tally}
+use Rattle.claims.specs.Claims.{claimsHold}
+use Rattle.claims.specs.Walk.{Marking, marking, taken, walked, rowsWalked, ended, walk-more, walk-same, walk-none, rows-walk, walk-holds}
+use Rattle.managers.specs.Managers.{managerOf}
+use Rattle.capa_claims.specs.CapaClaims.{Named, headClaim}
+use Rattle.capa_claims.specs.Lent.{lentOf, listClaim, slot-lent}
+use Rattle.sound_capas.specs.Capas.{rowClaim, capaClaim}
 
 module _ (v : Tables) (d : ℕ) where
   abbrev S : ℕ

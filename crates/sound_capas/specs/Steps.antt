@@ -14,7 +14,7 @@ use Rattle.sizes.specs.declared.Sizes.{Sizes}
 use Rattle.tables.specs.View.{view, ofParts, Sized}
 use Rattle.sizes.specs.Sizes.{sizesOf, total}
 use Rattle.arena.specs.Arena.{capacityOf}
-use Rattle.sound_capas.specs.Claims.{claimsHold}
+use Rattle.claims.specs.Claims.{claimsHold}
 use Rattle.sound_capas.specs.Capas.{capaClaim, capasHold}
 
 -- ---- sizes

@@ -4,21 +4,11 @@ ghost use mathlib.Core.Path.{_≡_};
 ghost use Prim.Native.Nat.{_+_, _*_};
 ghost use lib.ListN.{length, replicate};
 ghost use Rattle.tables.specs.View.{view, Sized};
-ghost use Rattle.sound_capas.specs.Claims.{claimsHold};
+ghost use Rattle.claims.specs.Claims.{claimsHold};
 ghost use Rattle.sound_capas.specs.Capas.{capaClaim, capasHold};
 use pools::Pool;
 
-pub mod claims;
-pub mod managers;
-pub mod marks;
-pub mod reads;
 pub mod walk;
-
-// Whether every claim so far fits, and how many are left to be claimed.
-pub struct Tally {
-    pub fits: bool,
-    pub left: usize,
-}
 
 // Whether nothing is wrong, nothing is claimed twice, and as many are claimed as are wanted. The marks are cleared again.
 fn claims_hold(t: &[u64], m: &mut [u64], want: usize) -> bool
@@ -48,7 +38,7 @@ pub fn capas_hold(t: &[u64], w: &mut [u64]) -> bool
 {
     let z = sizes::read_sizes(t);
     let m = z.regions + z.domains;
-    let used = reads::less(m, pools::region_capacity(t));
-    let want = reads::less(used, pools::domain_capacity(t));
+    let used = claims::less(m, pools::region_capacity(t));
+    let want = claims::less(used, pools::domain_capacity(t));
     claims_hold(t, &mut w[0..m], want)
 }

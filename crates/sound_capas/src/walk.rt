@@ -1,16 +1,14 @@
-// The walk over the slots of all domains. Slices are named as in `claims`; `s` holds the slots of one domain, `m` the marks.
+// The walk over the slots of all domains. Slices are named as in `capa_claims`; `s` holds the slots of one domain, `m` the marks.
 ghost use mathlib.Core.Path.{_≡_};
 ghost use Prim.Native.Nat.{_+_};
 ghost use mathlib.Core.Bool.{true};
 ghost use Rattle.tables.specs.View.{view, Sized};
 ghost use Rattle.sizes.specs.Limits.{Limits};
 ghost use Rattle.sections.specs.Rows.{slotIn};
+ghost use Rattle.claims.specs.Walk.{marking, walked, rowsWalked};
+ghost use Rattle.capa_claims.specs.Lent.{lent, lentOf, listClaim};
 ghost use Rattle.sound_capas.specs.Capas.{rowClaim};
-ghost use Rattle.sound_capas.specs.Lent.{lent, lentOf, listClaim};
-ghost use Rattle.sound_capas.specs.Walk.{marking, walked, rowsWalked};
-use crate::Tally;
-use crate::claims;
-use crate::marks;
+use claims::Tally;
 use sizes::Sizes;
 
 // The slots of domain d.
@@ -33,8 +31,8 @@ fn list_walk(
     let mut seen = y;
     let mut j = 0;
     while j < z.slots {
-        let c = claims::slot_claim(z, rl, rg, r, dl, dg, p, d, sections::slot_in(s, j));
-        seen = marks::take(m, seen, c);
+        let c = capa_claims::slot_claim(z, rl, rg, r, dl, dg, p, d, sections::slot_in(s, j));
+        seen = claims::take(m, seen, c);
         j += 1;
     }
     seen
@@ -64,7 +62,7 @@ fn domain_walk(
     }
     let s = sections::slots_of(t, d);
     let seen = list_walk(m, y, z, rl, rg, r, dl, dg, p, s, d);
-    marks::take(m, seen, claims::head_claim(z, p, d))
+    claims::take(m, seen, capa_claims::head_claim(z, p, d))
 }
 
 // All domains, with `want` claims left.

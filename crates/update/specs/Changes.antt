@@ -17,8 +17,8 @@ use Rattle.ring.specs.declared.PopOut.{PopOut}
 use Rattle.ring.specs.Ring.{cap, noEntry, roomB, putIn, pushOf, permissionOf, someB, takeOut, popOf}
 use Rattle.ring_search.specs.Queueing.{placeOf, gathered, foundB, queueOf}
 use Rattle.ring_search.specs.Search.{place-missed}
-use Rattle.update.specs.Fitted.{fitted, length-fitted}
-use Rattle.update.specs.Stored.{entries, updatesOf, marksOf, ringOf, withRingOf, placeIn, updates-set, marks-set, ring-few, marks-many}
+use Rattle.stored_ring.specs.Fitted.{fitted, length-fitted}
+use Rattle.stored_ring.specs.Stored.{entries, updatesOf, marksOf, ringOf, withRingOf, placeIn, updates-set, marks-set, ring-few, marks-many}
 
 -- q has the places of r but for place i
 abbrev pub ButAt : ℕ → Ring → Ring → Type 0

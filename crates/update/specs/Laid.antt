@@ -13,8 +13,8 @@ use Rattle.ring.specs.declared.PushOut.{PushOut}
 use Rattle.ring.specs.declared.PopOut.{PopOut}
 use Rattle.ring.specs.Ring.{cap, noEntry, pushOf, popOf, permissionOf}
 use Rattle.ring_search.specs.Queueing.{queueOf}
-use Rattle.update.specs.Fitted.{fitted, length-fitted, getD-fitted, fitted-back}
-use Rattle.update.specs.Stored.{entries, updatesOf, marksOf, ringOf, withRingOf, length-entries, getD-entries, entries-updates, entries-marks}
+use Rattle.stored_ring.specs.Fitted.{fitted, length-fitted, getD-fitted, fitted-back}
+use Rattle.stored_ring.specs.Stored.{entries, updatesOf, marksOf, ringOf, withRingOf, length-entries, getD-entries, entries-updates, entries-marks}
 use Rattle.ring.specs.Queue.{Queues, push-joins, push-full, pop-empty, pop-takes}
 use Rattle.ring_search.specs.Search.{anyNames, gatherFirst, queue-new, queue-gathers}
 use Rattle.ring.specs.Sizes.{push-size, pop-size}

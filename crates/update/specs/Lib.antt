@@ -1,4 +1,2 @@
-pub mod Fitted
-pub mod Stored
 pub mod Changes
 pub mod Laid

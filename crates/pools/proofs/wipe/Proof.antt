@@ -1,4 +1,4 @@
--- Each arm stores what is all zero.
+-- Each arm wipes what its pool's slots have.
 use Rattle.arena.specs.Arena.{given}
 use borrow.Author.Needs.{needs}
 use Rattle.pools.proofs.wipe.Statement.{statement}
@@ -19,11 +19,8 @@ wipe-region-requires c κs = search needs
 enum-told-3 : tie.Need-enum-told-3
 enum-told-3 c = search needs
 
-no-record-requires : tie.Need-no-record-requires
-no-record-requires c κs = search needs
-
-store-record-requires : tie.Need-store-record-requires
-store-record-requires c κs = search needs
+wipe-record-requires : tie.Need-wipe-record-requires
+wipe-record-requires c κs = search needs
 
 same-length : tie.Need-same-length
 same-length c = search needs
@@ -41,7 +38,7 @@ same-length-3 : tie.Need-same-length-3
 same-length-3 c = search needs
 
 returns-3 : tie.Need-returns-3
-returns-3 c = rw (c .before .before .before .before .before .enum-told3 .given .1) (rw (c .before .before .before .no-record .ensures) at (c .before .before .store-record .ensures))
+returns-3 c = rw (c .before .before .before .before .enum-told3 .given .1) (c .before .before .wipe-record .ensures)
 
 pub wipe-spec : {M : Type 1} → statement M
 wipe-spec =
@@ -52,8 +49,7 @@ wipe-spec =
     enum-told-2
     wipe-region-requires
     enum-told-3
-    no-record-requires
-    store-record-requires
+    wipe-record-requires
     same-length
     returns
     same-length-2

@@ -4,7 +4,7 @@ use Rattle.model.specs.State.{State}
 use Rattle.model.specs.Updates.{pop}
 use Rattle.model.specs.Sound.{Sound}
 use Rattle.ring.specs.Ring.{popOf}
-use Rattle.update.specs.Stored.{ringOf, withRingOf}
+use Rattle.stored_ring.specs.Stored.{ringOf, withRingOf}
 use Rattle.decoded.specs.Sizes.{good-limits}
 use Rattle.decoded.specs.Tables.{tablesOf}
 use Rattle.refine.specs.Queue.RingSteps.{itemFor, pop-ring-refines}

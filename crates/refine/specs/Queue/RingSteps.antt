@@ -33,7 +33,7 @@ use Rattle.ring.specs.declared.Item.{Item}
 use Rattle.ring.specs.declared.Ring.{Ring}
 use Rattle.ring.specs.Ring.{noEntry, pushOf, popOf}
 use Rattle.ring_search.specs.Queueing.{namesOf, gathered, queueOf}
-use Rattle.update.specs.Stored.{ringOf, withRingOf}
+use Rattle.stored_ring.specs.Stored.{ringOf, withRingOf}
 use Rattle.ring_search.specs.Search.{anyNames, gatherFirst}
 use Rattle.update.specs.Laid.{Laid, push-laid, full-laid, queue-laid, new-laid, empty-laid, pop-laid}
 use Rattle.domain.specs.Activate.{orRefused, notify, cleanup}

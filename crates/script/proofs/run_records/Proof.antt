@@ -2,7 +2,7 @@
 use Prim.Native.Nat.{_-_, _≤_}
 use mathlib.Core.Path.{_≡_}
 use lib.ListN.{length}
-use Rattle.byte_io.specs.Buffered.{Within}
+use Rattle.input.specs.Buffered.{Within}
 use Rattle.promise.specs.Reached.{Leads, leads-none, leads-then}
 use borrow.Author.Needs.{needs}
 use Rattle.script.proofs.run_records.Statement.{statement}

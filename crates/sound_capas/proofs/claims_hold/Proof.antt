@@ -1,5 +1,5 @@
 -- The walk with no marks is the test; then the marks are cleared.
-use Rattle.sound_capas.specs.Lent.{lent-is}
+use Rattle.capa_claims.specs.Lent.{lent-is}
 use Rattle.sound_capas.specs.Rows.{rows-hold}
 use Rattle.sound_capas.specs.Steps.{sizes-seen}
 use lib.ListN.{replicate}

@@ -1,8 +1,8 @@
 -- The rest of the slots from here, with the marks as they are, are the slots from the start.
 use Prim.Native.Nat.{_-_, _≤_}
-use Rattle.sound_capas.specs.Capas.{slotClaim}
-use Rattle.sound_capas.specs.Lent.{lent, listClaim}
-use Rattle.sound_capas.specs.Walk.{marking, taken, walked, walk-start, walk-go, walk-end}
+use Rattle.capa_claims.specs.CapaClaims.{slotClaim}
+use Rattle.capa_claims.specs.Lent.{lent, listClaim}
+use Rattle.claims.specs.Walk.{marking, taken, walked, walk-start, walk-go, walk-end}
 use Rattle.sections.specs.Rows.{slotIn}
 use borrow.Author.Needs.{needs}
 use lib.ListN.{length}

@@ -1,7 +1,7 @@
 -- The rest of the domains from here, with the marks as they are, are the domains from the start.
 use Prim.Native.Nat.{_+_, _-_, _≤_}
 use Rattle.sound_capas.specs.Capas.{rowClaim}
-use Rattle.sound_capas.specs.Walk.{marking, rowsWalked, rows-start, rows-go, rows-end}
+use Rattle.claims.specs.Walk.{marking, rowsWalked, rows-start, rows-go, rows-end}
 use Rattle.tables.specs.View.{view}
 use lib.ListN.{length}
 use mathlib.Core.Path.{_≡_, refl, sym, _∙_}

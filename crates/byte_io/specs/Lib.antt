@@ -1,2 +1,0 @@
-pub mod Buffered
-pub mod Bounds

@@ -1,0 +1,17 @@
+-- A link is a slot number and 1.
+use borrow.Author.Needs.{needs}
+use borrow.Author.Tests.{lt-ltb, le-ltb}
+use Rattle.capa_claims.proofs.names.Statement.{statement}
+use Rattle.capa_claims.proofs.names.Tie as tie
+
+sub-result : tie.Need-sub-result
+sub-result c = search needs
+
+returns : tie.Need-returns
+returns c = rw (lt-ltb _ _ (c .if1 .taken))
+
+returns-2 : tie.Need-returns-2
+returns-2 c = rw (le-ltb _ _ (c .if1 .left))
+
+pub names-spec : {M : Type 1} → statement M
+names-spec = tie.close (tie.spec sub-result returns returns-2)

@@ -1,0 +1,2 @@
+pub mod CapaClaims
+pub mod Lent

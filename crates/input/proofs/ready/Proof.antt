@@ -1,0 +1,38 @@
+-- The bytes at hand are moved, and stay the first when more are read.
+use Rattle.input.specs.Buffered.{keeps-moved}
+use borrow.Author.Needs.{needs}
+use Rattle.input.proofs.ready.Statement.{statement}
+use Rattle.input.proofs.ready.Tie as tie
+
+sub-n : tie.Need-sub-n
+sub-n c = search needs
+
+returns : tie.Need-returns
+returns c = search needs
+
+returns-2 : tie.Need-returns-2
+returns-2 c = search needs
+
+move-down-requires : tie.Need-move-down-requires
+move-down-requires c κs = search needs
+
+read-behind-requires : tie.Need-read-behind-requires
+read-behind-requires c κs = search needs
+
+same-length : tie.Need-same-length
+same-length c = search needs
+
+returns-3 : tie.Need-returns-3
+returns-3 c = (search needs, keeps-moved _ _ _ _ _ (c .before .before .before .before .before .before .move-down .ensures) (c .before .before .read-behind .ensures .1))
+
+pub ready-spec : {M : Type 1} → statement M
+ready-spec =
+    tie.close
+    (tie.spec
+    sub-n
+    returns
+    returns-2
+    move-down-requires
+    read-behind-requires
+    same-length
+    returns-3)
