@@ -1,11 +1,11 @@
 -- To contain the flag is to have its bit.
 use mathlib.Core.Path.{refl, sym, _∙_}
-use Rattle.revocation.specs.Walks.{cleanup-test}
+use Rattle.leaf_revocation.specs.Flags.{cleanup-test}
 use Rattle.answers.specs.Then.{stays}
-use Rattle.revocation.specs.Revoke.{cleanupIf}
+use Rattle.leaf_revocation.specs.Leaf.{cleanupIf}
 use borrow.Author.Needs.{needs}
-use Rattle.revocation.proofs.cleanup_if.Statement.{statement}
-use Rattle.revocation.proofs.cleanup_if.Tie as tie
+use Rattle.leaf_revocation.proofs.cleanup_if.Statement.{statement}
+use Rattle.leaf_revocation.proofs.cleanup_if.Tie as tie
 
 rights-of-requires : tie.Need-rights-of-requires
 rights-of-requires c κs = search needs

@@ -1,10 +1,10 @@
 -- By the kind.
 use borrow.Author.Tests.{eq-eqb, ne-eqb}
 use Rattle.answers.specs.Then.{stays}
-use Rattle.revocation.specs.Revoke.{leaveParent}
+use Rattle.leaf_revocation.specs.Leaf.{leaveParent}
 use borrow.Author.Needs.{needs}
-use Rattle.revocation.proofs.leave_parent.Statement.{statement}
-use Rattle.revocation.proofs.leave_parent.Tie as tie
+use Rattle.leaf_revocation.proofs.leave_parent.Statement.{statement}
+use Rattle.leaf_revocation.proofs.leave_parent.Tie as tie
 
 load-region-requires : tie.Need-load-region-requires
 load-region-requires c κs = search needs

@@ -2,10 +2,10 @@
 use mathlib.Core.Path.{refl}
 use borrow.Author.Tests.{eq-eqb, ne-eqb}
 use Rattle.answers.specs.Then.{stays}
-use Rattle.revocation.specs.Revoke.{giveBack}
+use Rattle.giving_back.specs.GiveBack.{giveBack}
 use borrow.Author.Needs.{needs}
-use Rattle.revocation.proofs.give_back.Statement.{statement}
-use Rattle.revocation.proofs.give_back.Tie as tie
+use Rattle.giving_back.proofs.give_back.Statement.{statement}
+use Rattle.giving_back.proofs.give_back.Tie as tie
 
 slot-to-requires : tie.Need-slot-to-requires
 slot-to-requires c κs = search needs

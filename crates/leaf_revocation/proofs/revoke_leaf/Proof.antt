@@ -1,9 +1,9 @@
 -- Step after step.
 use Rattle.answers.specs.Then.{on-done, on-refused}
-use Rattle.revocation.specs.Revoke.{revokeLeaf}
+use Rattle.leaf_revocation.specs.Leaf.{revokeLeaf}
 use borrow.Author.Needs.{needs}
-use Rattle.revocation.proofs.revoke_leaf.Statement.{statement}
-use Rattle.revocation.proofs.revoke_leaf.Tie as tie
+use Rattle.leaf_revocation.proofs.revoke_leaf.Statement.{statement}
+use Rattle.leaf_revocation.proofs.revoke_leaf.Tie as tie
 
 load-region-requires : tie.Need-load-region-requires
 load-region-requires c κs = search needs

@@ -1,8 +1,8 @@
 -- Step after step.
 use Rattle.answers.specs.Then.{on-done, on-refused}
 use borrow.Author.Needs.{needs}
-use Rattle.revocation.proofs.free_leaf.Statement.{statement}
-use Rattle.revocation.proofs.free_leaf.Tie as tie
+use Rattle.leaf_revocation.proofs.free_leaf.Statement.{statement}
+use Rattle.leaf_revocation.proofs.free_leaf.Tie as tie
 
 give-back-requires : tie.Need-give-back-requires
 give-back-requires c κs = search needs
