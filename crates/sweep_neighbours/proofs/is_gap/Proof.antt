@@ -1,9 +1,9 @@
 -- The same reach, and no start.
 use mathlib.Core.Path.{_∙_}
-use Rattle.sound_sweep.specs.Steps.{gap-tested}
+use Rattle.sweep_neighbours.specs.Follows.{gap-tested}
 use borrow.Author.Needs.{needs}
-use Rattle.sound_sweep.proofs.records.is_gap.Statement.{statement}
-use Rattle.sound_sweep.proofs.records.is_gap.Tie as tie
+use Rattle.sweep_neighbours.proofs.is_gap.Statement.{statement}
+use Rattle.sweep_neighbours.proofs.is_gap.Tie as tie
 
 next-requires : tie.Need-next-requires
 next-requires c κs = search needs

@@ -1,8 +1,8 @@
 -- The three tests.
-use Rattle.sound_sweep.specs.Steps.{has-form}
+use Rattle.sweep_neighbours.specs.Follows.{has-form}
 use borrow.Author.Needs.{needs}
-use Rattle.sound_sweep.proofs.records.formed.Statement.{statement}
-use Rattle.sound_sweep.proofs.records.formed.Tie as tie
+use Rattle.sweep_neighbours.proofs.formed.Statement.{statement}
+use Rattle.sweep_neighbours.proofs.formed.Tie as tie
 
 both-requires : tie.Need-both-requires
 both-requires c κs = search needs

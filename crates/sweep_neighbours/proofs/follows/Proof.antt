@@ -4,11 +4,10 @@ use mathlib.Core.Bool.{not}
 use borrow.Author.Tests.{not-true, not-false}
 use Rattle.sweep_cursors.specs.Sums.{countsOf}
 use Rattle.sweep_cursors.specs.Cursors.{cursorIn}
-use Rattle.sound_sweep.specs.Records.{recordFrom}
-use Rattle.sound_sweep.specs.Steps.{follows-no, follows-gap, follows-touch}
+use Rattle.sweep_neighbours.specs.Follows.{recordFrom, follows-no, follows-gap, follows-touch}
 use borrow.Author.Needs.{needs}
-use Rattle.sound_sweep.proofs.records.follows.Statement.{statement}
-use Rattle.sound_sweep.proofs.records.follows.Tie as tie
+use Rattle.sweep_neighbours.proofs.follows.Statement.{statement}
+use Rattle.sweep_neighbours.proofs.follows.Tie as tie
 
 formed-requires : tie.Need-formed-requires
 formed-requires c κs = search needs
