@@ -1,9 +1,9 @@
 -- Onward with the new record's link and its marks.
 use Rattle.region.proofs.Steps.{onward-done, onward-refused}
-use Rattle.region.specs.Turns.{fillTurn}
+use Rattle.gain_turns.specs.Turns.{fillTurn}
 use borrow.Author.Needs.{needs}
-use Rattle.region.proofs.turns.fill.Statement.{statement}
-use Rattle.region.proofs.turns.fill.Tie as tie
+use Rattle.gain_turns.proofs.fill.Statement.{statement}
+use Rattle.gain_turns.proofs.fill.Tie as tie
 
 new-requires : tie.Need-new-requires
 new-requires c κs = search needs

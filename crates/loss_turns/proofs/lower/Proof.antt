@@ -1,8 +1,9 @@
 -- The lowered record is stored, or unlinked and freed.
-use Rattle.region.proofs.Steps.{lower-kept, lower-gone, onward-done, onward-refused}
+use Rattle.region.proofs.Steps.{onward-done, onward-refused}
+use Rattle.loss_turns.proofs.Steps.{lower-kept, lower-gone}
 use borrow.Author.Needs.{needs}
-use Rattle.region.proofs.turns.lower.Statement.{statement}
-use Rattle.region.proofs.turns.lower.Tie as tie
+use Rattle.loss_turns.proofs.lower.Statement.{statement}
+use Rattle.loss_turns.proofs.lower.Tie as tie
 
 decrease-requires : tie.Need-decrease-requires
 decrease-requires c κs = search needs

@@ -1,9 +1,9 @@
 -- The raised record is stored.
-use Rattle.region.specs.Turns.{raiseTurn}
+use Rattle.gain_turns.specs.Turns.{raiseTurn}
 use borrow.Author.Needs.{needs}
 use mathlib.Core.Path.{_∙_}
-use Rattle.region.proofs.turns.raise.Statement.{statement}
-use Rattle.region.proofs.turns.raise.Tie as tie
+use Rattle.gain_turns.proofs.raise.Statement.{statement}
+use Rattle.gain_turns.proofs.raise.Tie as tie
 
 increase-requires : tie.Need-increase-requires
 increase-requires c κs = search needs
