@@ -3,7 +3,7 @@ ghost use mathlib.Core.Path.{_≡_};
 ghost use Prim.Native.Nat.{_+_, _≤_};
 ghost use lib.ListN.{length, set};
 ghost use Rattle.tables.specs.View.{view, Sized};
-ghost use Rattle.region.specs.Turns.{addRegion, removeRegion};
+ghost use Rattle.tracker.specs.Walks.{addRegion, removeRegion};
 ghost use Rattle.readings.specs.Readings.{recordsOf, largestReach, permissionList, fillRun};
 ghost use Rattle.bench.specs.Steps.{reply, left};
 ghost use Rattle.bench.specs.Trackers.{changeOf, accessOf, wordsOf, filled};

@@ -10,7 +10,7 @@ use Rattle.ring.specs.Ring.{pushOf, cleanupOf}
 use Rattle.ring_search.specs.Queueing.{queueOf}
 use Rattle.stored_ring.specs.Stored.{ringOf, withRingOf}
 use Rattle.region.specs.declared.AccessRights.{AccessRights}
-use Rattle.region.specs.Turns.{addRegion, removeRegion}
+use Rattle.tracker.specs.Walks.{addRegion, removeRegion}
 use Rattle.answers.specs.declared.Answer.{Answer}
 use Rattle.answers.specs.declared.Answer.the-variants.{Done, Refused}
 use Rattle.refusals.specs.declared.Refusal.{Refusal}

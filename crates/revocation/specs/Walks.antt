@@ -1,12 +1,9 @@
--- One turn of the walk down a tree that is revoked, and the flag that asks for cleanup.
+-- One turn of the walk down a tree that is revoked.
 use mathlib.Core.Path.{_≡_, refl, sym, _∙_}
-use mathlib.Core.Bool.{Bool}
 use mathlib.Core.List.{List}
-use Prim.Native.Nat.{ℕ, zero, suc, _-_, _%_, _<_}
+use Prim.Native.Nat.{ℕ, zero, suc, _-_, _<_}
 use native.Mathlib.Omega.{arith}
 use borrow.Author.Tests.{eq-eqb, ne-eqb}
-use Rattle.rights.specs.Laws.{contains-flag}
-use Rattle.rights.specs.Rights.{has, contains, CLEANUP}
 use Rattle.tables.specs.declared.RegionCapa.{RegionCapa}
 use Rattle.tables.specs.Links.{slotTo}
 use Rattle.tables.specs.Tables.{Tables, regionAt}
@@ -17,7 +14,8 @@ use Rattle.answers.specs.declared.Answer.{Answer}
 use Rattle.answers.specs.declared.Answer.the-variants.{Done, Refused}
 use Rattle.answers.specs.Answers.{andThen}
 use Rattle.answers.specs.Then.{Realizes, stays, step-done, on-refused}
-use Rattle.revocation.specs.Revoke.{revokeLeaf, revokeRegion}
+use Rattle.leaf_revocation.specs.Leaf.{revokeLeaf}
+use Rattle.revocation.specs.Revoke.{revokeRegion}
 
 module _ (closing n i : ℕ) where
   pub revoke-out : (u : List ℕ) → Sized u → n ≡ 0 → Realizes u (Refused memory) (revokeRegion closing n i (view u))
@@ -48,8 +46,3 @@ module _ (closing n i : ℕ) where
 
         pub revoke-refused : (q : Refusal) → a ≡ Refused q → Realizes u (Refused q) (revokeRegion closing n i s)
         revoke-refused q d = rw (← below) (on-refused _ _ u a ran q d)
-
--- ---- the flag that asks for cleanup
-
-pub cleanup-test : (w x : ℕ) (b : Bool) → x ≡ w % 256 → b ≡ contains x CLEANUP → b ≡ has (w % 256) CLEANUP
-cleanup-test w x b ex eb = eb ∙ rw ex (contains-flag 5 (w % 256))

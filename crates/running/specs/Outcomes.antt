@@ -11,7 +11,7 @@ use Rattle.script_records.specs.declared.Parsed.{Parsed}
 use Rattle.script_records.specs.declared.Parsed.the-variants as found
 use Rattle.script_records.specs.Parsed.{sizeOf, callIn, parsed}
 use Rattle.script_records.specs.Words.{call-size}
-use Rattle.running.specs.declared.scripts.Ran.{Ran}
+use Rattle.script_progress.specs.declared.Ran.{Ran}
 use Rattle.running.specs.declared.scripts.Taken.{Taken}
 use Rattle.running.specs.declared.scripts.Taken.the-variants.{Short, Bad, Done}
 use Rattle.running.specs.Takes.{Takes}

@@ -21,8 +21,8 @@ use Rattle.script_records.specs.Words.{call-size, call-words, bytes-drop}
 use Rattle.script_records.specs.Scripts.{script-ended}
 use Rattle.script_records.specs.Streams.{stream-call, stream-bad, stream-cut}
 use Rattle.replies.specs.declared.Reply.{Reply}
-use Rattle.running.specs.declared.scripts.Place.{Place}
-use Rattle.running.specs.declared.scripts.Ran.{Ran}
+use Rattle.script_progress.specs.declared.Place.{Place}
+use Rattle.script_progress.specs.declared.Ran.{Ran}
 use Rattle.running.specs.Chains.{chain-end, each-end}
 use Rattle.running.specs.Outcomes.{WasRun, NotRun}
 use Rattle.running.specs.RunScript.{scriptReply}

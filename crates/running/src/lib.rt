@@ -2,7 +2,6 @@
 mod perform;
 pub mod scripts;
 
-pub use scripts::Ran;
 pub use scripts::Taken;
 pub use scripts::run_script;
 pub use scripts::take;

@@ -1,21 +1,13 @@
 // Records taken from the bytes at hand, one by one.
-ghost use mathlib.Core.Path.{_≡_};
-ghost use Prim.Native.Nat.{_+_, _<_, _^_};
-ghost use Rattle.refusals.specs.Refusals.{number, badRecord};
 ghost use Rattle.script_records.specs.Parsed.{parsed};
 ghost use Rattle.running.specs.Takes.{Takes};
 ghost use Rattle.running.specs.BetweenRecords.{RunsAll};
 ghost use Rattle.running.specs.RunScript.{RanScript};
 use crate::perform;
-use refusals::Refusal;
 use replies::Reply;
+use script_progress::Place;
+use script_progress::Ran;
 use script_records::Parsed;
-
-// A record that was run: what its call replied, and the bytes that it took.
-pub struct Ran {
-    pub reply: Reply,
-    pub size: usize,
-}
 
 // What became of the bytes at hand.
 pub enum Taken {
@@ -40,32 +32,6 @@ pub fn take(b: &[u8], t: &mut [u64], w: &mut [u64]) -> Taken
     }
 }
 
-// A place between two records: the bytes before it, and the calls run by then.
-struct Place {
-    at: usize,
-    calls: u64,
-}
-
-// Behind a record that was run: its bytes are passed, and it counts as a call, accepted or refused.
-fn behind(p: Place, x: Ran) -> Place
-    requires { ⌜ (p .at + x .size < 2 ^ 64) × (p .calls + 1 < 2 ^ 64) ⌝ }
-    ensures { λ r. ⌜ r ≡ record { at = p .at + x .size; calls = p .calls + 1 } ⌝ }
-{
-    Place {
-        at: p.at + x.size,
-        calls: p.calls + 1,
-    }
-}
-
-fn bad_record(calls: u64) -> Reply
-    ensures { λ r. ⌜ r ≡ record { refusal = number badRecord; value = calls } ⌝ }
-{
-    Reply {
-        refusal: Refusal::BAD_RECORD.0,
-        value: calls,
-    }
-}
-
 // The records of the bytes, to their end or to the first bad one; the value is the number of calls run.
 fn run_records(b: &[u8], t: &mut [u64], w: &mut [u64]) -> Reply
     ensures { λ x. ⌜ RunsAll (now (b .entry)) (now (t .entry)) (now (w .entry)) x (now (t .exit)) (now (w .exit)) ⌝ }
@@ -74,9 +40,9 @@ fn run_records(b: &[u8], t: &mut [u64], w: &mut [u64]) -> Reply
     while p.at < b.len() {
         let at = p.at;
         match take(&b[at..], t, w) {
-            Taken::Short => return bad_record(p.calls),
-            Taken::Bad => return bad_record(p.calls),
-            Taken::Done(x) => p = behind(p, x),
+            Taken::Short => return script_progress::bad_record(p.calls),
+            Taken::Bad => return script_progress::bad_record(p.calls),
+            Taken::Done(x) => p = script_progress::behind(p, x),
         }
     }
     Reply {

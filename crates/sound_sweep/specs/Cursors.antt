@@ -1,17 +1,12 @@
--- What both cursors say together: sums alone, rounds for all events, and what a record leaves.
+-- What both cursors say together: rounds for all events, and what a record leaves.
 use mathlib.Core.Path.{_≡_}
-use mathlib.Core.List.{List, []}
+use mathlib.Core.List.{List}
 use Prim.Native.Nat.{ℕ, _+_}
 use lib.ListN.{length}
-use Rattle.model.specs.State.{Counts}
 use Rattle.sweep.specs.Sweep as sweep
 use Rattle.sound_events.specs.Events.{eventsIn}
 use Rattle.sweep_cursors.specs.Cursors.{At}
 use Rattle.sound_sweep.specs.declared.Both.{Both}
-
--- sums alone
-abbrev pub summed : Counts → sweep.Cursor
-summed k = record { sums = k; ahead = [] }
 
 -- enough rounds for all events
 abbrev pub rounds : List ℕ → List ℕ → ℕ

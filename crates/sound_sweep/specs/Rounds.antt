@@ -17,8 +17,8 @@ use Rattle.sound_events.specs.Events.{eventsIn}
 use Rattle.sweep_cursors.specs.declared.Cursor.{Cursor}
 use Rattle.sweep_cursors.specs.Sums.{countsOf, countsFrom, Low}
 use Rattle.sweep_cursors.specs.Cursors.{cursorIn, At}
+use Rattle.sweep_neighbours.specs.Follows.{recordFrom}
 use Rattle.sound_sweep.specs.declared.Both.{Both}
-use Rattle.sound_sweep.specs.Records.{recordFrom}
 use Rattle.sound_sweep.specs.Cursors.{rounds, Left}
 
 -- how many events are ahead

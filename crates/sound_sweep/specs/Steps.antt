@@ -1,36 +1,30 @@
 -- The sweep's steps as the code has them: one record, and the end. The slot of a record does not matter.
 use mathlib.Core.Path.{_≡_, refl, sym, ap, ap₂, _∙_}
-use mathlib.Core.Bool.{Bool, true, false, not, _&&_}
+use mathlib.Core.Bool.{Bool, _&&_}
 use mathlib.Core.List.{List, [], _∷_}
-use Prim.Native.Nat.{ℕ, zero, suc, _/_, _≤_, _<_}
+use Prim.Native.Nat.{ℕ, zero, suc, _/_}
 use lib.Dec.{eqb, ltb, leb}
 use lib.ListN.{length, drop, drop-of-length-le}
 use lib.Seq.{drop-cons}
-use borrow.Author.Tests.{lt-ltb, le-ltb, le-leb, lt-leb}
+use borrow.Author.Tests.{le-leb, lt-leb}
 use Rattle.base.specs.Cases.{lt, ge, cmp}
 use Rattle.base.specs.Tests.{both}
 use Rattle.model.specs.Lists.{if_then_else_, isEmpty}
-use Rattle.model.specs.State.{Counts, Record}
-use Rattle.model.specs.Tracker.{sameCounts}
+use Rattle.model.specs.State.{Record}
 use Rattle.tables.specs.declared.Region.{Region}
 use Rattle.sweep.specs.Events.{Event}
 use Rattle.sweep.specs.Sort.{noEvent}
 use Rattle.sweep.specs.Sweep as sweep
-use Rattle.sweep.specs.Sweep.{upto, next, formed, gap, same, inside, sweepFrom}
+use Rattle.sweep.specs.Sweep.{upto, nextOf, agrees, same, inside, sweepFrom}
 use Rattle.sound_events.specs.Events.{eventsIn}
 use Rattle.sound_events.specs.Words.{length-events}
-use Rattle.sweep_cursors.specs.declared.Sums.{Sums}
 use Rattle.sweep_cursors.specs.declared.Cursor.{Cursor}
-use Rattle.sweep_cursors.specs.Sums.{countsOf}
-use Rattle.sweep_cursors.specs.Tests.{three, two}
+use Rattle.sweep_cursors.specs.Sums.{countsOf, countsFrom}
+use Rattle.sweep_cursors.specs.Tests.{two}
 use Rattle.sweep_cursors.specs.Cursors.{cursorIn, At}
+use Rattle.sweep_neighbours.specs.Follows.{recordFrom, follows}
 use Rattle.sound_sweep.specs.declared.Both.{Both}
-use Rattle.sound_sweep.specs.Records.{recordFrom}
-use Rattle.sound_sweep.specs.Cursors.{summed, rounds, Left}
-
--- May q stand behind b, at whose end the ends passed have the sums k?
-abbrev pub follows : Record → Record → sweep.Cursor → Counts → Bool
-follows b q p k = formed q && leb (b .end) (q .start) && (if ltb (b .end) (q .start) then gap (q .start) p (summed k) else not (sameCounts (b .counts) (q .counts)))
+use Rattle.sound_sweep.specs.Cursors.{rounds, Left}
 
 -- what record q behind b leaves
 abbrev pub turn : ℕ → Record → Record → sweep.Cursor → sweep.Cursor → sweep.Both
@@ -42,27 +36,6 @@ turn n b q p m =
 -- behind the last record b
 abbrev pub ending : Record → sweep.Cursor → sweep.Cursor → Bool
 ending b p m = isEmpty (p .ahead) && same p (upto (b .end) m)
-
--- ---- a record behind another
-
-pub has-form : (q : Region) → both (both (ltb (q .start) (q .end)) (ltb 0 (q .«ref_count»))) (leb (q .«uncache_count») 1) ≡ formed (recordFrom 0 q)
-has-form q = three (ltb (q .start) (q .end)) (ltb 0 (q .«ref_count»)) (leb (q .«uncache_count») 1)
-
-pub gap-tested : (s : List ℕ) (x n : ℕ) (p : Cursor) (m : Sums) → n ≡ next (drop (p .place) (eventsIn s)) x → both (eqb (p .sums .«ref_count») (m .«ref_count»)) (leb x n) ≡ gap x (cursorIn s p) (summed (countsOf m))
-gap-tested s x n p m e = rw (← e) (two (eqb (p .sums .«ref_count») (m .«ref_count»)) (leb x n))
-
-module _ (b q : Record) (p : sweep.Cursor) (k : Counts) (v t : Bool) (h : v ≡ formed q) (i : t ≡ both v (leb (b .end) (q .start))) where
-  tested : formed q && leb (b .end) (q .start) ≡ t
-  tested = ap (λ z. z && leb (b .end) (q .start)) (sym h) ∙ sym (two v (leb (b .end) (q .start))) ∙ sym i
-
-  pub follows-no : t ≡ false → false ≡ follows b q p k
-  follows-no f = rw (tested, f)
-
-  pub follows-gap : t ≡ true → b .end < q .start → gap (q .start) p (summed k) ≡ follows b q p k
-  follows-gap f u = rw (tested, f, lt-ltb (b .end) (q .start) u)
-
-  pub follows-touch : t ≡ true → q .start ≤ b .end → not (sameCounts (b .counts) (q .counts)) ≡ follows b q p k
-  follows-touch f u = rw (tested, f, le-ltb (b .end) (q .start) u)
 
 -- ---- a whole turn, of the code's cursors
 
@@ -106,7 +79,10 @@ module _ (i : ℕ) (q : Region) where
   inside-slot : (n : ℕ) (p m : sweep.Cursor) → inside n (recordFrom i q) p m ≡ inside n (recordFrom 0 q) p m
   unfolding inside
   inside-slot zero p m = refl
-  inside-slot (suc n) p m = rw (inside-slot n)
+  inside-slot (suc n) p m =
+      let a = nextOf p m (q .end) in
+      let b = agrees (p .sums) (m .sums) (countsFrom q) in
+      ap (λ (x : sweep.Both). if b && ltb a (q .end) then x else record { p = p; m = m; ok = b }) (inside-slot n (upto a p) (upto a m))
 
   pub turn-slot : (n : ℕ) (b : Record) (p m : sweep.Cursor) → turn n b (recordFrom i q) p m ≡ turn n b (recordFrom 0 q) p m
   turn-slot n b p m =

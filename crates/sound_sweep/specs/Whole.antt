@@ -16,8 +16,9 @@ use Rattle.sound_events.specs.Events.{eventsIn}
 use Rattle.sweep_cursors.specs.declared.Cursor.{Cursor}
 use Rattle.sweep_cursors.specs.Sums.{Low}
 use Rattle.sweep_cursors.specs.Cursors.{cursorIn, First}
+use Rattle.sweep_neighbours.specs.Follows.{recordFrom}
 use Rattle.sound_sweep.specs.declared.Both.{Both}
-use Rattle.sound_sweep.specs.Records.{recordFrom, chained}
+use Rattle.sound_sweep.specs.Records.{chained}
 use Rattle.sound_sweep.specs.Cursors.{rounds, Left}
 use Rattle.sound_sweep.specs.Steps.{turn, ending, turn-slot, last-slot, sweep-turn, sweep-end}
 

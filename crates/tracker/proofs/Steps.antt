@@ -19,7 +19,7 @@ use Rattle.region.specs.declared.Way.{Way}
 use Rattle.region.specs.declared.Way.the-variants.{Merge}
 use Rattle.answers.specs.Then.{stays}
 use Rattle.tracker_records.specs.Links.{firstLink}
-use Rattle.region.specs.Turns.{turn, walk, walked}
+use Rattle.tracker.specs.Walks.{turn, walk, walked}
 
 module _ (w : Way) (d : ℕ) (a : AccessRights) (t : List ℕ) where
   -- the number of turns and the first record as they are read from the words

@@ -4,7 +4,7 @@ pub mod turns;
 
 ghost use mathlib.Core.Path.{_≡_};
 ghost use Rattle.tables.specs.View.{view, Sized, Left};
-ghost use Rattle.region.specs.Turns.{walked, addRegion, removeRegion};
+ghost use Rattle.tracker.specs.Walks.{walked, addRegion, removeRegion};
 use answers::Answer;
 use refusals::Refusal;
 use region::AccessRights;

@@ -1,7 +1,7 @@
-// One turn of a walk over a domain's records: a step of crate `region`, by where the range and the record at hand lie.
+// One turn of a walk over a domain's records: a step of crate `region`, `gain_turns` or `loss_turns`, by where the range and the record at hand lie.
 ghost use mathlib.Core.Path.{_≡_};
 ghost use Rattle.tables.specs.View.{view, Sized, Left};
-ghost use Rattle.region.specs.Turns.{addAt, addTurn, removeAt, removeTurn, mergeTurn, turn};
+ghost use Rattle.tracker.specs.Walks.{addAt, addTurn, removeAt, removeTurn, mergeTurn, turn};
 use answers::Answer;
 use region::AccessRights;
 use region::Way;
@@ -16,7 +16,7 @@ fn add_at(t: &mut [u64], d: usize, a: AccessRights, c: Cursor, q: Region) -> Pro
     ensures { λ _. ⌜ Left (now (t .exit)) (addAt (view (now (t .entry))) d a c q .tables) ⌝ }
 {
     if c.start < q.start {
-        return region::turns::fill(t, d, a, c, counts::least(q.start, a.end));
+        return gain_turns::fill(t, d, a, c, counts::least(q.start, a.end));
     }
     if q.end <= c.start {
         return walk_cursors::going(c, q.next, c.start, 0);
@@ -27,7 +27,7 @@ fn add_at(t: &mut [u64], d: usize, a: AccessRights, c: Cursor, q: Region) -> Pro
     if a.end < q.end {
         return region::turns::cut_end(t, c, a.end);
     }
-    region::turns::raise(t, a, c, q)
+    gain_turns::raise(t, a, c, q)
 }
 
 // A turn of `add_region`, until the range is done.
@@ -40,7 +40,7 @@ fn add(t: &mut [u64], d: usize, a: AccessRights, c: Cursor) -> Progress
         return Progress::Over(Answer::Done(c.marks));
     }
     if c.at == 0 {
-        return region::turns::fill(t, d, a, c, a.end);
+        return gain_turns::fill(t, d, a, c, a.end);
     }
     let q = record_rows::load_record(t, tables::slot_to(c.at));
     add_at(t, d, a, c, q)
@@ -64,7 +64,7 @@ fn remove_at(t: &mut [u64], d: usize, a: AccessRights, c: Cursor, q: Region) -> 
     if a.end < q.end {
         return region::turns::cut_end(t, c, a.end);
     }
-    region::turns::lower(t, d, a, c, q)
+    loss_turns::lower(t, d, a, c, q)
 }
 
 // A turn of `remove_region`, until the records end or lie past the range.

@@ -20,7 +20,7 @@ use Rattle.model.specs.Sound.{Rising}
 use Rattle.laws.specs.Tree.Slots.{in-length, live-is}
 use Rattle.laws.specs.Tree.Steps.{domain-at}
 use Rattle.answers.specs.Answers.{Effect, done, andThen}
-use Rattle.region.specs.Turns.{addRegion, removeRegion}
+use Rattle.tracker.specs.Walks.{addRegion, removeRegion}
 use Rattle.domain.specs.Activate.{notify, notifyIf, activate, deactivate}
 use Rattle.decoded.specs.Sizes.{good-limits}
 use Rattle.decoded.specs.Tables.{tablesOf}

@@ -35,7 +35,8 @@ use Rattle.tables.specs.Tables.{Tables, regionAt}
 use Rattle.answers.specs.Answers.{Effect, andThen}
 use Rattle.domain.specs.Activate.{activate, deactivate, cleanup}
 use Rattle.segment.specs.Regions.{access, freedRegion}
-use Rattle.revocation.specs.Revoke.{leaveParent, giveBack, cleanupIf, revokeLeaf}
+use Rattle.giving_back.specs.GiveBack.{giveBack}
+use Rattle.leaf_revocation.specs.Leaf.{leaveParent, cleanupIf, revokeLeaf}
 use Rattle.refine.specs.Agrees.{Agrees, agrees-step, agrees-call, agrees-state, bind-assoc, bind-same}
 use Rattle.decoded.specs.Tree.Regions.{region-read}
 use Rattle.refine.specs.Tree.Search.{Children, regions-children}

@@ -27,7 +27,8 @@ use Rattle.laws.specs.Keep.RevokeRegion.{leaves-whole}
 use Rattle.tables.specs.declared.RegionCapa.{RegionCapa}
 use Rattle.tables.specs.Tables.{Tables, regionAt}
 use Rattle.answers.specs.Answers.{andThen}
-use Rattle.revocation.specs.Revoke.{revokeLeaf, revokeRegion, revoke}
+use Rattle.leaf_revocation.specs.Leaf.{revokeLeaf}
+use Rattle.revocation.specs.Revoke.{revokeRegion, revoke}
 use Rattle.refine.specs.Agrees.{Agrees, agrees-step, agrees-call, agrees-state, bind-assoc}
 use Rattle.decoded.specs.Tree.Regions.{region-read}
 use Rattle.refine.specs.Arenas.Pools.{count-is}

@@ -13,7 +13,7 @@ use Rattle.laws.specs.Tracker.Pools.{moved-none}
 use Rattle.laws.specs.Tracker.Slots.{add-moves}
 use Rattle.region.specs.declared.AccessRights.{AccessRights}
 use Rattle.region.specs.declared.Way.the-variants.{Add}
-use Rattle.region.specs.Turns.{addRegion}
+use Rattle.tracker.specs.Walks.{addRegion}
 use Rattle.decoded.specs.Tables.{tablesOf}
 use Rattle.refine.specs.Agrees.{Agrees}
 use Rattle.refine.specs.Tracker.RecordSteps.{tracked, Held, held-moved}

@@ -21,7 +21,9 @@ use Rattle.tables.specs.Links.{slotTo}
 use Rattle.tracker_records.specs.Links.{inserted, split}
 use Rattle.counts.specs.Counts.{crossingsOf}
 use Rattle.walk_cursors.specs.Cursors.{nextOf}
-use Rattle.region.specs.Turns.{Turn, to, over, onward, fillTurn, cutStart, cutEnd, raiseTurn, addAt, addTurn, turn}
+use Rattle.region.specs.Turns.{Turn, to, over, onward, cutStart, cutEnd}
+use Rattle.gain_turns.specs.Turns.{fillTurn, raiseTurn}
+use Rattle.tracker.specs.Walks.{addAt, addTurn, turn}
 use Rattle.decoded.specs.Tables.{recordFor, tablesOf}
 use Rattle.refine.specs.Tracker.Linked.{slot-of, lastLink}
 use Rattle.refine.specs.Tracker.RecordSteps.{tracked}

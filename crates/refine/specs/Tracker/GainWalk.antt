@@ -24,7 +24,8 @@ use Rattle.laws.specs.Tracker.Span.{weaken-rising}
 use Rattle.tables.specs.Tables.{Tables}
 use Rattle.region.specs.declared.AccessRights.{AccessRights}
 use Rattle.region.specs.declared.Way.the-variants.{Add}
-use Rattle.region.specs.Turns.{onward, turn}
+use Rattle.region.specs.Turns.{onward}
+use Rattle.tracker.specs.Walks.{turn}
 use Rattle.tracker_records.specs.Links.{inserted}
 use Rattle.decoded.specs.Tables.{recordFor, tablesOf}
 use Rattle.refine.specs.Agrees.{agrees-call}

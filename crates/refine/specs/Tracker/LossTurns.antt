@@ -24,7 +24,9 @@ use Rattle.tables.specs.Links.{slotTo}
 use Rattle.tracker_records.specs.Links.{withNext, split, freedRecord}
 use Rattle.counts.specs.Counts.{crossingsOf}
 use Rattle.walk_cursors.specs.Cursors.{nextOf, droppedOf}
-use Rattle.region.specs.Turns.{Turn, to, over, onward, cutStart, cutEnd, lowerTurn, removeAt, removeTurn, turn}
+use Rattle.region.specs.Turns.{Turn, to, over, onward, cutStart, cutEnd}
+use Rattle.loss_turns.specs.Turns.{lowerTurn}
+use Rattle.tracker.specs.Walks.{removeAt, removeTurn, turn}
 use Rattle.decoded.specs.Tables.{recordFor, tablesOf}
 use Rattle.refine.specs.Tracker.Linked.{slot-of, lastLink}
 use Rattle.refine.specs.Tracker.RecordSteps.{tracked}

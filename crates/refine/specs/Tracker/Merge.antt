@@ -26,7 +26,8 @@ use Rattle.walk_cursors.specs.declared.Progress.the-variants.{Going}
 use Rattle.region.specs.declared.Way.the-variants.{Merge}
 use Rattle.tables.specs.Links.{slotTo}
 use Rattle.tracker_records.specs.Links.{freedRecord}
-use Rattle.region.specs.Turns.{to, over, onward, mergeAt, mergeTurn, turn}
+use Rattle.region.specs.Turns.{to, over, onward, mergeAt}
+use Rattle.tracker.specs.Walks.{mergeTurn, turn}
 use Rattle.decoded.specs.Tables.{recordFor, tablesOf}
 use Rattle.refine.specs.Agrees.{bind-assoc}
 use Rattle.refine.specs.Tracker.Linked.{slot-of}

@@ -20,8 +20,8 @@ use Rattle.answers.specs.Answers.{andThen}
 use Rattle.region.specs.declared.AccessRights.{AccessRights}
 use Rattle.region.specs.declared.Way.{Way}
 use Rattle.region.specs.declared.Way.the-variants.{Merge}
-use Rattle.region.specs.Turns as turns
-use Rattle.region.specs.Turns.{walk}
+use Rattle.tracker.specs.Walks as turns
+use Rattle.tracker.specs.Walks.{walk}
 use Rattle.decoded.specs.Tables.{tablesOf}
 use Rattle.decoded.specs.Free.{free-fits}
 use Rattle.refine.specs.Agrees.{Agrees, agrees-step, agrees-call, agrees-from, bind-assoc, bind-same}

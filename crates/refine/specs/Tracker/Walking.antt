@@ -29,7 +29,8 @@ use Rattle.walk_cursors.specs.declared.Cursor.{Cursor}
 use Rattle.walk_cursors.specs.declared.Progress.the-variants.{Going, Over}
 use Rattle.region.specs.declared.Way.{Way}
 use Rattle.tracker_records.specs.Links.{withNext, firstLink, inserted, split, freedRecord}
-use Rattle.region.specs.Turns.{Turn, to, onward, turn, walk}
+use Rattle.region.specs.Turns.{Turn, to, onward}
+use Rattle.tracker.specs.Walks.{turn, walk}
 use Rattle.decoded.specs.Tables.{recordFor, tablesOf}
 use Rattle.decoded.specs.Slots.Domains.{head-read}
 use Rattle.refine.specs.Agrees.{Agrees, agrees-step, agrees-call, agrees-from, bind-same}

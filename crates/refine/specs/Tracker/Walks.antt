@@ -22,7 +22,8 @@ use Rattle.walk_cursors.specs.declared.Cursor.{Cursor}
 use Rattle.walk_cursors.specs.declared.Progress.the-variants.{Going}
 use Rattle.region.specs.declared.Way.{Way}
 use Rattle.tracker_records.specs.Links.{split}
-use Rattle.region.specs.Turns.{to, over, onward, turn, walk}
+use Rattle.region.specs.Turns.{to, over, onward}
+use Rattle.tracker.specs.Walks.{turn, walk}
 use Rattle.decoded.specs.Tables.{tablesOf}
 use Rattle.refine.specs.Agrees.{Agrees, agrees-step, agrees-call, bind-assoc}
 use Rattle.refine.specs.Tracker.Linked.{last-of}

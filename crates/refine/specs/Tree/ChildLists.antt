@@ -31,7 +31,7 @@ use Rattle.children.specs.declared.Place.{Place}
 use Rattle.children.specs.declared.Search.{Search}
 use Rattle.children.specs.declared.Search.the-variants as search
 use Rattle.children.specs.Children.{linkChild, insertChild, removeChild}
-use Rattle.revocation.specs.Revoke.{leaveParent}
+use Rattle.leaf_revocation.specs.Leaf.{leaveParent}
 use Rattle.decoded.specs.Links.{after-top, after-behind}
 use Rattle.decoded.specs.Tree.Regions.{region-read}
 use Rattle.decoded.specs.Tree.Children.{rowIn, child-added, child-removed, first-added, first-removed}

@@ -13,7 +13,7 @@ use Rattle.revocation.specs.Walks.{revoke-out, revoke-here, revoke-on, r
 use Rattle.revocation.proofs.revoke_region.Reads as revoke-region
 use Rattle.revocation.proofs.revoke_region.Kinds as revoke-region-kinds
 use Rattle.revocation.proofs.+revoke_region.Lts-revoke_region as revoke-region-lts
-use Rattle.revocation.proofs.revoke_leaf.Reads as revoke-leaf-reads
+use Rattle.leaf_revocation.proofs.revoke_leaf.Reads as revoke-leaf-reads
 use Rattle.tables.proofs.slot_to.Reads as slot-to-reads
 use Rattle.region_rows.proofs.load_region.Reads as load-region-reads
 use Rattle.revocation.proofs.+revoke_region.{statement}

@@ -1,6 +1,6 @@
 -- The merging walk follows, unless the first one is refused.
 use Rattle.tracker.proofs.Steps.{merged, not-merged}
-use Rattle.region.specs.Turns.{addRegion}
+use Rattle.tracker.specs.Walks.{addRegion}
 use Rattle.region.specs.declared.Way.the-variants.{Add}
 use borrow.Author.Needs.{needs}
 use Rattle.tracker.proofs.add_region.Statement.{statement}

@@ -1,6 +1,6 @@
 -- The merging walk follows, unless the first one is refused.
 use Rattle.tracker.proofs.Steps.{merged, not-merged}
-use Rattle.region.specs.Turns.{removeRegion}
+use Rattle.tracker.specs.Walks.{removeRegion}
 use Rattle.region.specs.declared.Way.the-variants.{Remove}
 use borrow.Author.Needs.{needs}
 use Rattle.tracker.proofs.remove_region.Statement.{statement}

@@ -1,6 +1,6 @@
 -- What is left of the walk from here is the whole walk from the start.
 use Rattle.tracker.proofs.Steps.{walk-start, walk-end, walk-going, walk-over}
-use Rattle.region.specs.Turns.{walk}
+use Rattle.tracker.specs.Walks.{walk}
 use Rattle.sizes.specs.Sizes.{sizesOf}
 use Rattle.tables.specs.View.{view, Sized}
 use borrow.Author.Needs.{needs}

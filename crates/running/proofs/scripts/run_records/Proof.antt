@@ -4,7 +4,7 @@ use mathlib.Core.Path.{_≡_, refl, ap}
 use lib.ListN.{length, length-drop}
 use denote.Ref.{now}
 use native.Mathlib.Omega.{arith}
-use Rattle.running.specs.declared.scripts.Place.{Place}
+use Rattle.script_progress.specs.declared.Place.{Place}
 use Rattle.running.specs.Outcomes.{taken-size, was-run, was-short, was-bad}
 use Rattle.running.specs.BetweenRecords.{BetweenRecords}
 use Rattle.running.specs.Steps.{part-rest, half-start, half-ended, half-short, half-bad, half-behind}

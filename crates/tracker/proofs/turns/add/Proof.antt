@@ -1,5 +1,5 @@
 -- The range is done; or no record, or one, is at hand.
-use Rattle.region.specs.Turns.{addTurn}
+use Rattle.tracker.specs.Walks.{addTurn}
 use borrow.Author.Needs.{needs}
 use borrow.Author.Tests.{eq-eqb, ne-eqb, le-leb, lt-leb}
 use mathlib.Core.Path.{refl}

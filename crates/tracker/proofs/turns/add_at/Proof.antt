@@ -1,5 +1,5 @@
 -- By the tests in their order.
-use Rattle.region.specs.Turns.{addAt}
+use Rattle.tracker.specs.Walks.{addAt}
 use borrow.Author.Needs.{needs}
 use borrow.Author.Tests.{lt-ltb, le-ltb, le-leb, lt-leb}
 use Rattle.answers.specs.Then.{stays}

@@ -1,5 +1,5 @@
 -- No record is at hand, or none behind it, or both are.
-use Rattle.region.specs.Turns.{mergeTurn}
+use Rattle.tracker.specs.Walks.{mergeTurn}
 use borrow.Author.Needs.{needs}
 use borrow.Author.Tests.{eq-eqb, ne-eqb}
 use mathlib.Core.Path.{refl}

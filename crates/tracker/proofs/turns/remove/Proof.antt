@@ -1,5 +1,5 @@
 -- No record is at hand, or one.
-use Rattle.region.specs.Turns.{removeTurn}
+use Rattle.tracker.specs.Walks.{removeTurn}
 use borrow.Author.Needs.{needs}
 use borrow.Author.Tests.{eq-eqb, ne-eqb}
 use mathlib.Core.Path.{refl}

@@ -1,5 +1,5 @@
 -- By the tests in their order.
-use Rattle.region.specs.Turns.{removeAt}
+use Rattle.tracker.specs.Walks.{removeAt}
 use borrow.Author.Needs.{needs}
 use borrow.Author.Tests.{lt-ltb, le-ltb, le-leb, lt-leb}
 use mathlib.Core.Path.{refl}
