@@ -11,7 +11,7 @@ use Rattle.model.specs.Layout.{words}
 use Rattle.model.specs.Perform.{Call, Value, Answer, step}
 use Rattle.model.specs.CallWords.{CallWords}
 use Rattle.model.specs.Sound.{Sound}
-use Rattle.model.specs.Memory.{Lent, madeAnswer, madeTables, After, made, notSound, performed}
+use Rattle.model.specs.Memory.{Lent, madeAnswer, tablesLeft, After, made, notSound, performed}
 use Rattle.laws.specs.Accepted.{All, accepted, both}
 use Rattle.laws.specs.Empty.{made-sound}
 use Rattle.laws.specs.Words.Unique.{words-unique}
@@ -66,12 +66,12 @@ not-yes : (r : Refusal) → Answer.no r ≡ Answer.yes Value.done → ⊥
 unfolding refusal
 not-yes r e = subst refusal e tt
 
-made-book : (t : List ℕ) (z : Sizes) (m : Outcome State) → All (Begun z) m → madeAnswer m ≡ Answer.yes Value.done → BookOf (blank z) (madeTables t m)
+made-book : (t : List ℕ) (z : Sizes) (m : Outcome State) → All (Begun z) m → madeAnswer m ≡ Answer.yes Value.done → BookOf (blank z) (tablesLeft t m)
 made-book t z (ok s) (accepted h) e = record { state = s; tables = refl; sound = h .1; matches = h .0 }
 made-book t z (refuse r) h e = absurd (not-yes r e)
 
 -- a making within a list: the book is begun anew, or goes on where the making is refused
-noted-book : (b : Book) (t : List ℕ) (z : Sizes) (m : Outcome State) → All (Begun z) m → BookOf b t → BookOf (note b (Call.Make z) (madeAnswer m)) (madeTables t m)
+noted-book : (b : Book) (t : List ℕ) (z : Sizes) (m : Outcome State) → All (Begun z) m → BookOf b t → BookOf (note b (Call.Make z) (madeAnswer m)) (tablesLeft t m)
 unfolding note accept
 noted-book b t z (ok s) (accepted h) k = record { state = s; tables = refl; sound = h .1; matches = h .0 }
 noted-book b t z (refuse r) h k = k

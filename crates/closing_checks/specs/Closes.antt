@@ -13,7 +13,7 @@ unfoldable pub closesFrom : Tables → ℕ → ℕ → ℕ → Bool
 closesFrom s d zero e = eqb e d
 closesFrom s d (suc n) e = eqb e d || pick (eqb (headAt s e .manager) 0) false (closesFrom s d n (slotTo (headAt s e .manager)))
 
--- the model's isClosed
+-- the model's isToClose
 unfoldable pub closesWithB : Tables → ℕ → ℕ → Bool
 closesWithB s d e = closesFrom s d (s .sizes .domains) e
 

@@ -13,7 +13,7 @@ use Rattle.model.specs.State.{State, Handle, Capa, noCapa, region, regionRevoke
 use Rattle.model.specs.Pool.{isLive}
 use Rattle.model.specs.Tree.{isRootKind}
 use Rattle.model.specs.Regions.{liveCount}
-use Rattle.model.specs.Closing.{closesWith, isClosed, rootToClose, closesRoot, closesRunning, revokeLive, revokeSlot, revokeSlots, freeDomain, closeDomain, liveDomains}
+use Rattle.model.specs.Closing.{closesWith, isToClose, rootToClose, closesRoot, closesRunning, revokeLive, revokeSlot, revokeSlots, freeDomain, closeDomain, liveDomains}
 use Rattle.model.specs.Calls.{liveDomain, revokeUnlessRoot, closeManaged, revokeCapa}
 use Rattle.interface.specs.Outcomes.{Both, accepted, By, bind-by, bind-same, and-same, branch}
 use Rattle.interface.specs.NoBits.{noBits, noBitsIn, domain-at, live-same}
@@ -44,7 +44,7 @@ closes-with : (ds : List (Option Domain)) (n d e : ℕ) → closesWith (map noBi
 closes-with ds zero d e = refl
 closes-with ds (suc n) d e = ap (λ b. eqb e d || b) (ap (managerPasses (closesWith (map noBitsIn ds) n d)) (List·getD-map noBitsIn ds e none) ∙ manager-same (closesWith (map noBitsIn ds) n d) (closesWith ds n d) (atSlot ds e) (closes-with ds n d))
 
-closed-same : (s : State) (d e : ℕ) → isClosed (noBits s) d e ≡ isClosed s d e
+closed-same : (s : State) (d e : ℕ) → isToClose (noBits s) d e ≡ isToClose s d e
 closed-same s d e = closes-with (s .domains) (s .sizes .domains) d e
 
 pub exists-same : {A : Type 0} (p q : A → Bool) (l : List A) → ((x : A) → p x ≡ q x) → exists p l ≡ exists q l
@@ -61,8 +61,8 @@ closes-root-same s d = exists-same (rootToClose (noBits s) d) (rootToClose s d) 
 
 closes-running-same : (s : State) (d : ℕ) → closesRunning (noBits s) d ≡ closesRunning s d
 unfolding closesRunning
-closes-running-same s d = exists-same _ (λ e. not (eqb (domainAt s e .cores) 0) && isClosed s d e) (countUp 0 (s .sizes .domains)) (λ e.
-    ap (λ (x : Domain). not (eqb (x .cores) 0) && isClosed (noBits s) d e) (domain-at s e) ∙ ap (λ b. not (eqb (domainAt s e .cores) 0) && b) (closed-same s d e))
+closes-running-same s d = exists-same _ (λ e. not (eqb (domainAt s e .cores) 0) && isToClose s d e) (countUp 0 (s .sizes .domains)) (λ e.
+    ap (λ (x : Domain). not (eqb (x .cores) 0) && isToClose (noBits s) d e) (domain-at s e) ∙ ap (λ b. not (eqb (domainAt s e .cores) 0) && b) (closed-same s d e))
 
 count-no-bits : (l : List (Option Domain)) → countIf isSome (map noBitsIn l) ≡ countIf isSome l
 count-no-bits [] = refl

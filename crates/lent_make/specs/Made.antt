@@ -13,7 +13,7 @@ use Rattle.model.specs.State.{State, Sizes}
 use Rattle.model.specs.Making.{goodSizes, emptyTables, makeIn}
 use Rattle.model.specs.Perform.{Call}
 use Rattle.model.specs.Layout.{words, lengthFor}
-use Rattle.model.specs.Memory.{madeAnswer, madeTables, After, zeroed}
+use Rattle.model.specs.Memory.{madeAnswer, tablesLeft, After, zeroed}
 use Rattle.model.specs.Sound.{Sound}
 use Rattle.laws.specs.Accepted.{all-ok}
 use Rattle.laws.specs.Empty.{made-sound}
@@ -48,10 +48,10 @@ empty-whole z g = all-ok Sound _ (emptyTables z) (made-sound (lengthFor z) (leng
 -- b is the test of the sizes, w₂ the work area as it is cleared
 module _ (t w w₂ : List ℕ) (z : Sizes) (clear : w₂ ≡ zeroed w) (b : Bool) (e : b ≡ limitsB (sizesFor z)) where
   -- o is how the making ends
-  ends : (o : Outcome State) → makeIn (length t) (length w) z ≡ o → (r : replies.Reply) → r ≡ replyOf (madeAnswer o) → (u : List ℕ) → u ≡ madeTables t o → Returns replyOf t w (Call.Make z) r u w₂
+  ends : (o : Outcome State) → makeIn (length t) (length w) z ≡ o → (r : replies.Reply) → r ≡ replyOf (madeAnswer o) → (u : List ℕ) → u ≡ tablesLeft t o → Returns replyOf t w (Call.Make z) r u w₂
   ends o i r g u k = record {
     answer = madeAnswer o;
-    after = subst (λ v. After t w (Call.Make z) (madeAnswer o) v w₂) (sym k) (subst (λ v. After t w (Call.Make z) (madeAnswer o) (madeTables t o) v) (sym clear) (subst (λ p. After t w (Call.Make z) (madeAnswer p) (madeTables t p) (zeroed w)) i (After.made z)));
+    after = subst (λ v. After t w (Call.Make z) (madeAnswer o) v w₂) (sym k) (subst (λ v. After t w (Call.Make z) (madeAnswer o) (tablesLeft t o) v) (sym clear) (subst (λ p. After t w (Call.Make z) (madeAnswer p) (tablesLeft t p) (zeroed w)) i (After.made z)));
     reply = g;
   }
 

@@ -22,20 +22,20 @@ closesWith ds zero d e = eqb e d
 closesWith ds (suc n) d e = eqb e d || elim (atSlot ds e) [ none ↦ false | some x ↦ elim (x .manager) [ none ↦ false | some m ↦ closesWith ds n d m ] ]
 
 -- The same, with a limit that is never met: no domain has more managers above it than there are domains.
-abbrev pub isClosed : State → ℕ → ℕ → Bool
-isClosed s d e = closesWith (s .domains) (s .sizes .domains) d e
+abbrev pub isToClose : State → ℕ → ℕ → Bool
+isToClose s d e = closesWith (s .domains) (s .sizes .domains) d e
 
 -- 22: a live root whose owner is to be closed; in sound tables who owns a region holds it.
 abbrev pub rootToClose : State → ℕ → Option Region → Bool
 rootToClose s d none = false
-rootToClose s d (some g) = isRootKind (g .kind) && isClosed s d (g .owner)
+rootToClose s d (some g) = isRootKind (g .kind) && isToClose s d (g .owner)
 
 unfoldable pub closesRoot : State → ℕ → Bool
 closesRoot s d = exists (rootToClose s d) (s .regions)
 
 -- 23: a domain to be closed with a core map. A free slot reads as a domain without one.
 unfoldable pub closesRunning : State → ℕ → Bool
-closesRunning s d = exists (λ e. not (eqb (domainAt s e .cores) 0) && isClosed s d e) (countUp 0 (s .sizes .domains))
+closesRunning s d = exists (λ e. not (eqb (domainAt s e .cores) 0) && isToClose s d e) (countUp 0 (s .sizes .domains))
 
 -- ---- the close
 

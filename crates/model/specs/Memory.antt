@@ -28,9 +28,9 @@ abbrev pub madeAnswer : Outcome State → Answer
 madeAnswer (ok s) = Answer.yes Value.done
 madeAnswer (refuse r) = Answer.no r
 
-abbrev pub madeTables : List ℕ → Outcome State → List ℕ
-madeTables t (ok s) = words s
-madeTables t (refuse r) = t
+abbrev pub tablesLeft : List ℕ → Outcome State → List ℕ
+tablesLeft t (ok s) = words s
+tablesLeft t (refuse r) = t
 
 -- The call is no making.
 abbrev pub NotMake : Call → Type 0
@@ -43,7 +43,7 @@ NotMake (Call.Read r) = Unit {0}
 -- (`after-unique`, crate laws).
 pub data After (t w : List ℕ) : Call → Answer → List ℕ → List ℕ → Type 0 where
   -- making, on memory with any contents: 2, then 1 by the lengths alone
-  made : (z : Sizes) → After t w (Call.Make z) (madeAnswer (makeIn (length t) (length w) z)) (madeTables t (makeIn (length t) (length w) z)) (zeroed w)
+  made : (z : Sizes) → After t w (Call.Make z) (madeAnswer (makeIn (length t) (length w) z)) (tablesLeft t (makeIn (length t) (length w) z)) (zeroed w)
   -- any other call: "1 Memory, either length wrong or tables not sound"
   notSound : (c : Call) → NotMake c → ((s : State) → ¬ Lent t w s) → After t w c (Answer.no memory) t (zeroed w)
   -- on sound tables what the model says: on refusal the state, and so the tables, are as found

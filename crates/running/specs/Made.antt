@@ -15,7 +15,7 @@ use Rattle.model.specs.Making.{goodSizes, emptyTables, scriptSizes, makeIn}
 use Rattle.model.specs.Layout.{words, lengthFor}
 use Rattle.model.specs.Perform.{Call, Answer}
 use Rattle.model.specs.Perform as model
-use Rattle.model.specs.Memory.{madeAnswer, madeTables, After, made, notSound, performed, zeroed}
+use Rattle.model.specs.Memory.{madeAnswer, tablesLeft, After, made, notSound, performed, zeroed}
 use Rattle.laws.specs.Making.{make-lengths, make-made}
 use Rattle.book.specs.Lent.{demand3-lent}
 use Rattle.decoded.specs.Sizes.{and-both}
@@ -36,7 +36,7 @@ pub data Makes (t w : List ℕ) (z : Sizes) : Answer → List ℕ → List ℕ �
 -- by the test of the lengths
 module _ (t w : List ℕ) (z : Sizes) (g : goodSizes z ≡ true) where
   abbrev Ends : Outcome State → Type 0
-  Ends o = Makes t w z (madeAnswer o) (madeTables t o) (zeroed w)
+  Ends o = Makes t w z (madeAnswer o) (tablesLeft t o) (zeroed w)
 
   tested : (b : Bool) → (eqb (length t) (lengthFor z) && eqb (length w) (lengthFor z)) ≡ b → Ends (makeIn (length t) (length w) z)
   tested true e = let p = both-true (eqb (length t) (lengthFor z)) (eqb (length w) (lengthFor z)) (sym (and-both (eqb (length t) (lengthFor z)) (eqb (length w) (lengthFor z))) ∙ e) in subst Ends (sym (make-made _ _ z g e)) (Makes.fits (record { tables = eqb-true _ _ (p .0); work = eqb-true _ _ (p .1) }))

@@ -19,7 +19,7 @@ use Rattle.model.specs.Lists.{isSome, exists, countIf, countUp, atSlot, In}
 use Rattle.model.specs.State.{State, Domain, Region, parentOf, withTracker, domainAt}
 use Rattle.model.specs.Tree.{isRootKind}
 use Rattle.model.specs.Sound.{Sound}
-use Rattle.model.specs.Closing.{closeDomain, liveDomains, isClosed, rootToClose, closesRoot, closesRunning}
+use Rattle.model.specs.Closing.{closeDomain, liveDomains, isToClose, rootToClose, closesRoot, closesRunning}
 use Rattle.laws.specs.Accepted.{All, weaken}
 use Rattle.laws.specs.Stack.{one-at-most}
 use Rattle.laws.specs.Tree.Slots.{in-length, live-is}
@@ -108,14 +108,14 @@ count-length p [] = omega arith
 count-length p (x ∷ l) = omega (arith, count-length p l, one-at-most (p x))
 
 -- the test finds every domain that is closed with d
-pub closed-found : (s : State) → Sound s → (d k : ℕ) (x : Domain) → In (s .domains) k x → Leads (s .domains) d k → T (isClosed s d k)
+pub closed-found : (s : State) → Sound s → (d k : ℕ) (x : Domain) → In (s .domains) k x → Leads (s .domains) d k → T (isToClose s d k)
 closed-found s h d k x e l = leads-found (s .domains) (ranks s h) (ranks-are s h) (s .sizes .domains) d k (omega (arith, ranks-low s h k x e, count-length isSome (s .domains), h .outside .domainsLength)) l
 
 pub rootless : (s : State) → Sound s → (d : ℕ) → T (not (closesRoot s d)) → NoRoot s d
 unfolding closesRoot
 rootless s h d t i g e n l =
     let (x, f) = live-is (atSlot (s .domains) (g .owner)) (h .outside .owners i g e .ownerLive) in
-    T-not (exists (rootToClose s d) (s .regions)) t (exists-in (rootToClose s d) (s .regions) i g e (and-i (isRootKind (g .kind)) (isClosed s d (g .owner)) n (closed-found s h d (g .owner) x f l)))
+    T-not (exists (rootToClose s d) (s .regions)) t (exists-in (rootToClose s d) (s .regions) i g e (and-i (isRootKind (g .kind)) (isToClose s d (g .owner)) n (closed-found s h d (g .owner) x f l)))
 
 -- so with 3 and 22 passed the turn of the domain can begin
 pub first-turn : (s : State) → Sound s → (d : ℕ) (x : Domain) → In (s .domains) d x → T (not (closesRoot s d)) → Turn s d x
@@ -141,6 +141,6 @@ not-running s h d t k x e l = elim (ℕ-discrete (x .cores) 0) [
   | yes o ↦ o
   | no o ↦
       let n : T (not (eqb (domainAt s k .cores) 0)) = rw (domain-at s k x e, ne-eqb (x .cores) 0 o) tt in
-      let p : ℕ → Bool = λ j. not (eqb (domainAt s j .cores) 0) && isClosed s d j in
-      absurd (T-not (exists p (countUp 0 (s .sizes .domains))) t (exists-up p (s .sizes .domains) 0 k (omega arith) (omega (arith, in-length (s .domains) k x e, h .outside .domainsLength)) (and-i (not (eqb (domainAt s k .cores) 0)) (isClosed s d k) n (closed-found s h d k x e l))))
+      let p : ℕ → Bool = λ j. not (eqb (domainAt s j .cores) 0) && isToClose s d j in
+      absurd (T-not (exists p (countUp 0 (s .sizes .domains))) t (exists-up p (s .sizes .domains) 0 k (omega arith) (omega (arith, in-length (s .domains) k x e, h .outside .domainsLength)) (and-i (not (eqb (domainAt s k .cores) 0)) (isToClose s d k) n (closed-found s h d k x e l))))
 ]

@@ -14,7 +14,7 @@ use Rattle.model.specs.Lists.{exists, countUp, atSlot}
 use Rattle.model.specs.State as state
 use Rattle.model.specs.State.{State, Domain, domainAt}
 use Rattle.model.specs.Layout.{link}
-use Rattle.model.specs.Closing.{closesWith, isClosed, rootToClose, closesRoot, closesRunning}
+use Rattle.model.specs.Closing.{closesWith, isToClose, rootToClose, closesRoot, closesRunning}
 use Rattle.laws.specs.Keep.Base.{Base}
 use Rattle.tables.specs.declared.DomainHead.{DomainHead}
 use Rattle.tables.specs.declared.RegionCapa.{RegionCapa}
@@ -93,7 +93,7 @@ module _ (s : State) (base : Base s) where
     closes-from zero e = refl
     closes-from (suc n) e = ap (λ (b : Bool). eqb e d || b) (closes-slot n (λ m. closes-from n m) e (atSlot (s .domains) e) refl)
 
-    pub closes-with-is : (e : ℕ) → closesWithB (tablesOf s) d e ≡ isClosed s d e
+    pub closes-with-is : (e : ℕ) → closesWithB (tablesOf s) d e ≡ isToClose s d e
     unfolding closesWithB tablesOf
     closes-with-is e = closes-from (s .sizes .domains) e
 
@@ -121,7 +121,7 @@ module _ (s : State) (base : Base s) where
 
     -- ---- 23
 
-    running-row : (e : ℕ) → runningToCloseB (tablesOf s) d e ≡ (not (eqb (domainAt s e .cores) 0) && isClosed s d e)
+    running-row : (e : ℕ) → runningToCloseB (tablesOf s) d e ≡ (not (eqb (domainAt s e .cores) 0) && isToClose s d e)
     unfolding runningToCloseB
     running-row e =
         let a = ap (λ (c : ℕ). not (eqb c 0)) (cores-read e) in
@@ -131,5 +131,5 @@ module _ (s : State) (base : Base s) where
     pub closes-running-is : closesRunningB (tablesOf s) d ≡ closesRunning s d
     unfolding closesRunningB closesRunning tablesOf
     closes-running-is =
-        some-same (runningToCloseB (tablesOf s) d) (λ e. not (eqb (domainAt s e .cores) 0) && isClosed s d e) 0 (s .sizes .domains) (λ e h. running-row e)
-        ∙ some-up (λ e. not (eqb (domainAt s e .cores) 0) && isClosed s d e) 0 (s .sizes .domains)
+        some-same (runningToCloseB (tablesOf s) d) (λ e. not (eqb (domainAt s e .cores) 0) && isToClose s d e) 0 (s .sizes .domains) (λ e h. running-row e)
+        ∙ some-up (λ e. not (eqb (domainAt s e .cores) 0) && isToClose s d e) 0 (s .sizes .domains)
