@@ -15,7 +15,8 @@ use Rattle.decoded.specs.Canonical.Law.{each-at}
 use Rattle.decoded.specs.Canonical.WellFormed.{SlotWellFormed, domainRow, regionRow, recordRow}
 use Rattle.list_links.specs.declared.Stack.the-variants.{Domains, Regions, Records, Slots, Trackers}
 use Rattle.list_links.specs.Stacks.{mayMeet, eligible, nextOf, topOf, stackHolds}
-use Rattle.sound_rows.specs.Hold.{headClear, slotClear, slotWellFormed, slotsHold, domainHolds, regionClear, recordClear, rowHolds, rowsHold}
+use Rattle.clear_rows.specs.Clear.{headClear, slotClear, slotWellFormed, regionClear, recordClear}
+use Rattle.sound_rows.specs.Hold.{slotsHold, domainHolds, rowHolds, rowsHold}
 use Rattle.exact_pools.specs.Stacks.{testOf}
 use Rattle.exact_pools.specs.Pools.{both-in, both-out, free-taken, freeB, linkOf, slotFree, slotLink, ListGood, list-good, good-list}
 use Rattle.exact_pools.specs.Rows.{domain-zero, zero-domain-head, zero-domain-slot, slot-well-formed, well-formed-slot}

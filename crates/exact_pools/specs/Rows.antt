@@ -18,7 +18,7 @@ use Rattle.tables.specs.declared.Region.{Region}
 use Rattle.tables.specs.Tables.{Domain, noHead, noSlot, noRegion, noRecord}
 use Rattle.decoded.specs.Tables.{domainFor}
 use Rattle.decoded.specs.Canonical.WellFormed.{SlotWellFormed}
-use Rattle.sound_rows.specs.Hold.{headClear, slotClear, slotWellFormed, regionClear, recordClear}
+use Rattle.clear_rows.specs.Clear.{headClear, slotClear, slotWellFormed, regionClear, recordClear}
 
 -- ---- all zero
 

@@ -13,7 +13,8 @@ use Rattle.sizes.specs.Sizes.{sizesOf}
 use Rattle.list_links.specs.declared.Stack.the-variants.{Domains, Slots}
 use Rattle.list_links.specs.Stacks.{mayMeet, stackHolds}
 use Rattle.sound_lists.specs.Marks.{Clean}
-use Rattle.sound_rows.specs.Hold.{headClear, slotsHold, domainHolds}
+use Rattle.clear_rows.specs.Clear.{headClear}
+use Rattle.sound_rows.specs.Hold.{slotsHold, domainHolds}
 
 pub slots-seen : (t : List ℕ) → view t .sizes .slots ≡ getD t 1 0
 unfolding view ofParts sizesOf

@@ -11,7 +11,8 @@ use Rattle.tables.specs.Tables.{Tables, regionAt, recordAt}
 use Rattle.sections.specs.Rows.{regionIn, recordIn}
 use Rattle.list_links.specs.declared.Stack.the-variants.{Regions, Records}
 use Rattle.list_links.specs.Stacks.{eligible, mayMeet}
-use Rattle.sound_rows.specs.Hold.{regionClear, recordClear, rowHolds}
+use Rattle.clear_rows.specs.Clear.{regionClear, recordClear}
+use Rattle.sound_rows.specs.Hold.{rowHolds}
 
 -- a row whose link is not 0 is free, and clear
 unfoldable pub regionFits : ℕ → List ℕ → ℕ → Bool

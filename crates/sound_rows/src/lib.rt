@@ -2,87 +2,11 @@
 ghost use mathlib.Core.Path.{_≡_};
 ghost use Rattle.tables.specs.View.{view, Sized};
 ghost use Rattle.sound_lists.specs.Marks.{Clean};
-ghost use Rattle.sound_rows.specs.Hold.{headClear, slotClear, slotWellFormed, slotFits, regionClear, recordClear, slotsHold, domainHolds, rowsHold};
+ghost use Rattle.sound_rows.specs.Hold.{slotsHold, domainHolds, rowsHold};
 ghost use Rattle.sound_rows.specs.Rows.{regionFits, recordFits};
 use list_links::Stack;
 use pools::Pool;
 use sound_lists::walks;
-use tables::DomainHead;
-use tables::Region;
-use tables::RegionCapa;
-use tables::Slot;
-
-fn head_clear(h: DomainHead) -> bool
-    ensures { λ r. ⌜ r ≡ headClear h ⌝ }
-{
-    let first = words::both(h.manager == 0, h.cores == 0);
-    words::both(
-        first,
-        words::both(h.tracker == 0, words::both(h.head == 0, h.count == 0)),
-    )
-}
-
-fn slot_clear(x: Slot) -> bool
-    ensures { λ r. ⌜ r ≡ slotClear x ⌝ }
-{
-    words::both(
-        x.kind == 0,
-        words::both(x.handle.slot == 0, x.handle.generation == 0),
-    )
-}
-
-fn slot_well_formed(x: Slot) -> bool
-    ensures { λ r. ⌜ r ≡ slotWellFormed x ⌝ }
-{
-    if x.kind <= Slot::FREE {
-        if x.kind == Slot::NONE {
-            words::both(x.handle.generation == 0, x.handle.slot == 0)
-        } else {
-            x.handle.generation == 0
-        }
-    } else {
-        x.kind <= Slot::CHANNEL
-    }
-}
-
-fn slot_fits(free: bool, x: Slot) -> bool
-    ensures { λ r. ⌜ r ≡ slotFits free x ⌝ }
-{
-    if free {
-        slot_clear(x)
-    } else {
-        slot_well_formed(x)
-    }
-}
-
-fn region_clear(r: RegionCapa) -> bool
-    ensures { λ b. ⌜ b ≡ regionClear r ⌝ }
-{
-    let a = words::both(
-        words::both(r.kind == 0, r.owner == 0),
-        words::both(r.parent == 0, r.start == 0),
-    );
-    let b = words::both(
-        words::both(r.end == 0, r.rights == 0),
-        words::both(r.child == 0, r.next == 0),
-    );
-    words::both(a, b)
-}
-
-fn record_clear(r: Region) -> bool
-    ensures { λ b. ⌜ b ≡ recordClear r ⌝ }
-{
-    let a = words::both(
-        words::both(r.start == 0, r.end == 0),
-        words::both(r.ref_count == 0, r.read_count == 0),
-    );
-    let c = words::both(
-        r.super_count == 0,
-        words::both(r.uncache_count == 0, r.next == 0),
-    );
-    let b = words::both(words::both(r.write_count == 0, r.exec_count == 0), c);
-    words::both(a, b)
-}
 
 // Whether the slots of domain d are all zero, or as the kinds say.
 fn slots_hold(t: &[u64], d: usize, free: bool) -> bool
@@ -93,7 +17,7 @@ fn slots_hold(t: &[u64], d: usize, free: bool) -> bool
     let slots = sections::slots_of(t, d);
     let mut j = 0;
     while j < n {
-        let fits = slot_fits(free, sections::slot_in(slots, j));
+        let fits = clear_rows::slot_fits(free, sections::slot_in(slots, j));
         if !fits {
             return false;
         }
@@ -111,7 +35,7 @@ fn domain_holds(t: &[u64], d: usize, w: &mut [u64]) -> bool
     let free = list_links::may_meet(t, Stack::Domains, d);
     let slots = slots_hold(t, d, free);
     if free {
-        let head = head_clear(domain_rows::load_head(t, d));
+        let head = clear_rows::head_clear(domain_rows::load_head(t, d));
         words::both(head, slots)
     } else {
         let list = walks::stack_holds(t, Stack::Slots(d), w);
@@ -143,7 +67,7 @@ fn region_holds(link: u64, rows: &[u64], i: usize) -> bool
     ensures { λ r. ⌜ r ≡ regionFits link (now (rows .entry)) i ⌝ }
 {
     if 0 < link {
-        region_clear(sections::region_in(rows, i))
+        clear_rows::region_clear(sections::region_in(rows, i))
     } else {
         true
     }
@@ -153,7 +77,7 @@ fn record_holds(link: u64, rows: &[u64], i: usize) -> bool
     ensures { λ r. ⌜ r ≡ recordFits link (now (rows .entry)) i ⌝ }
 {
     if 0 < link {
-        record_clear(sections::record_in(rows, i))
+        clear_rows::record_clear(sections::record_in(rows, i))
     } else {
         true
     }

@@ -1,7 +1,7 @@
 -- A free row is clear.
 use mathlib.Core.Path.{refl, ap, _∙_}
 use borrow.Author.Tests.{lt-ltb, le-ltb}
-use Rattle.sound_rows.specs.Hold.{recordClear}
+use Rattle.clear_rows.specs.Clear.{recordClear}
 use Rattle.sound_rows.specs.Rows.{recordFits}
 use borrow.Author.Needs.{needs}
 use Rattle.sound_rows.proofs.record_holds.Statement.{statement}

@@ -1,7 +1,7 @@
 -- A free row is clear.
 use mathlib.Core.Path.{refl, ap, _∙_}
 use borrow.Author.Tests.{lt-ltb, le-ltb}
-use Rattle.sound_rows.specs.Hold.{regionClear}
+use Rattle.clear_rows.specs.Clear.{regionClear}
 use Rattle.sound_rows.specs.Rows.{regionFits}
 use borrow.Author.Needs.{needs}
 use Rattle.sound_rows.proofs.region_holds.Statement.{statement}

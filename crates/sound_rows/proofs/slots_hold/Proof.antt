@@ -3,7 +3,8 @@ use Rattle.sound_rows.specs.Answers.{slots-seen}
 use borrow.Author.Tests.{not-true, not-false}
 use mathlib.Core.Path.{sym, ap, _∙_}
 use native.Mathlib.Omega.{arith}
-use Rattle.sound_rows.specs.Hold.{slotFits, slotsHold}
+use Rattle.clear_rows.specs.Clear.{slotFits}
+use Rattle.sound_rows.specs.Hold.{slotsHold}
 use Rattle.sound_rows.specs.Passed.{Passed, passed-start, passed-go, passed-stop, passed-end}
 use Rattle.tables.specs.View.{view}
 use borrow.Author.Needs.{needs}

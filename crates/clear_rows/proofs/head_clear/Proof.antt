@@ -1,9 +1,9 @@
 -- Every word is 0.
 use mathlib.Core.Path.{_∙_}
-use Rattle.sound_rows.specs.Hold.{headClear}
+use Rattle.clear_rows.specs.Clear.{headClear}
 use borrow.Author.Needs.{needs}
-use Rattle.sound_rows.proofs.head_clear.Statement.{statement}
-use Rattle.sound_rows.proofs.head_clear.Tie as tie
+use Rattle.clear_rows.proofs.head_clear.Statement.{statement}
+use Rattle.clear_rows.proofs.head_clear.Tie as tie
 
 both-requires : tie.Need-both-requires
 both-requires c κs = search needs

@@ -1,9 +1,9 @@
 -- The three ways of the tests.
-use Rattle.sound_rows.specs.Hold.{slotWellFormed}
+use Rattle.clear_rows.specs.Clear.{slotWellFormed}
 use borrow.Author.Tests.{le-leb, lt-leb, eq-eqb, ne-eqb}
 use borrow.Author.Needs.{needs}
-use Rattle.sound_rows.proofs.slot_well_formed.Statement.{statement}
-use Rattle.sound_rows.proofs.slot_well_formed.Tie as tie
+use Rattle.clear_rows.proofs.slot_well_formed.Statement.{statement}
+use Rattle.clear_rows.proofs.slot_well_formed.Tie as tie
 
 both-requires : tie.Need-both-requires
 both-requires c κs = search needs

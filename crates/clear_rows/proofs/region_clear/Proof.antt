@@ -1,9 +1,9 @@
 -- Every word is 0.
 use mathlib.Core.Path.{_∙_}
-use Rattle.sound_rows.specs.Hold.{regionClear}
+use Rattle.clear_rows.specs.Clear.{regionClear}
 use borrow.Author.Needs.{needs}
-use Rattle.sound_rows.proofs.region_clear.Statement.{statement}
-use Rattle.sound_rows.proofs.region_clear.Tie as tie
+use Rattle.clear_rows.proofs.region_clear.Statement.{statement}
+use Rattle.clear_rows.proofs.region_clear.Tie as tie
 
 both-requires : tie.Need-both-requires
 both-requires c κs = search needs

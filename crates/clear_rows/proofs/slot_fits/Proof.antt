@@ -1,7 +1,7 @@
 -- The two ways of the test.
 use borrow.Author.Needs.{needs}
-use Rattle.sound_rows.proofs.slot_fits.Statement.{statement}
-use Rattle.sound_rows.proofs.slot_fits.Tie as tie
+use Rattle.clear_rows.proofs.slot_fits.Statement.{statement}
+use Rattle.clear_rows.proofs.slot_fits.Tie as tie
 
 slot-clear-requires : tie.Need-slot-clear-requires
 slot-clear-requires c κs = search needs
