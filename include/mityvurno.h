@@ -77,7 +77,7 @@ enum mityvurno_interface {
 
 /* ---- answers */
 
-/* Document 01's refusals, "Memory and who can be refused", and 18 to 21 of document 02. */
+/* Document 01's refusals, "Memory and who can be refused", and 18 to 23 of document 02. */
 enum mityvurno_refusal {
     MITYVURNO_ACCEPTED = 0,
     /* the host that lends */

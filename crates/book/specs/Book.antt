@@ -120,7 +120,7 @@ swept b l = if isEmpty (l .free) then freeSlots (deadSlots b 0 (l .held)) l else
 unfoldable pub makeRoom : ℕ → Book → Book
 makeRoom d b = withSlots d (swept b (slotsOf b d)) b
 
--- The slot that is given next.
+-- The slot that is given next; 0 where none is free, which no accepted call meets.
 abbrev pub top : List ℕ → ℕ
 top [] = 0
 top (i ∷ is) = i
@@ -237,7 +237,7 @@ openDomains b = countIf isSome (b .lists)
 unfoldable pub emptySlot : ℕ → ℕ → Book → Book
 emptySlot d l b = let p = slotsOf b d in withSlots d (record { held = set (p .held) l (some emptied); free = p .free }) b
 
--- the region that a slot holds: "its parent is the region in the slot named"
+-- the region that a slot holds: "its parent is the region in the slot named"; no accepted call meets another slot
 abbrev pub placeIn : Option Held → ℕ
 placeIn none = 0
 placeIn (some emptied) = 0
@@ -246,7 +246,7 @@ placeIn (some (revokeOf k)) = 0
 placeIn (some (managementOf h)) = 0
 placeIn (some (channelOf h)) = 0
 
--- the domain that a target slot names
+-- the domain that a target slot names; no accepted call meets another slot
 abbrev pub domainIn : Option Held → ℕ
 domainIn none = 0
 domainIn (some emptied) = 0

@@ -49,7 +49,7 @@ module _ (rs : List Noted) (d a : ℕ) where
 abbrev pub bookCount : Book → Field → ℕ → ℕ → ℕ
 bookCount b f d a = noteTally (b .regions) d a (passes f) 0 (b .regions)
 
--- "accepted roots covering the address"
+-- "accepted roots covering the address"; a root never dies (9, and 22 for a close)
 abbrev pub isRootOver : ℕ → Noted → Bool
 isRootOver a r = isRootKind (r .kind) && covers a r
 
@@ -57,11 +57,11 @@ isRootOver a r = isRootKind (r .kind) && covers a r
 abbrev pub isAliasOver : ℕ → Noted → Bool
 isAliasOver a r = elim (r .kind) [ Root ↦ false | Alias p ↦ r .alive && covers a r | Carve p ↦ false ]
 
--- both together
+-- how many regions deal the address out: all roots and live aliases; a carve only moves its parent's share
 abbrev pub accepted : Book → ℕ → ℕ
 accepted b a = countIf (isRootOver a) (b .regions) + countIf (isAliasOver a) (b .regions)
 
--- an "accepted root covering the address had that right"
+-- an "accepted root covering the address had that right"; flags that joined at a send are none of the four (18)
 abbrev pub rootHad : Book → Field → ℕ → Bool
 rootHad b f a = exists (λ r. isRootOver a r && passes f (r .rights)) (b .regions)
 

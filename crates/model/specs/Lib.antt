@@ -15,6 +15,7 @@
 -- How to read it. In comments "…" quotes document 01, or document 02 where a request is named, `…` names the Rust or a definition, **…** names a paragraph
 -- of document 01, and a number such as 12 is a refusal (crate `refusals` has their names).
 --   f : A → B → C             f takes an A and a B and gives a C; below it stand its equations, by the forms of its arguments
+--   (x : A) × P x             there is an x with P x; a record of a value and facts says likewise: there is one for which they hold
 --   (x : A) → P x             for every x. Arguments in braces, as {A : Type 0}, are left out where f is used
 --   module _ (x : A) where    each definition below takes x first, and leaves it out where it uses another one of them
 --   record R where a : A      a value with named parts, or facts that all hold; x .a is that part, also behind a call: f x .a is the part a of f x
