@@ -193,7 +193,7 @@ sendCapa (channel h) to o s = ok s
 
 -- **Send**: "Moves the slot". The target's list is swept, if full, before the sent slot is looked at; where it is the sender's own, the sweep may free that
 -- slot: a dead region gives 4 then, not 6, and so does a None or any other dead capability. The sent slot is freed before one is taken, so that what is sent
--- to oneself comes back to its slot.
+-- to oneself comes back to its slot. Room is asked for before that: a list still full after the sweep gives 12, its own too.
 unfoldable pub send : Handle → ℕ → ℕ → SendOptions → State → Outcome (ℕ × State)
 send h l target o s = do
   d ← callerWith SEND s h  -- 3, 20

@@ -73,7 +73,7 @@ kindWord (Carve p) = 3
 abbrev pub siblings : List (Option Region) → Kind → List ℕ
 siblings rs k = elim (parentOf k) [ none ↦ [] | some p ↦ regionIn rs p .children ]
 
--- kind, owner (link), parent (link), start, end, rights, first child (link), next sibling (link)
+-- kind, owner (link), parent (link), start, end, rights, first child (link), next sibling (link); a free region's record is all zero
 abbrev pub regionWords : List (Option Region) → ℕ → List ℕ
 regionWords rs i = elim (atSlot rs i) [
   | none ↦ replicate 8 0
