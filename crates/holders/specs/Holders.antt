@@ -1,4 +1,4 @@
--- The holders of address a (document 01, **Reading**; document 02, [6]), named as in the model's Readings.
+-- The holders of address a (document 01, **Reading**; document 02, request 6), named as in the model's Readings.
 use mathlib.Core.Bool.{Bool, not}
 use mathlib.Core.List.{List, [], _∷_}
 use Prim.Native.Nat.{ℕ, zero, suc, _+_}

@@ -1,4 +1,4 @@
-// The holders of an address (document 01, **Reading**): the domains with reach above 0 there, domain slot rising, each once (document 02, [6]).
+// The holders of an address (document 01, **Reading**): the domains with reach above 0 there, domain slot rising, each once (document 02, request 6).
 ghost use mathlib.Core.Path.{_≡_};
 ghost use lib.ListN.{length};
 ghost use Rattle.tables.specs.View.{view, Sized};

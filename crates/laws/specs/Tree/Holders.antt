@@ -1,4 +1,4 @@
--- The list of holders (document 02, [6]): "domain slot rising, each domain once". Each live domain with reach above 0 stands there once and no other does, the
+-- The list of holders (document 02, request 6): "domain slot rising, each domain once". Each live domain with reach above 0 stands there once and no other does, the
 -- list rises, no other list does both, and a run that is too short for it holds the lowest slots.
 use mathlib.Core.Path.{_≡_, refl, sym, ap, subst, _∙_}
 use Prim.Native.Nat.{ℕ, zero, suc, _+_, _≤_, _<_}
