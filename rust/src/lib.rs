@@ -1,0 +1,4 @@
+//! Mityvurno, a proved region capability engine, for Rust hosts.
+#![no_std]
+
+pub mod raw;
