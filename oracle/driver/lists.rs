@@ -63,7 +63,7 @@ impl Words<'_> {
     }
 
     fn end(&mut self) -> Result<(), String> {
-        self.0.next().map_or(Ok(()), |word| Err(format!("expected the end of the call, found \"{word}\"")))
+        self.0.next().map_or(Ok(()), |word| Err(format!("expected the end of the line, found \"{word}\"")))
     }
 }
 
@@ -145,7 +145,7 @@ pub fn parse_script(line: &str) -> Result<Option<Call>, String> {
 fn without_extras(call: Call) -> Result<Call, String> {
     match call {
         Call::Send { extras, .. } if extras != Extras::NONE => {
-            Err(format!("a send of a script has no flags and no hash; expected the end of the call, found \"{}\"", extras.to_string().trim()))
+            Err(format!("a send of a script has no flags and no hash; expected the end of the line, found \"{}\"", extras.to_string().trim()))
         }
         _ => Ok(call),
     }

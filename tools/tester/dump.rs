@@ -17,7 +17,7 @@ pub fn lines(words: &[u64]) -> Vec<String> {
         Some(sizes) => sections(words, &sizes),
         None => plain(0, words),
     };
-    out.push(faults::fault(words).unwrap_or("sound: every clause holds, by the test of oracle/driver/sound.rs".to_string()));
+    out.push(faults::fault(words).unwrap_or("sound: every clause of oracle/driver/sound.rs holds".to_string()));
     out
 }
 
@@ -66,6 +66,6 @@ fn domain(out: &mut Vec<String>, rest: &mut Rest, view: &View, d: usize) {
     out.extend(used.iter().map(|(l, w)| line(&format!("  slot {l}"), &layout::run(w), &view.slot(w))));
     if !free.is_empty() {
         let slots: Vec<u64> = free.iter().map(|(l, _)| *l as u64).collect();
-        out.push(line("  free slots", "", &format!("{}: {}", free.len(), layout::run(&slots))));
+        out.push(line("  free slots", "", &format!("{} of {n}: {}", free.len(), layout::run(&slots))));
     }
 }

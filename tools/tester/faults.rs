@@ -15,7 +15,7 @@ pub fn fault(words: &[u64]) -> Option<String> {
     if words.len() != total(&sizes) {
         return Some(format!("tables of sizes {sizes} have {} words, these are {}", total(&sizes), words.len()));
     }
-    sound::fault(words).map(|clause| format!("not sound; the first clause that fails: {clause}"))
+    sound::fault(words).map(|clause| format!("not sound; the first clause of oracle/driver/sound.rs that fails: {clause}"))
 }
 
 /// A size that is missing or outside its limits.
