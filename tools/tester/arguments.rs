@@ -109,7 +109,7 @@ fn sizes(word: &str) -> Result<Sizes, String> {
 
 /// The options, where they go together.
 fn fitting(o: Options) -> Result<Options, String> {
-    let shown = matches!(o.form, Form::Text | Form::Json | Form::Csv);
+    let (explained, dumped) = (!matches!(o.form, Form::List | Form::Picture), matches!(o.form, Form::Text | Form::Json));
     let wrong = match &o {
         Options { file: None, given: None, .. } => Some("expected FILE, found none"),
         Options { file: None, form: Form::Check | Form::List | Form::Csv, .. } => Some("--check, --list and --csv: expected FILE, found none"),
@@ -117,8 +117,8 @@ fn fitting(o: Options) -> Result<Options, String> {
         Options { file: Some(file), given: Some(Given::Words(words) | Given::Memory(words)), .. } if file == "-" && words == "-" => {
             Some("expected one of the list and the tables on standard input, found both")
         }
-        Options { why: true, .. } if !shown => Some("--why: expected no --list, --check or --picture"),
-        Options { dump: true, .. } if !matches!(o.form, Form::Text | Form::Json) => Some("--dump: expected no --csv, --list, --check or --picture"),
+        Options { why: true, .. } if !explained => Some("--why: expected no --list or --picture"),
+        Options { dump: true, .. } if !dumped => Some("--dump: expected no --csv, --list, --check or --picture"),
         _ => None,
     };
     wrong.map_or(Ok(o), |wrong| Err(wrong.to_string()))

@@ -5,8 +5,8 @@ use shared::sound;
 
 const SIZES: [&str; 5] = ["domains", "slots", "regions", "records", "updates"];
 
-/// Sizes, then the length, then the first clause of soundness that fails, by the test of oracle/driver/sound.rs; none where the words are those of
-/// sound tables.
+/// A size, the length, or the first clause of soundness that fails by the test of oracle/driver/sound.rs; none of sound
+/// tables.
 pub fn fault(words: &[u64]) -> Option<String> {
     if let Some(what) = wrong_size(words) {
         return Some(what);

@@ -1,11 +1,15 @@
 //! Files read whole; `-` is standard input.
 
+use std::fs::File;
 use std::io::{self, Read};
 
 /// The bytes of a file.
 pub fn bytes(file: &str) -> Result<Vec<u8>, String> {
     let mut read = Vec::new();
-    let done = if file == "-" { io::stdin().read_to_end(&mut read) } else { std::fs::File::open(file).and_then(|mut f| f.read_to_end(&mut read)) };
+    let done = match file {
+        "-" => io::stdin().read_to_end(&mut read),
+        _ => File::open(file).and_then(|mut file| file.read_to_end(&mut read)),
+    };
     done.map(|_| read).map_err(|e| format!("{}: {e}", name(file)))
 }
 

@@ -29,9 +29,12 @@ pub fn answer(answer: &Answer) -> String {
     }
 }
 
+/// Calls up to this long have their answers in one column.
+const WIDEST: usize = 60;
+
 /// The calls beside their answers, and below a refused one why.
 pub fn lines(answered: &[Answered]) -> Vec<String> {
-    let width = answered.iter().map(|a| call(&a.call).len()).max().unwrap_or(0);
+    let width = answered.iter().map(|a| call(&a.call).len()).filter(|n| *n <= WIDEST).max().unwrap_or(0);
     let mut lines = Vec::new();
     for a in answered {
         let note = a.note.map_or(String::new(), |note| format!("  {note}"));
@@ -46,11 +49,13 @@ pub fn list(answered: &[Answered]) -> Vec<String> {
     answered.iter().map(|a| format!("{} -> {}", a.call, show(&a.answer))).collect()
 }
 
-/// Where the answer is not the one that stands in the file: what was expected and what was found. A refusal may stand there with its name.
+/// Where the answer is not the one that stands in the file: what was expected and what was found, and why where asked for. A refusal may stand
+/// there with its name.
 pub fn difference(file: &str, a: &Answered) -> Option<String> {
     let expected = a.expected.as_ref()?.split_whitespace().collect::<Vec<_>>().join(" ");
     let found = show(&a.answer);
     let named = a.answer.as_ref().map_or_else(|n| format!("{found} {}", refusals::name(*n)), |_| found.clone());
     let same = expected == found || expected == named;
-    (!same).then(|| format!("{file}:{}: {}: expected \"{expected}\", found \"{named}\"", a.line, a.call))
+    let why = a.why.as_ref().map_or(String::new(), |why| format!(": {why}"));
+    (!same).then(|| format!("{file}:{}: {}: expected \"{expected}\", found \"{named}\"{why}", a.line, a.call))
 }

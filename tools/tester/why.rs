@@ -1,5 +1,5 @@
-//! Why a call is refused: the first check that fails on the tables as they were before it, with the facts. The number is always the library's; where
-//! the tables lead to another one, that is said, for then the explanation is wrong.
+//! Why a call is refused: the first check that fails on the tables as they were before it, with the facts. The number is
+//! always the library's; where the tables lead to another one, that is said, for then the explanation is wrong.
 
 mod checks;
 mod rules;
@@ -37,6 +37,8 @@ pub fn explain(before: &[u64], call: &Call, answer: &Answer) -> Result<Option<St
         (Ok(_), Ok(())) => Ok(None),
         (Err(n), Err(reason)) if reason.number == *n => Ok(Some(reason.text)),
         (Err(n), Ok(())) => steps::facts(&tables, call, *n).map(Some).ok_or("unexplained: every check holds on the tables".to_string()),
-        (_, Err(r)) => Err(format!("unexplained: {}, but the tables lead to {} {}: {}", show(answer), r.number, refusals::name(r.number), r.text)),
+        (_, Err(Reason { number, text })) => {
+            Err(format!("unexplained: {}, but the tables lead to {number} {}: {text}", show(answer), refusals::name(number)))
+        }
     }
 }

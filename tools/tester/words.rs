@@ -25,7 +25,8 @@ pub fn read_memory(file: &str) -> Result<Vec<u64>, String> {
     let bytes = bytes(file)?;
     let (words, rest) = bytes.as_chunks();
     if !rest.is_empty() {
-        return Err(format!("{}: expected words of 8 bytes, found {} bytes, {} more than {} words", name(file), bytes.len(), rest.len(), words.len()));
+        let (all, more) = (bytes.len(), rest.len());
+        return Err(format!("{}: expected words of 8 bytes, found {all} bytes, {more} more than {} words", name(file), words.len()));
     }
     Ok(words.iter().map(|word| u64::from_le_bytes(*word)).collect())
 }

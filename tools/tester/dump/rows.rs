@@ -43,7 +43,10 @@ impl View<'_> {
     pub fn header(&self, w: &[u64]) -> String {
         let places = self.sizes.updates as u64 + 1;
         let (read, write) = (w[5], w[6]);
-        let queued = if read < places && write < places { format!("{} queued", (write + places - read) % places) } else { format!("not both below {places}") };
+        let queued = match read < places && write < places {
+            true => format!("{} queued", (write + places - read) % places),
+            false => format!("not both below {places}"),
+        };
         format!("read place {read}, write place {write}: {queued}")
     }
 
@@ -144,7 +147,11 @@ pub fn interface(w: &[u64]) -> String {
 pub fn marks(w: &[u64]) -> String {
     let names = ["reach", "READ", "WRITE", "EXEC", "SUPER"];
     let of = |word: u64| names.iter().enumerate().filter(|(k, _)| word >> k & 1 == 1).map(|(_, name)| *name).collect::<Vec<_>>().join(" ");
-    let said = w.iter().enumerate().filter(|(_, m)| **m != 0).map(|(k, &m)| if m < 32 { format!("place {k} {}", of(m)) } else { format!("place {k} {m} above 31") });
-    let said: Vec<String> = said.collect();
+    let said = |(k, &word): (usize, &u64)| match word {
+        0 => None,
+        1..32 => Some(format!("place {k} {}", of(word))),
+        _ => Some(format!("place {k} {word} above 31")),
+    };
+    let said: Vec<String> = w.iter().enumerate().filter_map(said).collect();
     if said.is_empty() { "none".to_string() } else { said.join("; ") }
 }

@@ -98,7 +98,8 @@ pub fn with_room(t: &Tables, d: u64, x: &Domain) -> Checked<Held> {
     };
     let full = x.held.iter().all(Option::is_some);
     let held: Held = x.held.iter().map(|c| c.filter(|c| !(full && dead(c)))).collect();
-    require(held.iter().any(Option::is_none), 12, || format!("domain {d}'s list has {} slots, all in use, none of them None or dead", held.len()))?;
+    let room = held.iter().any(Option::is_none);
+    require(room, 12, || format!("domain {d}'s list has {} slots, all in use, none of them None or dead", held.len()))?;
     Ok(held)
 }
 

@@ -4,7 +4,8 @@ use shared::calls::{Call, Extras, Handle};
 use shared::rights::{names, CLEANUP, HASH, VITAL};
 use shared::tables::{Capa, Kind, Tables};
 
-use super::checks::{caller_with, capa_at, child_rule, described, domain, live_domain, live_region, no_root, region_held, room_for_region, with_room};
+use super::checks::{caller_with, capa_at, described, domain, live_domain, live_region, region_held};
+use super::checks::{child_rule, no_root, room_for_region, with_room};
 use super::steps::closing;
 use super::{require, Checked};
 
@@ -83,7 +84,9 @@ fn send(t: &Tables, domain: Handle, local: u64, target: u64, extras: Extras) -> 
     let sent = capa_at(if to == d { &swept } else { &x.held }, d, local).map_err(|mut reason| {
         // A slot that held something before was freed by the sweep.
         let before = capa_at(&x.held, d, local).ok();
-        before.into_iter().for_each(|c| reason.text = format!("the sweep of the full list frees local slot {local}, which holds {}", described(c)));
+        if let Some(capa) = before {
+            reason.text = format!("the sweep of the full list frees local slot {local}, which holds {}", described(capa));
+        }
         reason
     })?;
     match sent {

@@ -1,4 +1,5 @@
-//! What is known of a call that passes every check and meets 13, 14 or 16 in its steps: what the tables had before it, and what the steps may change.
+//! What is known of a call that passes every check and meets 13, 14 or 16 in its steps: what the tables had before it, and
+//! what the steps may change.
 
 use std::collections::BTreeSet;
 
@@ -76,7 +77,8 @@ fn revoked(t: &Tables, named: BTreeSet<u64>, closing: BTreeSet<u64>) -> Steps {
     let owned = live(t).filter(|(_, g)| closing.contains(&g.owner)).map(|(i, _)| i);
     let mut regions: BTreeSet<u64> = named.into_iter().chain(revokes).chain(owned).collect();
     for _ in 0..t.regions.len() {
-        let below: Vec<u64> = live(t).filter(|(i, g)| !regions.contains(i) && parent(g).is_some_and(|p| regions.contains(&p))).map(|(i, _)| i).collect();
+        let is_below = |g: &Region| parent(g).is_some_and(|p| regions.contains(&p));
+        let below: Vec<u64> = live(t).filter(|(i, g)| !regions.contains(i) && is_below(g)).map(|(i, _)| i).collect();
         if below.is_empty() {
             break;
         }
@@ -107,8 +109,12 @@ fn no_tracker(t: &Tables) -> String {
 /// 14: what is queued before, which of the changed domains are not among them, and the ranges to clean up.
 fn ring_full(t: &Tables, steps: &Steps) -> Option<String> {
     let queued = t.places.iter().flatten().count();
-    let is_queued = |d: u64| t.places.iter().flatten().any(|u| matches!(*u, Update::Permission { domain, .. } if domain.slot == d && is_live_domain(t, domain)));
-    let others: Vec<String> = steps.domains.iter().filter(|&&d| !is_queued(d)).map(u64::to_string).collect();
+    let queued_domain = |update: &Update| match *update {
+        Update::Permission { domain, .. } if is_live_domain(t, domain) => Some(domain.slot),
+        _ => None,
+    };
+    let domains: BTreeSet<u64> = t.places.iter().flatten().filter_map(queued_domain).collect();
+    let others: Vec<String> = steps.domains.difference(&domains).map(u64::to_string).collect();
     let ranges = steps.regions.iter().filter_map(|&i| region(t, i)).filter(|g| g.rights & CLEANUP != 0).count();
     let others = (!others.is_empty()).then(|| format!("; not queued of the domains that it changes: {}", others.join(", ")));
     let ranges = (ranges > 0).then(|| format!("; ranges that it queues to clean up: {ranges}"));
@@ -116,7 +122,8 @@ fn ring_full(t: &Tables, steps: &Steps) -> Option<String> {
     (!queues.is_empty()).then(|| format!("{queued} of {} updates are queued before the call{queues}", t.sizes.updates))
 }
 
-/// 16: the slots in the steps' reach whose generation comes to an end. A region or a domain is freed once in a call, a record maybe several times.
+/// 16: the slots in the steps' reach whose generation comes to an end. A region or a domain is freed once in a call, a
+/// record maybe several times.
 fn spent(t: &Tables, steps: &Steps) -> Option<String> {
     let least = |pool: &Pool, slot: u64, least: u64| pool.gens.get(slot as usize).copied().filter(|gen| *gen >= least);
     let regions = steps.regions.iter().filter_map(|&i| Some(("region", i, least(&t.region_pool, i, u64::MAX)?)));
