@@ -1,5 +1,6 @@
 -- The calls (document 01, **Order of checks**; `CapaEngine`). Each `do` block has the checks in that order, the refusal's number beside each.
 -- Where room was found first (`roomForRegion`, `hasCapacity`), `newRegion` and `insertCapa` find it too, so that no 11 or 12 stands beside them.
+-- 13, 14, 16 are what may come, not an order: a gain or loss gives 13 or 16 where it meets them, and 14 when it is done; a close or a revoke has several.
 use Prim.Native.Nat.{ℕ}
 use mathlib.Core.Bool.{true, false, not, _||_}
 use mathlib.Core.Option.{Option, none, some}

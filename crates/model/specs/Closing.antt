@@ -64,8 +64,9 @@ freeDomain d s = do
   p ← free d (s .domainPool)
   ok (withDomains p (set (s .domains) d none) s)
 
--- The turn of domain d: its slots, as they are when it begins, which no step of it changes (`still-there`, crate laws); then its own slot is freed. n limits
--- the depth: calls give the number of live domains, so that the first equation is never reached (`close-sound`, crate laws).
+-- The turn of domain d, which is closing from here on: its slots, as they are when the turn begins, which no step of it changes (`still-there`, crate laws),
+-- and a domain that one of them manages in a turn of its own; then d's own slot is freed. n limits the depth: calls give the number of live domains, so that
+-- the first equation is never reached (`close-sound`, crate laws).
 unfoldable pub closeDomain : ℕ → List ℕ → ℕ → State → Outcome State
 closeDomain zero closing d s = ok s
 closeDomain (suc n) closing d s = do

@@ -27,7 +27,7 @@ pub data Step : Type 0 where
   Root : Handle → Access → Step  -- domain, range with rights
   Alias : Handle → ℕ → Access → Step  -- caller, parent's local slot, range with rights
   Carve : Handle → ℕ → Access → Step  -- the same
-  Send : Handle → ℕ → ℕ → SendOptions → Step  -- caller, slot sent, slot of a Management or Channel, options
+  Send : Handle → ℕ → ℕ → SendOptions → Step  -- caller, slot sent, slot of a Management or Channel, flags and hash
   Revoke : Handle → ℕ → Step  -- caller, slot; of a Management: close
   CreateRevokeCapa : Handle → ℕ → Step  -- caller, slot of a region
 
