@@ -58,7 +58,8 @@ revokeSlots f [] s = ok s
 revokeSlots f (c ∷ cs) s = f c s >>= λ s₁. revokeSlots f cs s₁
 
 -- "last in its turn its slot is freed, its generation raised" (16). Nothing of the domain stays: its slot list "is as a making leaves it", its tracker is
--- empty by then (`idle`, crate laws). The queue is not looked at: an update of the domain stays there, by the old generation.
+-- empty by then (`idle`, crate laws). The queue is not looked at: an update of the domain stays there, by the old generation. The slots of the domains below
+-- it are freed before its own, which is given first again.
 unfoldable pub freeDomain : ℕ → State → Outcome State
 freeDomain d s = do
   p ← free d (s .domainPool)

@@ -10,7 +10,7 @@
 -- tables. Demand 3: after any calls the stored numbers are those that a book kept from calls and answers alone gives (crate book).
 --   Example: A has a root 0 to 16 with rights 3 (READ, WRITE), carves 4 to 8 with rights 1 and sends the carve to B. Reach, READ and WRITE at 5:
 --     root  A 1 1 1, B 0 0 0      carved  A 1 1 0, B 0 0 0      sent  A 0 0 0, B 1 1 0      revoked  A 1 1 1, B 0 0 0
---   It is revoked by B, or by a RegionRevoke that A made while it held the carve.
+--   It is revoked by B, by a RegionRevoke that A made while it held the carve, or with B, when B is closed.
 --
 -- How to read it. In comments "…" quotes document 01, or document 02 where a request is named, `…` names the Rust or a definition, **…** names a paragraph
 -- of document 01, and a number such as 12 is a refusal (crate `refusals` has their names).

@@ -87,8 +87,9 @@ revokeLeaf closing i s = do
   s₃ ← freeRegion i s₂  -- 16
   if has (g .rights) CLEANUP then push (cleanup (g .start) (g .end)) s₃ else ok s₃  -- 14
 
--- **Revoke**: "Children go first, head child by head child, to any depth": the head child, and then i again without it. n only limits the depth: calls give
--- the number of all live regions, which suffices, so that the first equation is never reached (`revoke-all`, crate laws).
+-- **Revoke**: "Children go first, head child by head child, to any depth": the head child, and then i again without it. Where B owns a carve of A's root, and C
+-- an alias of that carve, C loses, then B loses, then A gains. n only limits how far this calls itself: calls give the number of all live regions, which
+-- suffices, so that the first equation is never reached (`revoke-all`, crate laws).
 unfoldable pub revokeRegion : List ℕ → ℕ → ℕ → State → Outcome State
 revokeRegion closing zero i s = ok s
 revokeRegion closing (suc n) i s = elim (regionAt s i .children) [
