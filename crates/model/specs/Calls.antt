@@ -122,7 +122,7 @@ freezeInterface h s = do
 
 -- ---- regions
 
--- A root (`create_root_region`): no parent, any range and rights.
+-- A root (`create_root_region`): no parent, any range and rights. The answer is the local slot.
 unfoldable pub createRootRegion : Handle → Access → State → Outcome (ℕ × State)
 createRootRegion h a s = do
   d ← liveDomain s h  -- 3

@@ -10,7 +10,7 @@
 -- tables. Demand 3: after any calls the stored numbers are those that a book kept from calls and answers alone gives (crate book).
 --   Example: A has a root 0 to 16 with rights 3 (READ, WRITE), carves 4 to 8 with rights 1 and sends the carve to B. Reach, READ and WRITE at 5:
 --     root  A 1 1 1, B 0 0 0      carved  A 1 1 0, B 0 0 0      sent  A 0 0 0, B 1 1 0      revoked  A 1 1 1, B 0 0 0
---   It is revoked by B, by a RegionRevoke that A made while it held the carve, or with B, when B is closed.
+--   It is revoked by B, by a RegionRevoke that A made while it held the carve, or with a close of B or of whoever holds that RegionRevoke.
 --
 -- How to read it. In comments "…" quotes document 01, or document 02 where a request is named, `…` names the Rust or a definition, **…** names a paragraph
 -- of document 01, and a number such as 12 is a refusal (crate `refusals` has their names).
@@ -40,7 +40,7 @@
 -- Letters, mostly: s state, d e domain slots, x domain, h k handles, i slot, g region, p pool or a parent's slot, q tracker record, c capability or child,
 -- l local slot or list, r rights or refusal, m marks or manager, f field, o a send's options, u update, w walk, z sizes, n a number; in Memory t are the
 -- tables and w is the work area. In Fields, Tracker, Counts and Readings j and k are counts; k is a kind in `newRegion`, `addChild`, `siblings`. a is a range
--- with rights in `overlaps` to `checkCarve`, Regions and Calls, elsewhere an address. What looks at the state mostly takes it first, what changes it last, and
+-- with rights in `overlaps` to `checkCarve`, Regions, Calls, Perform and CallWords, elsewhere an address. What looks at the state mostly takes it first, what changes it last, and
 -- so do readings.
 pub mod Lists
 pub mod Outcome

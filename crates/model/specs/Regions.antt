@@ -23,7 +23,7 @@ putWalk closing d w s =
     let s₁ = withRecordPool (w .pool) (putDomain d (withTracker (w .records) (domainAt s d)) s) in
     if exists (eqb d) closing || eqb (w .marks) 0 then ok s₁ else pushPermission d (w .marks) s₁
 
--- Domain d gains, or loses, a range with its rights (`activate_region`, `deactivate_region`).
+-- Domain d gains, or loses, a range with its rights (`activate_region`, `deactivate_region`). `closing` is [] in every call but a close.
 unfoldable pub activate : List ℕ → ℕ → Access → State → Outcome State
 activate closing d a s = do
   w ← gain (a .rights) (a .start) (a .end) (domainAt s d .tracker) (s .recordPool)

@@ -160,7 +160,9 @@ merged m = do
   (l, p) ← coalesce (w .records) (w .pool)
   ok (record { records = l; pool = p; marks = w .marks })
 
--- The whole gain and the whole loss of a range.
+-- The whole gain and the whole loss of a range: at each address in it one more, or one less, in the reach and in each right of r, elsewhere the counts stay,
+-- and the marks are of all that came to or left 0 (`gain-count`, `lose-count`, `gain-marks`, `lose-marks`, crate laws). Who asks neither for record slots nor
+-- for 13 need not read the walks above.
 unfoldable pub gain : ℕ → ℕ → ℕ → List Record → Pool → Outcome Walk
 gain r from to l p = merged (addRegion r from to l p)
 
