@@ -393,8 +393,8 @@ mityvurno_reply mityvurno_send_with_hash(MITYVURNO_LENT, uint64_t domain, uint64
  *   domain, generation  the caller's handle
  *   local               its slot
  *   value     0
- *   refusals  1 MEMORY, 3 NO_DOMAIN, 4 NO_SLOT; of a region 6 STALE, 9 ROOT; of a Management capability 3 NO_DOMAIN where the domain is
- *             closed already, 22 HOLDS_ROOT, 23 RUNNING; 13 NO_TRACKER, 14 RING_FULL, 16 SPENT. A Channel, an emptied slot and a
+ *   refusals  1 MEMORY, 3 NO_DOMAIN, 4 NO_SLOT; of a Management capability 3 NO_DOMAIN where the domain is closed already, 22 HOLDS_ROOT,
+ *             23 RUNNING; of a region 6 STALE, 9 ROOT; 13 NO_TRACKER, 14 RING_FULL, 16 SPENT. A Channel, an emptied slot and a
  *             RegionRevoke of a dead region are accepted
  *   cost      test, copy, and work for each region that dies. Closing 7 domains with 15 aliases each, 31.0; 31 with 32 each, 1107 */
 mityvurno_reply mityvurno_revoke(MITYVURNO_LENT, uint64_t domain, uint64_t generation, uint64_t local);
