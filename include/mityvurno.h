@@ -453,8 +453,9 @@ mityvurno_reply mityvurno_core_map(MITYVURNO_READ_ONLY, uint64_t domain, uint64_
  *   cost      test, and a look at the records of every domain */
 mityvurno_reply mityvurno_holders(MITYVURNO_READ_ONLY, uint64_t address, uint64_t *MITYVURNO_APART run, size_t places);
 
-/* Lists the domain's permissions, rising: ranges, each with the rights that the domain has there. Those past the run are not written, so
- * that a short run holds the lowest ranges, and unused places stay as they are, as does the whole run on refusal.
+/* Lists the domain's permissions, rising: ranges, each with what the domain has there of READ, WRITE, EXEC, SUPER and UNCACHEABLE. Those
+ * past the run are not written, so that a short run holds the lowest ranges, and unused places stay as they are, as does the whole run on
+ * refusal.
  *
  *   domain, generation  the domain's handle
  *   run       `places` permissions. A run as long as the tables have records has room for all
