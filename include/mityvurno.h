@@ -215,8 +215,8 @@ typedef struct {
  *             18 and 19 of a flag word alone, by the model's `openDomain` and `checkOptions`; of the converter, its contract).
  *             13, 14 and 16 come after the others, whichever is met first
  *   cost      "test": the tables are tested. "copy": they are copied to the work area besides, and put back where the call is refused.
- *             Microseconds, where the call was measured: at the script program's sizes, then at the largest, each from tables full of
- *             roots to the slowest sound tables known */
+ *             Microseconds (us), where the call was measured, are at the script program's sizes where no others are named, and go from
+ *             tables full of roots to the slowest sound tables known */
 
 #define MITYVURNO_LENT uint64_t *MITYVURNO_APART t, size_t t_words, uint64_t *MITYVURNO_APART w, size_t w_words
 /* A reading does not change the tables. */
@@ -230,7 +230,7 @@ typedef struct {
  *   domains .. updates  the sizes
  *   value     0
  *   refusals  2 SIZES, 1 MEMORY by the lengths alone
- *   cost      no test; 0.6; 6.5 */
+ *   cost      no test; 0.6 us; at the largest sizes 6.5 us */
 mityvurno_reply mityvurno_make_tables(MITYVURNO_LENT, uint64_t domains, uint64_t slots, uint64_t regions, uint64_t records,
                                       uint64_t updates);
 
@@ -242,7 +242,7 @@ mityvurno_reply mityvurno_make_tables(MITYVURNO_LENT, uint64_t domains, uint64_t
  *   v, w      two work areas, as long as `t`, zero afterwards
  *   value     0
  *   refusals  1 MEMORY for wrong lengths and old tables that are not sound; `t` is as found then
- *   cost      test of what it makes, and two copies; of roots and of carves 6.8 to 7.3; 73.6 to 81.9 */
+ *   cost      test of what it makes, two copies; roots and carves 6.8 to 7.3 us; at the largest sizes 73.6 to 81.9 us */
 mityvurno_reply mityvurno_convert_tables(const uint64_t *MITYVURNO_APART old, size_t old_words, uint64_t *MITYVURNO_APART t,
                                          size_t t_words, uint64_t *MITYVURNO_APART v, size_t v_words, uint64_t *MITYVURNO_APART w,
                                          size_t w_words);
@@ -282,7 +282,7 @@ mityvurno_reply mityvurno_open_channel(MITYVURNO_LENT, uint64_t domain, uint64_t
  *   cores     any 64 bits
  *   value     0
  *   refusals  1 MEMORY, 3 NO_DOMAIN
- *   cost      test; 5.4 to 8.2; 53.5 to 87.3 */
+ *   cost      test; 5.4 to 8.2 us; at the largest sizes 53.5 to 87.3 us */
 mityvurno_reply mityvurno_set_core_map(MITYVURNO_LENT, uint64_t domain, uint64_t generation, uint64_t cores);
 
 /* Platform only. The word of the domain's interface, in place of the one that stands. A domain opens with MITYVURNO_MAY_SEND,
@@ -293,7 +293,7 @@ mityvurno_reply mityvurno_set_core_map(MITYVURNO_LENT, uint64_t domain, uint64_t
  *   word      any 64 bits
  *   value     0
  *   refusals  1 MEMORY, 3 NO_DOMAIN, 21 FROZEN
- *   cost      test; 5.4 to 8.2; 53.5 to 86.8 */
+ *   cost      test; 5.4 to 8.2 us; at the largest sizes 53.5 to 86.8 us */
 mityvurno_reply mityvurno_set_interface(MITYVURNO_LENT, uint64_t domain, uint64_t generation, uint64_t word);
 
 /* Platform only. The word stays as it is while the domain lives: only its closing, or a making, ends the freeze. Freezing twice is
@@ -327,7 +327,8 @@ mityvurno_reply mityvurno_create_root_region(MITYVURNO_LENT, uint64_t domain, ui
  *   value     the part's local slot
  *   refusals  1 MEMORY, 3 NO_DOMAIN, 20 NOT_ALLOWED, 4 NO_SLOT, 5 WRONG_KIND, 6 STALE, 11 NO_REGION, 12 NO_LOCAL, 7 BAD_RANGE,
  *             8 BEYOND; 13 NO_TRACKER, 14 RING_FULL, 16 SPENT
- *   cost      test, copy; refused with 8, 6.7 to 9.7; 67.4 to 102.3. An alias and its revoke, two calls: 13.2 to 21.2; 124.6 to 217.2 */
+ *   cost      test, copy; refused with 8, 6.7 to 9.7 us; at the largest sizes 67.4 to 102.3 us. An alias and its revoke, two calls,
+ *             13.2 to 21.2 us; at the largest sizes 124.6 to 217.2 us */
 mityvurno_reply mityvurno_alias_region(MITYVURNO_LENT, uint64_t domain, uint64_t generation, uint64_t local, uint64_t start, uint64_t end,
                                        uint8_t rights);
 
@@ -366,7 +367,7 @@ mityvurno_reply mityvurno_send(MITYVURNO_LENT, uint64_t domain, uint64_t generat
  *   value     the local slot in the receiver's list
  *   refusals  1 MEMORY, 3 NO_DOMAIN, 20 NOT_ALLOWED; of the target 4 NO_SLOT, 5 WRONG_KIND, 3 NO_DOMAIN, 12 NO_LOCAL;
  *             of the sent slot 4 NO_SLOT, 10 NOT_CARRIED, 6 STALE, 18 BAD_FLAG, 19 NO_HASH; 13 NO_TRACKER, 14 RING_FULL, 16 SPENT
- *   cost      test, copy; to itself 7.7 to 12.2; 63.2 to 118.9 */
+ *   cost      test, copy; to itself 7.7 to 12.2 us; at the largest sizes 63.2 to 118.9 us */
 mityvurno_reply mityvurno_send_with_flags(MITYVURNO_LENT, uint64_t domain, uint64_t generation, uint64_t local, uint64_t target,
                                           uint8_t flags);
 
@@ -396,7 +397,8 @@ mityvurno_reply mityvurno_send_with_hash(MITYVURNO_LENT, uint64_t domain, uint64
  *   refusals  1 MEMORY, 3 NO_DOMAIN, 4 NO_SLOT; of a Management capability 3 NO_DOMAIN where the domain is closed already, 22 HOLDS_ROOT,
  *             23 RUNNING; of a region 6 STALE, 9 ROOT; 13 NO_TRACKER, 14 RING_FULL, 16 SPENT. A Channel, an emptied slot and a
  *             RegionRevoke of a dead region are accepted
- *   cost      test, copy, and work for each region that dies. Closing 7 domains with 15 aliases each, 31.0; 31 with 32 each, 1107 */
+ *   cost      test, copy, and work for each region that dies. Closing 7 domains with 15 aliases each, 31.0 us; at the
+ *             largest sizes 31 with 32 each, 1,107 us */
 mityvurno_reply mityvurno_revoke(MITYVURNO_LENT, uint64_t domain, uint64_t generation, uint64_t local);
 
 /* Makes a RegionRevoke for the region in `local`, in the same list.
@@ -421,7 +423,7 @@ mityvurno_reply mityvurno_create_revoke_capa(MITYVURNO_LENT, uint64_t domain, ui
  *   value     (kind, a, b, c, marks) the update; kind MITYVURNO_NONE where the queue is empty. The core map is the one that the domain had
  *             when it was queued
  *   refusals  1 MEMORY: then it is not known whether the queue is empty, though kind is 0
- *   cost      test; of an empty queue 5.1 to 8.0; 53.4 to 87.5 */
+ *   cost      test; of an empty queue 5.1 to 8.0 us; at the largest sizes 53.4 to 87.5 us */
 mityvurno_update_reply mityvurno_pop(MITYVURNO_LENT);
 
 /* ---- readings */
@@ -432,7 +434,7 @@ mityvurno_update_reply mityvurno_pop(MITYVURNO_LENT);
  *   start, end          any two numbers
  *   value     the largest reach of the domain there, 0 where it has none
  *   refusals  1 MEMORY, 3 NO_DOMAIN
- *   cost      test, and at the largest sizes 2.9 for a domain with 1,000 records */
+ *   cost      test, and at the largest sizes 2.9 us for a domain with 1,000 records */
 mityvurno_reply mityvurno_get_refcount(MITYVURNO_READ_ONLY, uint64_t domain, uint64_t generation, uint64_t start, uint64_t end);
 
 /* Reads the domain's core map.
@@ -440,7 +442,7 @@ mityvurno_reply mityvurno_get_refcount(MITYVURNO_READ_ONLY, uint64_t domain, uin
  *   domain, generation  the domain's handle
  *   value     the core map
  *   refusals  1 MEMORY, 3 NO_DOMAIN
- *   cost      test; with roots 5.1; 53.2 */
+ *   cost      test; roots 5.1 us; at the largest sizes 53.2 us */
 mityvurno_reply mityvurno_core_map(MITYVURNO_READ_ONLY, uint64_t domain, uint64_t generation);
 
 /* Lists the slots of the domains that reach an address, rising, each once. Those past the run are not written, so that a short run holds
@@ -461,7 +463,7 @@ mityvurno_reply mityvurno_holders(MITYVURNO_READ_ONLY, uint64_t address, uint64_
  *   run       `places` permissions. A run as long as the tables have records has room for all
  *   value     how many there are, which may be more than `places`
  *   refusals  1 MEMORY, 3 NO_DOMAIN
- *   cost      test, and at the largest sizes 7.3 for a domain with 1,000 records */
+ *   cost      test, and at the largest sizes 7.3 us for a domain with 1,000 records */
 mityvurno_reply mityvurno_permissions(MITYVURNO_READ_ONLY, uint64_t domain, uint64_t generation,
                                       mityvurno_permission *MITYVURNO_APART run, size_t places);
 
