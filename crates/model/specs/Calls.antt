@@ -1,5 +1,6 @@
 -- The calls (document 01, **Order of checks**; `CapaEngine`). Each `do` block has the checks in that order, the refusal's number beside each.
 -- Where room was found first (`roomForRegion`, `hasCapacity`), `newRegion` and `insertCapa` find it too, so that no 11 or 12 stands beside them.
+-- 13, 14, 16 are what may come, not an order: a gain or loss gives 13 or 16 where it meets them, and 14 when it is done; a close or a revoke has several.
 use Prim.Native.Nat.{ℕ}
 use mathlib.Core.Bool.{true, false, not, _||_}
 use mathlib.Core.Option.{Option, none, some}
@@ -121,7 +122,7 @@ freezeInterface h s = do
 
 -- ---- regions
 
--- A root (`create_root_region`): no parent, any range and rights.
+-- A root (`create_root_region`): no parent, any range and rights. The answer is the local slot.
 unfoldable pub createRootRegion : Handle → Access → State → Outcome (ℕ × State)
 createRootRegion h a s = do
   d ← liveDomain s h  -- 3
@@ -131,7 +132,8 @@ createRootRegion h a s = do
   s₄ ← activate [] d a s₃  -- 13, 14, 16
   ok (l, s₄)
 
--- A child of region p, in p's child list and in a slot of domain d's list. It is in the region table before `insertChild` reads its start there.
+-- A child of region p, in p's child list and in a slot of domain d's list: the answer is that slot. It is in the region table before `insertChild` reads its
+-- start there.
 unfoldable pub addChild : ℕ → ℕ → Kind → Access → State → Outcome (ℕ × State)
 addChild d p k a s = do
   (i, s₁) ← newRegion d k a s
@@ -150,7 +152,8 @@ aliasRegion h l a s = do
 
 -- **Carve**: "the domain loses the range with the parent's rights and gains it with the new ones; if equal, the tracker isn't touched". The whole words
 -- are compared: 35 and 3 differ, though the tracker counts alike. Loss and gain mark each for itself: where nothing else counts there, the reach goes to 0
--- and back and is marked, though it is as before.
+-- and back and is marked, though it is as before. With one record 0 to 16 of reach 1, a carve of 4 to 8 with other rights needs two free record slots (13):
+-- the loss takes both and frees the first again, which the gain takes: records 0 to 4, 4 to 8, 8 to 16.
 unfoldable pub exchangeRights : ℕ → ℕ → Access → State → Outcome State
 exchangeRights d old a s = if eqb old (a .rights) then ok s else (do
   s₁ ← deactivate [] d (record { start = a .start; end = a .end; rights = old }) s

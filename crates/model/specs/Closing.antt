@@ -58,14 +58,16 @@ revokeSlots f [] s = ok s
 revokeSlots f (c ∷ cs) s = f c s >>= λ s₁. revokeSlots f cs s₁
 
 -- "last in its turn its slot is freed, its generation raised" (16). Nothing of the domain stays: its slot list "is as a making leaves it", its tracker is
--- empty by then (`idle`, crate laws). The queue is not looked at: an update of the domain stays there, by the old generation.
+-- empty by then (`idle`, crate laws). The queue is not looked at: an update of the domain stays there, by the old generation. The slots of the domains below
+-- it are freed before its own, which is given first again.
 unfoldable pub freeDomain : ℕ → State → Outcome State
 freeDomain d s = do
   p ← free d (s .domainPool)
   ok (withDomains p (set (s .domains) d none) s)
 
--- The turn of domain d: its slots, as they are when it begins, which no step of it changes (`still-there`, crate laws); then its own slot is freed. n limits
--- the depth: calls give the number of live domains, so that the first equation is never reached (`close-sound`, crate laws).
+-- The turn of domain d, which is closing from here on: its slots, as they are when the turn begins, which no step of it changes (`still-there`, crate laws),
+-- and a domain that one of them manages in a turn of its own; then d's own slot is freed. n limits the depth: calls give the number of live domains, so that
+-- the first equation is never reached (`close-sound`, crate laws).
 unfoldable pub closeDomain : ℕ → List ℕ → ℕ → State → Outcome State
 closeDomain zero closing d s = ok s
 closeDomain (suc n) closing d s = do

@@ -41,7 +41,7 @@ each n u = record { reach = n Field.Reach; read = n Field.Read; write = n Field.
 
 -- ---- marks (document 02, request 4): a set of fields as a number
 
--- "as bits 0 to 4, in that order": "reach and each of the four rights"
+-- "as bits 0 to 4, in that order": "reach and each of the four rights". So a right's mark is twice its flag: a first gain with rights 3 marks 1 + 2 + 4.
 abbrev pub mark : Field → ℕ
 mark Field.Reach = 1
 mark Field.Read = 2

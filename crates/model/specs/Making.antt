@@ -6,7 +6,7 @@ use mathlib.Core.List.{[]}
 use lib.Dec.{leb, eqb}
 use lib.ListN.{replicate}
 use Rattle.model.specs.Outcome.{Outcome, ok, _>>=_, _>>_, require}
-use Rattle.refusals.specs.Refusals.{memory, sizes}
+use Rattle.refusals.specs.Refusals
 use Rattle.model.specs.State.{Sizes, State}
 use Rattle.model.specs.Pool.{freshPool}
 use Rattle.model.specs.Layout.{lengthFor}
@@ -39,7 +39,7 @@ emptyTables z =
 -- 2 where a size is outside its limits
 unfoldable pub makeTables : Sizes → Outcome State
 makeTables z = do
-  require (goodSizes z) sizes  -- 2
+  require (goodSizes z) Refusals.sizes  -- 2
   ok (emptyTables z)
 
 -- Making in lent memory, by the lengths of tables and work area: "2 Sizes, one outside its limits (empty tables only, before 1, which there tests lengths
@@ -47,5 +47,5 @@ makeTables z = do
 unfoldable pub makeIn : ℕ → ℕ → Sizes → Outcome State
 makeIn tables work z = do
   s ← makeTables z  -- 2
-  require (eqb tables (lengthFor z) && eqb work (lengthFor z)) memory  -- 1
+  require (eqb tables (lengthFor z) && eqb work (lengthFor z)) Refusals.memory  -- 1
   ok s

@@ -39,8 +39,8 @@ NotMake (Call.Do c) = Unit {0}
 NotMake Call.Pop = Unit {0}
 NotMake (Call.Read r) = Unit {0}
 
--- `After t w c a t′ w′`: the call c on tables t and work area w is answered a, and leaves t′ and w′. There is one answer, one t′ and one w′
--- (`after-unique`, crate laws).
+-- `After t w c a t′ w′`: the call c on tables t and work area w is answered a, and leaves t′ and w′. Read each rule so: where what stands before its last
+-- arrow holds, the call is answered and leaves what the `After` behind it names. There is one answer, one t′ and one w′ (`after-unique`, crate laws).
 pub data After (t w : List ℕ) : Call → Answer → List ℕ → List ℕ → Type 0 where
   -- making, on memory with any contents: 2, then 1 by the lengths alone
   made : (z : Sizes) → After t w (Call.Make z) (madeAnswer (makeIn (length t) (length w) z)) (tablesLeft t (makeIn (length t) (length w) z)) (zeroed w)
@@ -50,7 +50,7 @@ pub data After (t w : List ℕ) : Call → Answer → List ℕ → List ℕ → 
   performed : (c : Call) (s : State) → NotMake c → Lent t w s → After t w c (step s c .0) (words (step s c .1)) (zeroed w)
 
 -- A reading whose list is written into a lent run (**Reading**): accepted, the run holds the list's first elements, and the answer is the list's length ("the
--- whole number of records"); refused, the run is as found.
+-- whole number of records"); refused, the run is as found. `reply` is the form of Value that has the list.
 pub data Filled {A : Type 0} (t w : List ℕ) (c : Call) (reply : List A → Value) (run : List A) : Answer → List ℕ → List ℕ → List A → Type 0 where
   filled : (l : List A) (t′ w′ : List ℕ) → After t w c (Answer.yes (reply l)) t′ w′ → Filled t w c reply run (Answer.yes (Value.number (length l))) t′ w′ (fillRun l run)
   untouched : (r : Refusal) (t′ w′ : List ℕ) → After t w c (Answer.no r) t′ w′ → Filled t w c reply run (Answer.no r) t′ w′ run

@@ -27,7 +27,7 @@ pub data Step : Type 0 where
   Root : Handle → Access → Step  -- domain, range with rights
   Alias : Handle → ℕ → Access → Step  -- caller, parent's local slot, range with rights
   Carve : Handle → ℕ → Access → Step  -- the same
-  Send : Handle → ℕ → ℕ → SendOptions → Step  -- caller, slot sent, slot of a Management or Channel, options
+  Send : Handle → ℕ → ℕ → SendOptions → Step  -- caller, slot sent, slot of a Management or Channel, flags and hash if given
   Revoke : Handle → ℕ → Step  -- caller, slot; of a Management: close
   CreateRevokeCapa : Handle → ℕ → Step  -- caller, slot of a region
 
@@ -107,8 +107,8 @@ readTables s (Refcount h from to) = getRefcount h from to s >>= λ n. ok (number
 readTables s (CoreMap h) = coreMap h s >>= λ n. ok (number n)
 readTables s (Holders a) = ok (domainList (holders a s))
 
--- What a call does: the value and the new state, or the refusal. A making is in the memory that holds s, so that it gives 1 unless the new
--- sizes need as many words; of a making in any lent memory: `After.made` (Memory). After a reading the state is as it was.
+-- What a call does: the value and the new state, or the refusal. A making is in the memory that holds s, so that after 2 it gives 1 unless the
+-- new sizes need as many words; of a making in any lent memory: `After.made` (Memory). After a reading the state is as it was.
 unfoldable pub perform : State → Call → Outcome (Value × State)
 perform s (Make z) = let n = lengthFor (s .sizes) in silent (makeIn n n z)
 perform s (Do c) = performStep s c

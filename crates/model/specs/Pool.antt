@@ -19,7 +19,7 @@ freshPool n = record { gens = replicate n 0; free = countUp 0 n }
 unfoldable pub allocate : Refusal → Pool → Outcome (ℕ × Pool)
 allocate r p = elim (p .free) [ [] ↦ refuse r | i ∷ is ↦ ok (i, record { gens = p .gens; free = is }) ]
 
--- "Freeing adds one to the generation"; 16 where it is 2^64 − 1.
+-- "Freeing adds one to the generation"; 16 where it is 2^64 − 1. (`p .free` is the stack of free slots, `free i p` this.)
 unfoldable pub free : ℕ → Pool → Outcome Pool
 free i p = do
   let g = getD (p .gens) i 0

@@ -23,7 +23,7 @@ putWalk closing d w s =
     let s₁ = withRecordPool (w .pool) (putDomain d (withTracker (w .records) (domainAt s d)) s) in
     if exists (eqb d) closing || eqb (w .marks) 0 then ok s₁ else pushPermission d (w .marks) s₁
 
--- Domain d gains, or loses, a range with its rights (`activate_region`, `deactivate_region`).
+-- Domain d gains, or loses, a range with its rights (`activate_region`, `deactivate_region`). `closing` is [] in every call but a close.
 unfoldable pub activate : List ℕ → ℕ → Access → State → Outcome State
 activate closing d a s = do
   w ← gain (a .rights) (a .start) (a .end) (domainAt s d .tracker) (s .recordPool)
@@ -87,9 +87,9 @@ revokeLeaf closing i s = do
   s₃ ← freeRegion i s₂  -- 16
   if has (g .rights) CLEANUP then push (cleanup (g .start) (g .end)) s₃ else ok s₃  -- 14
 
--- **Revoke**: "Children go first, head child by head child, to any depth." The head child, and then i again
--- without it, each get one less than n: as many as there are live regions at and below i suffice. Calls give the number of all live ones, so that the first
--- equation is never reached (`revoke-all`, crate laws).
+-- **Revoke**: "Children go first, head child by head child, to any depth": the head child, and then i again without it. Where B owns a carve of A's root, and C
+-- an alias of that carve, C loses, then B loses, then A gains. n only limits how far this calls itself: calls give the number of all live regions, which
+-- suffices, so that the first equation is never reached (`revoke-all`, crate laws).
 unfoldable pub revokeRegion : List ℕ → ℕ → ℕ → State → Outcome State
 revokeRegion closing zero i s = ok s
 revokeRegion closing (suc n) i s = elim (regionAt s i .children) [

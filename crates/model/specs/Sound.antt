@@ -175,7 +175,8 @@ pub record TrackerSound (regions : List (Option Region)) (d : ℕ) (l : List Rec
 
 -- ---- the update ring
 
--- "queued domains are live"; document 02, request 5: "A queued update may name a closed domain by its old generation"
+-- "queued domains are live", or closed since (document 02, request 5: "A queued update may name a closed domain by its old generation"). A free slot's own
+-- generation is neither.
 abbrev pub QueuedFit : Pool → List (Option Domain) → Update → Type 0
 QueuedFit p ds (permission h cores marks) = LiveOrOlder p ds h
 QueuedFit p ds (cleanup a b) = Unit {0}

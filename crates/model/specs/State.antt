@@ -134,7 +134,8 @@ pub record SendOptions : Type 0 where
 abbrev pub noOptions : SendOptions
 noOptions = record { flags = none; hash = none }
 
--- **Update ring**: a domain with its core map and the marks gathered so far (document 02, request 4), or a range to be cleaned up (`Update`).
+-- **Update ring** (`Update`): `permission`, a domain whose permissions changed, its core map and the marks gathered so far (document 02, request 4); `cleanup`,
+-- a range to be cleaned up.
 pub data Update : Type 0 where
   permission : Handle → ℕ → ℕ → Update
   cleanup : ℕ → ℕ → Update

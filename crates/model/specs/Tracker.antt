@@ -131,6 +131,7 @@ unfoldable pub removeFrom : ℕ → ℕ → ℕ → Record → Pool → Outcome 
 removeFrom r from to q p = if meets from to q then lowerInside r from to q p else ok (asItWas q p)
 
 -- **Tracker**, loss: the range with rights r, from left to right (`remove_region`). A gap in the range is passed over; in sound tables there is none.
+-- With one record 0 to 16 of reach 1, a loss of 4 to 8 takes a slot for 4 to 16, another for 8 to 16, and frees the first of the two again.
 unfoldable pub removeRegion : ℕ → ℕ → ℕ → List Record → Pool → Outcome Walk
 removeRegion r from to [] p = ok (record { records = []; pool = p; marks = 0 })
 removeRegion r from to (q ∷ l) p = do
@@ -159,7 +160,9 @@ merged m = do
   (l, p) ← coalesce (w .records) (w .pool)
   ok (record { records = l; pool = p; marks = w .marks })
 
--- The whole gain and the whole loss of a range.
+-- The whole gain and the whole loss of a range: at each address in it one more, or one less, in the reach and in each right of r, elsewhere the counts stay,
+-- and the marks are of all that came to or left 0 (`gain-count`, `lose-count`, `gain-marks`, `lose-marks`, crate laws). Who asks neither for record slots nor
+-- for 13 need not read the walks above.
 unfoldable pub gain : ℕ → ℕ → ℕ → List Record → Pool → Outcome Walk
 gain r from to l p = merged (addRegion r from to l p)
 

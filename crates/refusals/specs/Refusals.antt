@@ -8,7 +8,7 @@ use Rattle.refusals.specs.declared.Refusal.{Refusal}
 abbrev pub number : Refusal → ℕ
 number r = r .0
 
--- ---- the host that lends
+-- ---- refused is the host that lends
 
 abbrev pub memory : Refusal
 memory = record { 0 = 1 }  -- a length wrong, or tables not sound
@@ -16,7 +16,7 @@ memory = record { 0 = 1 }  -- a length wrong, or tables not sound
 abbrev pub sizes : Refusal
 sizes = record { 0 = 2 }  -- making: a size outside its limits
 
--- ---- a domain's program
+-- ---- refused is a domain's program
 
 abbrev pub noDomain : Refusal
 noDomain = record { 0 = 3 }  -- the handle of no live domain
@@ -43,7 +43,7 @@ isRoot = record { 0 = 9 }  -- revoking a root, or making its RegionRevoke
 abbrev pub notCarried : Refusal
 notCarried = record { 0 = 10 }  -- sending a Management capability
 
--- ---- all together
+-- ---- refused are all together: what they share is used up
 
 abbrev pub noRegion : Refusal
 noRegion = record { 0 = 11 }  -- no region slot free
@@ -63,7 +63,7 @@ noDomainRoom = record { 0 = 15 }  -- no domain slot free
 abbrev pub spent : Refusal
 spent = record { 0 = 16 }  -- a generation of 2^64 − 1 would be raised
 
--- ---- the script's author
+-- ---- refused is a script's author
 
 abbrev pub badRecord : Refusal
 badRecord = record { 0 = 17 }  -- a script's record is bad or cut
