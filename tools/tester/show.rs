@@ -100,7 +100,7 @@ impl Shown<'_> {
             Form::Check => {
                 let (calls, checked, differ) = (self.calls, self.checked, self.differ);
                 self.line(format!("{calls} calls, {checked} with an answer behind them, {differ} of these differ"))?;
-                self.good = differ == 0;
+                self.good &= differ == 0;
             }
             Form::Picture => self.picture(words)?,
             Form::Text | Form::Json | Form::Csv | Form::List => (),

@@ -19,9 +19,18 @@ struct Reason {
 
 type Checked<T> = Result<T, Reason>;
 
+fn refused<T>(number: u8, text: String) -> Checked<T> {
+    Err(Reason { number, text })
+}
+
 /// A check: the refusal with this number where it does not hold.
 fn require(holds: bool, number: u8, text: impl FnOnce() -> String) -> Checked<()> {
-    if holds { Ok(()) } else { Err(Reason { number, text: text() }) }
+    if holds { Ok(()) } else { refused(number, text()) }
+}
+
+/// The same refusal with more words before its facts.
+fn behind<T>(words: String, checked: Checked<T>) -> Checked<T> {
+    checked.map_err(|Reason { number, text }| Reason { number, text: format!("{words} {text}") })
 }
 
 /// The reason of a refusal; none for an accepted call. An error where the tables lead to another answer.

@@ -4,14 +4,10 @@ use shared::calls::{Access, Handle};
 use shared::rights::{names, CLEANUP, HASH, VITAL};
 use shared::tables::{Capa, Domain, Kind, Pool, Region, Tables};
 
-use super::{require, Checked, Reason};
+use super::{refused, require, Checked};
 
 /// The slots of a domain's list: what each holds, none for a free one.
 pub type Held = Vec<Option<Capa>>;
-
-fn refused<T>(number: u8, text: String) -> Checked<T> {
-    Err(Reason { number, text })
-}
 
 pub fn domain(t: &Tables, slot: u64) -> Option<&Domain> {
     t.domains.get(usize::try_from(slot).ok()?)?.as_ref()
@@ -19,6 +15,18 @@ pub fn domain(t: &Tables, slot: u64) -> Option<&Domain> {
 
 pub fn region(t: &Tables, slot: u64) -> Option<&Region> {
     t.regions.get(usize::try_from(slot).ok()?)?.as_ref()
+}
+
+/// The live regions, each with its slot.
+pub fn live_regions(t: &Tables) -> impl Iterator<Item = (u64, &Region)> {
+    (0..).zip(&t.regions).filter_map(|(i, g)| Some((i, g.as_ref()?)))
+}
+
+pub fn parent(g: &Region) -> Option<u64> {
+    match g.kind {
+        Kind::Root => None,
+        Kind::Alias(p) | Kind::Carve(p) => Some(p),
+    }
 }
 
 fn generation(pool: &Pool, slot: u64) -> Option<u64> {
@@ -119,15 +127,10 @@ pub fn child_rule(t: &Tables, (h, g): (Handle, &Region), a: &Access, stops: impl
         let (own, parents) = (names(a.rights), names(g.rights));
         format!("the rights {} ({own}) have {}, which the parent's {} ({parents}) lack", a.rights, names(lacking), g.rights)
     })?;
-    let child = |c: &Region| matches!(c.kind, Kind::Alias(p) | Kind::Carve(p) if p == h.slot) && stops(c.kind);
-    let overlapped = (0..).zip(&t.regions).filter_map(|(i, c)| Some((i, c.as_ref()?)));
-    match overlapped.into_iter().find(|(_, c): &(u64, &Region)| child(c) && a.start < c.end && c.start < a.end) {
-        None => Ok(()),
-        Some((i, c)) => {
-            let kind = if matches!(c.kind, Kind::Carve(_)) { "carve" } else { "alias" };
-            refused(8, format!("{} to {} overlaps the {kind} in region slot {i}, {} to {}", a.start, a.end, c.start, c.end))
-        }
-    }
+    let stops = |c: &Region| parent(c) == Some(h.slot) && stops(c.kind) && a.start < c.end && c.start < a.end;
+    let Some((i, c)) = live_regions(t).find(|(_, c)| stops(c)) else { return Ok(()) };
+    let kind = if matches!(c.kind, Kind::Carve(_)) { "carve" } else { "alias" };
+    refused(8, format!("{} to {} overlaps the {kind} in region slot {i}, {} to {}", a.start, a.end, c.start, c.end))
 }
 
 /// 9: the region is no root.

@@ -4,10 +4,10 @@ use shared::calls::{Call, Extras, Handle};
 use shared::rights::{names, CLEANUP, HASH, VITAL};
 use shared::tables::{Capa, Kind, Tables};
 
-use super::checks::{caller_with, capa_at, described, domain, live_domain, live_region, region_held};
+use super::checks::{caller_with, capa_at, described, domain, live_domain, live_region, live_regions, region_held};
 use super::checks::{child_rule, no_root, room_for_region, with_room};
 use super::steps::closing;
-use super::{require, Checked};
+use super::{behind, refused, require, Checked};
 
 /// Where the bits stand in a domain's word.
 const SEND: u32 = 1;
@@ -70,29 +70,21 @@ fn open(t: &Tables, manager: Option<Handle>) -> Checked<()> {
 /// 3, 20; of the target 4, 5, 3, 12; of the sent slot, as it is after the sweep, 4, 10, 6, 18, 19.
 fn send(t: &Tables, domain: Handle, local: u64, target: u64, extras: Extras) -> Checked<()> {
     let (d, x) = caller_with(t, domain, "SEND", SEND)?;
-    let capa = capa_at(&x.held, d, target)?;
-    let named = match capa {
-        Capa::Management(h) | Capa::Channel(h) => Some(h),
-        _ => None,
-    };
-    require(named.is_some(), 5, || format!("the target, local slot {target}, holds {}, no Channel or Management", described(capa)))?;
-    let (to, y) = live_domain(t, named.unwrap_or(domain)).map_err(|mut reason| {
-        reason.text = format!("the target, local slot {target}, holds {}, and {}", described(capa), reason.text);
-        reason
-    })?;
-    let swept = with_room(t, to, y)?;
-    let sent = capa_at(if to == d { &swept } else { &x.held }, d, local).map_err(|mut reason| {
-        // A slot that held something before was freed by the sweep.
-        let before = capa_at(&x.held, d, local).ok();
-        if let Some(capa) = before {
-            reason.text = format!("the sweep of the full list frees local slot {local}, which holds {}", described(capa));
+    let (to, y) = match capa_at(&x.held, d, target)? {
+        capa @ (Capa::Management(h) | Capa::Channel(h)) => {
+            behind(format!("the target, local slot {target}, holds {}, and", described(capa)), live_domain(t, h))?
         }
-        reason
-    })?;
+        capa => refused(5, format!("the target, local slot {target}, holds {}, no Channel or Management", described(capa)))?,
+    };
+    let swept = with_room(t, to, y)?;
+    let sent = capa_at(&x.held, d, local)?;
+    if to == d && capa_at(&swept, d, local).is_err() {
+        return refused(4, format!("the sweep of the full list frees local slot {local}, which holds {}", described(sent)));
+    }
     match sent {
-        Capa::Management(h) => require(false, 10, || format!("local slot {local} holds Management of domain {h}, which is not sent")),
+        Capa::Management(h) => refused(10, format!("local slot {local} holds Management of domain {h}, which is not sent")),
         Capa::Region(h) => live_region(t, h, local).and_then(|_| options(extras)),
-        _ => Ok(()),
+        Capa::None | Capa::RegionRevoke(_) | Capa::Channel(_) => Ok(()),
     }
 }
 
@@ -114,21 +106,17 @@ fn revoke(t: &Tables, capa: Capa, local: u64) -> Checked<()> {
     }
 }
 
-/// 3, 22, 23: the domain that local slot l manages, with all below it.
+/// 3, 22, 23: the domain that a local slot manages, with all below it.
 fn close(t: &Tables, h: Handle, local: u64) -> Checked<()> {
-    let (d, _) = live_domain(t, h).map_err(|mut reason| {
-        reason.text = format!("local slot {local} holds Management of domain {h}, which is closed: {}", reason.text);
-        reason
-    })?;
-    let with = |e: u64| if e == d { format!("domain {e}, to be closed,") } else { format!("domain {e}, to be closed with domain {d},") };
+    let (d, _) = behind(format!("local slot {local} holds Management of domain {h}, which is closed:"), live_domain(t, h))?;
     let closing = closing(t, d);
-    let regions = t.regions.iter().enumerate().filter_map(|(i, g)| Some((i, g.as_ref()?)));
-    if let Some((i, g)) = regions.into_iter().find(|(_, g)| g.kind == Kind::Root && closing.contains(&g.owner)) {
-        return require(false, 22, || format!("{} holds the root in region slot {i}, {} to {}", with(g.owner), g.start, g.end));
+    let named = |e: u64| if e == d { format!("domain {e}, to be closed,") } else { format!("domain {e}, to be closed with domain {d},") };
+    if let Some((i, g)) = live_regions(t).find(|(_, g)| g.kind == Kind::Root && closing.contains(&g.owner)) {
+        return refused(22, format!("{} holds the root in region slot {i}, {} to {}", named(g.owner), g.start, g.end));
     }
     let cores = |e: u64| domain(t, e).map_or(0, |x| x.cores);
     match closing.into_iter().find(|&e| cores(e) != 0) {
-        Some(e) => require(false, 23, || format!("{} has core map {}", with(e), cores(e))),
+        Some(e) => refused(23, format!("{} has core map {}", named(e), cores(e))),
         None => Ok(()),
     }
 }

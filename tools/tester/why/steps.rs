@@ -7,7 +7,7 @@ use shared::calls::{Call, Handle, Update};
 use shared::rights::CLEANUP;
 use shared::tables::{Capa, Domain, Kind, Pool, Region, Tables};
 
-use super::checks::{domain, is_live_domain, is_live_region, region};
+use super::checks::{domain, is_live_domain, is_live_region, live_regions, parent, region};
 
 /// More often than this no call frees a record.
 const OFTEN: u64 = 1 << 32;
@@ -74,11 +74,11 @@ fn revoked(t: &Tables, named: BTreeSet<u64>, closing: BTreeSet<u64>) -> Steps {
         Capa::RegionRevoke(h) if is_live_region(t, h) => Some(h.slot),
         _ => None,
     });
-    let owned = live(t).filter(|(_, g)| closing.contains(&g.owner)).map(|(i, _)| i);
+    let owned = live_regions(t).filter(|(_, g)| closing.contains(&g.owner)).map(|(i, _)| i);
     let mut regions: BTreeSet<u64> = named.into_iter().chain(revokes).chain(owned).collect();
     for _ in 0..t.regions.len() {
         let is_below = |g: &Region| parent(g).is_some_and(|p| regions.contains(&p));
-        let below: Vec<u64> = live(t).filter(|(i, g)| !regions.contains(i) && is_below(g)).map(|(i, _)| i).collect();
+        let below: Vec<u64> = live_regions(t).filter(|(i, g)| !regions.contains(i) && is_below(g)).map(|(i, _)| i).collect();
         if below.is_empty() {
             break;
         }
@@ -88,17 +88,6 @@ fn revoked(t: &Tables, named: BTreeSet<u64>, closing: BTreeSet<u64>) -> Steps {
     let given_back = dying().filter(|g| matches!(g.kind, Kind::Carve(_))).filter_map(|g| region(t, parent(g)?));
     let domains = dying().chain(given_back).map(|g| g.owner).collect();
     Steps { domains, regions, closing }
-}
-
-fn live(t: &Tables) -> impl Iterator<Item = (u64, &Region)> {
-    (0..).zip(&t.regions).filter_map(|(i, g)| Some((i, g.as_ref()?)))
-}
-
-fn parent(g: &Region) -> Option<u64> {
-    match g.kind {
-        Kind::Root => None,
-        Kind::Alias(p) | Kind::Carve(p) => Some(p),
-    }
 }
 
 fn no_tracker(t: &Tables) -> String {
