@@ -1,5 +1,5 @@
 //! The tables' words by section, as docs/TABLES.md lays them out, each row in use with what it says. It goes by the
-//! positions of words alone, so that damaged tables are shown as far as they go.
+//! positions of words alone, so that damaged tables are shown as far as they go; a row that is wrong by itself says so.
 
 mod layout;
 mod rows;
@@ -58,9 +58,9 @@ fn domain(shown: &mut Shown, view: &View, d: usize) {
     shown.row(&format!("domain {d}"), &[3, 2], |w| rows::domain(w, !view.domain_in_use(d), n));
     let slots = shown.take(3 * n).chunks(3).enumerate();
     let (free, used): (Vec<_>, Vec<_>) = slots.partition(|(_, w)| matches!(w, [1, _, 0]));
-    shown.lines.extend(used.iter().map(|(l, w)| line(&format!("  slot {l}"), &run(w), &view.slot(w))));
+    shown.lines.extend(used.iter().map(|(l, w)| line(&format!("  slot {l}"), &run(w), view.slot(w))));
     if !free.is_empty() {
         let slots: Vec<u64> = free.iter().map(|(l, _)| *l as u64).collect();
-        shown.lines.push(line("  free slots", "", &format!("{} of {n}: {}", free.len(), run(&slots))));
+        shown.lines.push(line("  free slots", "", Ok(format!("{} of {n}: {}", free.len(), run(&slots)))));
     }
 }

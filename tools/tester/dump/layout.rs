@@ -1,8 +1,11 @@
 //! Rows of words as lines: the row's name, its words in groups, and what they say.
 
+use super::rows::Said;
+
 /// A line; what is said stands in a column of its own where the words leave room for it.
-pub fn line(name: &str, words: &str, said: &str) -> String {
+pub fn line(name: &str, words: &str, said: Said) -> String {
     let row = format!("{name:<13} {words}");
+    let said = said.unwrap_or_else(|what| format!("wrong: {what}"));
     format!("{row:<48} {said}").trim_end().to_string()
 }
 
@@ -55,17 +58,17 @@ impl<'a> Shown<'a> {
     }
 
     /// One row, of groups of so many words; nothing where there are no more.
-    pub fn row(&mut self, name: &str, groups: &[usize], said: impl FnOnce(&[u64]) -> String) {
+    pub fn row(&mut self, name: &str, groups: &[usize], said: impl FnOnce(&[u64]) -> Said) {
         let width = groups.iter().sum();
         let row = self.take(width);
         if !row.is_empty() {
-            let said = if row.len() < width { format!("cut off: {} of {width} words", row.len()) } else { said(row) };
-            self.lines.push(line(name, &grouped(row, groups), &said));
+            let said = if row.len() < width { Err(format!("cut off, {} of {width} words", row.len())) } else { said(row) };
+            self.lines.push(line(name, &grouped(row, groups), said));
         }
     }
 
     /// The rows of a section. Those of which nothing is said, and that are all zero, stand together on one line.
-    pub fn section(&mut self, names: Names, rows: usize, groups: &[usize], said: impl Fn(usize, &[u64]) -> Option<String>) {
+    pub fn section(&mut self, names: Names, rows: usize, groups: &[usize], said: impl Fn(usize, &[u64]) -> Option<Said>) {
         let width = groups.iter().sum();
         let mut first_idle = None;
         for k in 0..rows {
@@ -74,7 +77,7 @@ impl<'a> Shown<'a> {
                 first_idle.get_or_insert(k);
             } else {
                 self.idle(names, first_idle.take(), k);
-                self.row(&format!("{} {k}", names.0), groups, |w| said(k, w).unwrap_or(format!("{}, but not all zero", names.1)));
+                self.row(&format!("{} {k}", names.0), groups, |w| said(k, w).unwrap_or(Err(format!("{}, but not all zero", names.1))));
             }
         }
         self.idle(names, first_idle, rows);
@@ -82,11 +85,11 @@ impl<'a> Shown<'a> {
 
     /// The line of the rows from `first` up to, not including, `end`.
     pub fn idle(&mut self, (name, idle): Names, first: Option<usize>, end: usize) {
-        match first {
-            None => (),
-            Some(first) if end - first == 1 => self.lines.push(line(&format!("{name} {first}"), "", &format!("{idle}: all zero"))),
-            Some(first) => self.lines.push(line(&format!("{name} {first}..{}", end - 1), "", &format!("{} rows, {idle}: all zero", end - first))),
-        }
+        let Some(first) = first else { return };
+        self.lines.push(match end - first {
+            1 => line(&format!("{name} {first}"), "", Ok(format!("{idle}: all zero"))),
+            n => line(&format!("{name} {first}..{}", end - 1), "", Ok(format!("{n} rows, {idle}: all zero"))),
+        });
     }
 
     /// The words behind the last section by their places alone, sixteen to a line; lines of zeroes together.
@@ -95,7 +98,7 @@ impl<'a> Shown<'a> {
         let zero = |chunk: &[u64]| chunk.iter().all(|w| *w == 0);
         for group in chunks.chunk_by(|a, b| zero(a) && zero(b)) {
             let words = group.concat();
-            self.lines.push(line(&format!("word {}", self.at), &run(&words), ""));
+            self.lines.push(line(&format!("word {}", self.at), &run(&words), Ok(String::new())));
             self.at += words.len();
         }
     }

@@ -6,6 +6,9 @@ use shared::tables::Pool;
 
 use super::layout::run;
 
+/// What a row says, or what is wrong with it by itself.
+pub type Said = Result<String, String>;
+
 /// The whole words, for what a row says of another.
 pub struct View<'a> {
     pub words: &'a [u64],
@@ -40,35 +43,33 @@ impl View<'_> {
         self.pool(at, self.sizes.records, i as u64).is_some_and(|(used, _)| used)
     }
 
-    pub fn header(&self, w: &[u64]) -> String {
+    pub fn header(&self, w: &[u64]) -> Said {
         let places = self.sizes.updates as u64 + 1;
         let (read, write) = (w[5], w[6]);
-        let queued = match read < places && write < places {
-            true => format!("{} queued", (write + places - read) % places),
-            false => format!("not both below {places}"),
-        };
-        format!("read place {read}, write place {write}: {queued}")
+        match read < places && write < places {
+            true => Ok(format!("read place {read}, write place {write}: {} queued", (write + places - read) % places)),
+            false => Err(format!("read place {read}, write place {write}; expected both below {places}")),
+        }
     }
 
     /// A slot of a domain's list that is not free.
-    pub fn slot(&self, w: &[u64]) -> String {
-        let &[kind, slot, gen] = w else { return format!("cut off: {} of 3 words", w.len()) };
+    pub fn slot(&self, w: &[u64]) -> Said {
+        let &[kind, slot, gen] = w else { return Err(format!("cut off, {} of 3 words", w.len())) };
         let (name, entry) = match kind {
-            0 if slot == 0 && gen == 0 => return "None".to_string(),
-            0 => return "None, but not all zero".to_string(),
-            1 => return "free, but its last word is not 0".to_string(),
+            0 if slot == 0 && gen == 0 => return Ok("None".to_string()),
+            0 => return Err("None, but not all zero".to_string()),
+            1 => return Err("free, but its last word is not 0".to_string()),
             2 => ("Region", self.region(slot)),
             3 => ("RegionRevoke of region", self.region(slot)),
             4 => ("Management of domain", self.domain(slot)),
             5 => ("Channel to domain", self.domain(slot)),
-            _ => return format!("{kind} is no kind of a slot; expected 0 to 5"),
+            _ => return Err(format!("{kind} is no kind of a slot; expected 0 to 5")),
         };
-        let state = match entry {
-            None => ", a slot outside the pool",
-            Some((true, g)) if g == gen => "",
-            Some(_) => ", dead",
-        };
-        format!("{name} {slot}.{gen}{state}")
+        match entry {
+            None => Err(format!("{name} {slot}.{gen}, a slot outside the pool")),
+            Some((true, g)) if g == gen => Ok(format!("{name} {slot}.{gen}")),
+            Some(_) => Ok(format!("{name} {slot}.{gen}, dead")),
+        }
     }
 }
 
@@ -77,81 +78,83 @@ fn link(what: &str, none: &str, word: u64) -> String {
     word.checked_sub(1).map_or(none.to_string(), |slot| format!("{what} {slot}"))
 }
 
-pub fn pool(w: &[u64], n: usize) -> String {
+pub fn pool(w: &[u64], n: usize) -> Said {
+    if w[1] > n as u64 {
+        return Err(format!("{} in use; expected up to {n}", w[1]));
+    }
     let links = w[2..2 + n].iter().map(|l| l.checked_sub(1)).collect();
-    let pool = Pool { head: w[0], count: w[1], links, gens: Vec::new() };
-    let free = pool.free();
+    let free = Pool { head: w[0], count: w[1], links, gens: Vec::new() }.free();
     let next = if free.is_empty() { String::new() } else { format!("; free, the next one first: {}", run(&free)) };
-    format!("{} of {n} in use{next}", w[1])
+    Ok(format!("{} of {n} in use{next}", w[1]))
 }
 
 /// The five words before a domain's slots.
-pub fn domain(w: &[u64], free: bool, slots: usize) -> String {
+pub fn domain(w: &[u64], free: bool, slots: usize) -> Said {
     let (manager, record) = (link("manager", "no manager", w[0]), link("first record", "no record", w[2]));
-    let state = if free { "free, but not all zero; " } else { "" };
-    format!("{state}{manager}, cores {}, {record}; {} of {slots} slots in use, next {}", w[1], w[4], w[3])
+    let said = format!("{manager}, cores {}, {record}; {} of {slots} slots in use, next {}", w[1], w[4], w[3]);
+    if free { Err(format!("free, but not all zero: {said}")) } else { Ok(said) }
 }
 
-pub fn region(w: &[u64]) -> String {
+pub fn region(w: &[u64]) -> Said {
     let kind = match w[0] {
-        1 => "root".to_string(),
-        2 => "alias".to_string(),
-        3 => "carve".to_string(),
-        kind => format!("{kind} is no kind of a region; expected 1 to 3"),
+        1 if w[2] == 0 && w[7] == 0 => "root",
+        1 => return Err("a root with a parent or a next sibling".to_string()),
+        2 if w[2] != 0 => "alias",
+        3 if w[2] != 0 => "carve",
+        2 | 3 => return Err("an alias or a carve without a parent".to_string()),
+        kind => return Err(format!("{kind} is no kind of a region; expected 1 to 3")),
     };
-    let (owner, parent) = (link("owner", "no owner", w[1]), link("parent", "no parent", w[2]));
-    let rights = u8::try_from(w[5]).map_or(format!("rights {} above 255", w[5]), |r| format!("rights {r} ({})", names(r)));
-    let (child, sibling) = (link("first child", "no child", w[6]), link("next sibling", "no sibling", w[7]));
-    format!("{kind}, {owner}, {parent}, {} to {}, {rights}, {child}, {sibling}", w[3], w[4])
+    let owner = w[1].checked_sub(1).ok_or("no owner")?;
+    let rights = u8::try_from(w[5]).map_err(|_| format!("rights {}; expected up to 255", w[5]))?;
+    let (parent, child, sibling) = (link("parent", "no parent", w[2]), link("first child", "no child", w[6]), link("next sibling", "no sibling", w[7]));
+    Ok(format!("{kind}, owner {owner}, {parent}, {} to {}, rights {rights} ({}), {child}, {sibling}", w[3], w[4], names(rights)))
 }
 
-pub fn record(w: &[u64]) -> String {
+pub fn record(w: &[u64]) -> Said {
     let names = ["reach", "READ", "WRITE", "EXEC", "SUPER", "UNCACHEABLE"];
     let counts: Vec<String> = names.iter().zip(&w[2..8]).filter(|(_, n)| **n != 0).map(|(name, n)| format!("{name} {n}")).collect();
-    let counts = if counts.is_empty() { "no reach".to_string() } else { counts.join(", ") };
-    format!("{} to {}, {counts}; {}", w[0], w[1], link("next record", "the last record", w[8]))
+    let said = format!("{} to {}, {}; {}", w[0], w[1], counts.join(", "), link("next record", "the last record", w[8]));
+    if w[2] == 0 { Err(format!("no reach: {said}")) } else { Ok(said) }
 }
 
 /// None for an empty place.
-pub fn place(w: &[u64]) -> Option<String> {
+pub fn place(w: &[u64]) -> Option<Said> {
     match w {
         [0, ..] => None,
-        [1, slot, gen, cores] => Some(format!("domain {slot}.{gen} with core map {cores}")),
-        [2, start, end, 0] => Some(format!("{start} to {end} is to be cleaned up")),
-        [2, ..] => Some("a range to clean up, but its last word is not 0".to_string()),
-        _ => Some(format!("{} is no kind of a place; expected 0 to 2", w[0])),
+        [1, slot, gen, cores] => Some(Ok(format!("domain {slot}.{gen} with core map {cores}"))),
+        [2, start, end, 0] => Some(Ok(format!("{start} to {end} is to be cleaned up"))),
+        [2, ..] => Some(Err("a range to clean up, but its last word is not 0".to_string())),
+        _ => Some(Err(format!("{} is no kind of a place; expected 0 to 2", w[0]))),
     }
 }
 
 /// None where there is no hash.
-pub fn hash(w: &[u64]) -> Option<String> {
-    match w {
+pub fn hash(w: &[u64]) -> Option<Said> {
+    match *w {
         [0, ..] => None,
-        &[1, a, b, c, d] => Some(RegionHash::of_words([a, b, c, d]).to_string()),
-        _ => Some(format!("{} is neither 0, no hash, nor 1", w[0])),
+        [1, a, b, c, d] => Some(Ok(RegionHash::of_words([a, b, c, d]).to_string())),
+        _ => Some(Err(format!("{}; expected 1 before a hash, 0 before none", w[0]))),
     }
 }
 
-pub fn interface(w: &[u64]) -> String {
+pub fn interface(w: &[u64]) -> Said {
     let bits = [("SEND", 1), ("ALIAS", 3), ("CARVE", 4)];
     let held: Vec<&str> = bits.iter().filter(|(_, bit)| w[0] >> bit & 1 == 1).map(|(name, _)| *name).collect();
-    let frozen = match w[1] {
-        0 => "not frozen".to_string(),
-        1 => "frozen".to_string(),
-        n => format!("{n} is neither 0, not frozen, nor 1"),
-    };
-    format!("{}, {frozen}", if held.is_empty() { "none of SEND, ALIAS, CARVE".to_string() } else { held.join(" ") })
+    let held = if held.is_empty() { "none of SEND, ALIAS, CARVE".to_string() } else { held.join(" ") };
+    match w[1] {
+        0 => Ok(format!("{held}, not frozen")),
+        1 => Ok(format!("{held}, frozen")),
+        n => Err(format!("{n}; expected 1 where frozen, else 0")),
+    }
 }
 
 /// The places with marks.
-pub fn marks(w: &[u64]) -> String {
+pub fn marks(w: &[u64]) -> Said {
     let names = ["reach", "READ", "WRITE", "EXEC", "SUPER"];
     let of = |word: u64| names.iter().enumerate().filter(|(k, _)| word >> k & 1 == 1).map(|(_, name)| *name).collect::<Vec<_>>().join(" ");
-    let said = |(k, &word): (usize, &u64)| match word {
-        0 => None,
-        1..32 => Some(format!("place {k} {}", of(word))),
-        _ => Some(format!("place {k} {word} above 31")),
-    };
-    let said: Vec<String> = w.iter().enumerate().filter_map(said).collect();
-    if said.is_empty() { "none".to_string() } else { said.join("; ") }
+    if let Some((k, word)) = w.iter().enumerate().find(|(_, word)| **word >= 32) {
+        return Err(format!("place {k} has {word}; expected less than 32"));
+    }
+    let said: Vec<String> = w.iter().enumerate().filter(|(_, word)| **word != 0).map(|(k, &word)| format!("place {k} {}", of(word))).collect();
+    Ok(if said.is_empty() { "none".to_string() } else { said.join("; ") })
 }
