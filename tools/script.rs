@@ -23,12 +23,12 @@ tools/script runs a list of calls on the script program (target/bin/script).
     tools/script --bytes FILE    only writes the script that the program reads, to standard output
     tools/script --list SCRIPT   the list of calls of a script's bytes
 
-- is standard input. The form of lists is in oracle/README.md; a script has the calls open, root, alias, carve, send without flags,
-revoke and region-revoke.
+- is standard input. oracle/README.md has the form of lists; a script has the calls open, root, alias, carve,
+send without flags, revoke and region-revoke.
 
-status 0: done, refused calls included
-       1: SCRIPT has a bad record; the calls before it are shown
-       2: wrong use, input that cannot be read, output that cannot be written, a program that is missing or fails
+Status 0: done, refused calls included.
+       1: SCRIPT has a bad record; the calls before it are shown.
+       2: wrong use, input that cannot be read, output that cannot be written, a program that is missing or fails.
 ";
 
 fn main() -> ExitCode {
