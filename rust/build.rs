@@ -78,6 +78,7 @@ fn prove(repository: &Path) -> Result<bool, String> {
 
 /// The folder that pkg-config names.
 fn installed() -> Option<PathBuf> {
+    println!("cargo:rerun-if-env-changed=PKG_CONFIG_PATH\ncargo:rerun-if-env-changed=PKG_CONFIG_LIBDIR");
     let run = Command::new("pkg-config").args(["--variable=libdir", "mityvurno"]).output().ok()?;
     let folder = String::from_utf8(run.stdout).ok()?;
     (run.status.success() && !folder.trim().is_empty()).then(|| PathBuf::from(folder.trim()))
