@@ -45,10 +45,11 @@ impl Tables<'_> {
         opened(raw::open_domain(self.words, self.work, cores))
     }
 
-    /// Opens a domain under `manager`, which gets a Management capability to it (`mityvurno_open_under`). Where it gets it is not answered: in the slot
-    /// that its list gives next, 0 where the list has given none yet.
+    /// Opens a domain with a manager, which gets a Management capability to it (`mityvurno_open_under`). Its local slot is not answered: in each
+    /// capability list the slot freed last is given first, and fresh ones go 0, 1, 2.
     ///
-    /// Refusals: [`NoDomain`](Refusal::NoDomain), [`NoDomainRoom`](Refusal::NoDomainRoom), [`NoLocal`](Refusal::NoLocal).
+    /// Refusals: [`NoDomain`](Refusal::NoDomain), [`NoDomainRoom`](Refusal::NoDomainRoom), [`NoLocal`](Refusal::NoLocal) in the
+    /// manager's list.
     ///
     /// ```
     /// # use mityvurno::{Refusal, Sizes, Tables};
@@ -68,10 +69,10 @@ impl Tables<'_> {
         opened(raw::open_under(self.words, self.work, manager.slot, manager.generation, cores))
     }
 
-    /// Platform only. Puts a Channel capability to domain `to` in the list of `domain`, or in its own, and answers its local slot
+    /// Platform only. Puts a Channel capability to domain `to` in the list of `domain`, which may be the same, and answers its local slot
     /// (`mityvurno_open_channel`).
     ///
-    /// Refusals: [`NoDomain`](Refusal::NoDomain), [`NoLocal`](Refusal::NoLocal).
+    /// Refusals: [`NoDomain`](Refusal::NoDomain) for either, [`NoLocal`](Refusal::NoLocal).
     pub fn open_channel(&mut self, domain: Domain, to: Domain) -> Result<u64, Refusal> {
         raw::open_channel(self.words, self.work, domain.slot, domain.generation, to.slot, to.generation).value()
     }

@@ -6,7 +6,7 @@ use crate::raw;
 use crate::{Domain, Refusal, Rights, Tables};
 
 impl Tables<'_> {
-    /// Makes a root, a region that is no part of another, and answers its local slot (`mityvurno_create_root_region`).
+    /// Makes a new region, a root: it is part of no other. Answers its local slot (`mityvurno_create_root_region`).
     ///
     /// Refusals: [`NoDomain`](Refusal::NoDomain), [`NoRegion`](Refusal::NoRegion), [`NoLocal`](Refusal::NoLocal), [`BadRange`](Refusal::BadRange); then
     /// whichever is met first of [`NoTracker`](Refusal::NoTracker), [`RingFull`](Refusal::RingFull) and [`Spent`](Refusal::Spent).
@@ -14,8 +14,8 @@ impl Tables<'_> {
         raw::create_root_region(self.words, self.work, domain.slot, domain.generation, range.start, range.end, rights.bits()).value()
     }
 
-    /// Makes a region of a part of the one in `local`, which both have then, and answers its local slot (`mityvurno_alias_region`). The part lies in
-    /// the range of that region and overlaps nothing that was carved out of it; the rights lie in its rights plus HASH, CLEANUP and VITAL.
+    /// Makes a part of the region in `local`, shared with it, and answers the part's local slot (`mityvurno_alias_region`). The part lies in the
+    /// region's range and overlaps no part that is carved out of it; its rights are the region's or fewer, and HASH, CLEANUP and VITAL may be added.
     ///
     /// Refusals: [`NoDomain`](Refusal::NoDomain), [`NotAllowed`](Refusal::NotAllowed), [`NoSlot`](Refusal::NoSlot),
     /// [`WrongKind`](Refusal::WrongKind), [`Stale`](Refusal::Stale), [`NoRegion`](Refusal::NoRegion), [`NoLocal`](Refusal::NoLocal),
@@ -42,8 +42,8 @@ impl Tables<'_> {
         raw::alias_region(self.words, self.work, domain.slot, domain.generation, local, range.start, range.end, rights.bits()).value()
     }
 
-    /// Makes a region of a part of the one in `local`, which is cut out of that, and answers its local slot (`mityvurno_carve_region`). As
-    /// [`Tables::alias_region`], but the part may overlap nothing that was aliased from that region, either.
+    /// Makes a part of the region in `local`, cut out of it, and answers the part's local slot (`mityvurno_carve_region`). As for
+    /// [`Tables::alias_region`], but the part overlaps no other part of the region, shared ones included.
     ///
     /// Refusals: as there.
     ///
@@ -90,15 +90,17 @@ impl Tables<'_> {
         raw::send(self.words, self.work, domain.slot, domain.generation, local, target).value()
     }
 
-    /// As [`Tables::send`], with a flag word and no hash (`mityvurno_send_with_flags`). Where `local` holds a region, the flags join its rights for
-    /// good, and its stored hash is gone; so it is with no flag in the word. Where it holds anything else, the flags are not looked at.
+    /// As [`Tables::send`], with a flag word and without a hash (`mityvurno_send_with_flags`). Where `local` holds a region, the flags, CLEANUP and
+    /// VITAL, join its rights for good, and its stored hash becomes none; [`Rights::NONE`] does that as well. Where it holds anything else, the flags are
+    /// not looked at.
     ///
     /// Refusals: as there; of a sent region, behind [`Stale`](Refusal::Stale), also [`BadFlag`](Refusal::BadFlag), then [`NoHash`](Refusal::NoHash).
     pub fn send_with_flags(&mut self, domain: Domain, local: u64, target: u64, flags: Rights) -> Result<u64, Refusal> {
         raw::send_with_flags(self.words, self.work, domain.slot, domain.generation, local, target, flags.bits()).value()
     }
 
-    /// As [`Tables::send_with_flags`], but a region's stored hash becomes the one given (`mityvurno_send_with_hash`).
+    /// As [`Tables::send_with_flags`], but the flags may have HASH, too, and a region's stored hash becomes the one given
+    /// (`mityvurno_send_with_hash`).
     ///
     /// Refusals: as [`Tables::send`]; of a sent region, behind [`Stale`](Refusal::Stale), also [`BadFlag`](Refusal::BadFlag).
     ///
@@ -126,7 +128,8 @@ impl Tables<'_> {
         raw::send_with_hash(self.words, self.work, domain.slot, domain.generation, local, target, flags.bits(), hash).value()
     }
 
-    /// Revokes what `local` holds or names, a region with all below it; the slot is emptied (`mityvurno_revoke`).
+    /// Revokes what `local` holds or names, a region with all below it; the slot is emptied (`mityvurno_revoke`). A Channel, an emptied slot and a
+    /// RegionRevoke of a dead region are accepted.
     ///
     /// Refusals: [`NoDomain`](Refusal::NoDomain), [`NoSlot`](Refusal::NoSlot); of a region [`Stale`](Refusal::Stale), [`Root`](Refusal::Root); then
     /// whichever is met first of [`NoTracker`](Refusal::NoTracker), [`RingFull`](Refusal::RingFull) and [`Spent`](Refusal::Spent).

@@ -4,17 +4,25 @@ use mityvurno::{Interface, Marks, Refusal, Rights, Sizes};
 
 const HEADER: &str = include_str!("../../include/mityvurno.h");
 
-/// The lines `MITYVURNO_NAME = 1, /* text */` of an enum: name, number, text.
-fn entries(name: &str) -> Vec<(&'static str, u64, &'static str)> {
+/// The lines `MITYVURNO_NAME = 1,` of an enum.
+fn numbers(name: &str) -> Vec<(&'static str, u64)> {
     let (_, rest) = HEADER.split_once(&format!("enum mityvurno_{name} {{")).unwrap_or_else(|| panic!("no enum {name}"));
     let (body, _) = rest.split_once("};").expect("the end of the enum");
     let entry = |line: &'static str| {
         let (name, rest) = line.trim().strip_prefix("MITYVURNO_")?.split_once(" = ")?;
-        let (number, text) = rest.split_once("/*").unwrap_or((rest, ""));
-        let number = number.trim().trim_end_matches(',').parse().expect("a number");
-        Some((name, number, text.trim_end_matches("*/").trim()))
+        let digits = rest.find(|c: char| !c.is_ascii_digit()).unwrap_or(rest.len());
+        Some((name, rest[..digits].parse().expect("a number")))
     };
     body.lines().filter_map(entry).collect()
+}
+
+/// The sentences of `mityvurno_refusal_text`: the lines `case MITYVURNO_NAME: return "text";`.
+fn sentences() -> Vec<(&'static str, &'static str)> {
+    let entry = |line: &'static str| {
+        let (name, text) = line.trim().strip_prefix("case MITYVURNO_")?.split_once(": return \"")?;
+        Some((name, text.strip_suffix("\";")?))
+    };
+    HEADER.lines().filter_map(entry).collect()
 }
 
 /// `NoDomain` as the header has it: `NO_DOMAIN`.
@@ -24,35 +32,40 @@ fn upper(name: &str) -> String {
 }
 
 #[test]
+fn version() {
+    assert!(HEADER.contains(&format!("#define MITYVURNO_VERSION \"{}\"\n", env!("CARGO_PKG_VERSION"))));
+}
+
+#[test]
 fn refusals() {
-    let header = entries("refusal");
-    assert_eq!(header.first(), Some(&("ACCEPTED", 0, "")));
-    assert_eq!(header.len(), 1 + Refusal::ALL.len());
-    for (refusal, (name, number, text)) in Refusal::ALL.iter().zip(&header[1..]) {
-        assert_eq!((upper(&format!("{refusal:?}")).as_str(), refusal.number()), (*name, *number));
-        assert_eq!(Refusal::from_number(*number), Some(*refusal));
-        // The header says of one who gives it.
-        let (text, _) = text.split_once(';').unwrap_or((text, ""));
-        assert!(text.is_empty() || text == refusal.to_string(), "{name}: \"{text}\" in the header, \"{refusal}\" here");
+    let names: Vec<String> = Refusal::ALL.iter().map(|refusal| upper(&format!("{refusal:?}"))).collect();
+    let named = names.iter().zip(Refusal::ALL).map(|(name, refusal)| (name.as_str(), refusal.number()));
+    assert!([("ACCEPTED", 0)].into_iter().chain(named).eq(numbers("refusal")));
+    for (refusal, (name, text)) in Refusal::ALL.iter().zip(&sentences()[1..]) {
+        assert_eq!((upper(&format!("{refusal:?}")).as_str(), refusal.to_string().as_str()), (*name, *text));
     }
-    assert_eq!([Refusal::from_number(0), Refusal::from_number(24), Refusal::from_number(u64::MAX)], [None; 3]);
+    assert_eq!(sentences().len(), 1 + Refusal::ALL.len());
+    for number in 0..30 {
+        let refusal = Refusal::from_number(number);
+        assert_eq!(refusal.is_some(), (1..=23).contains(&number));
+        assert!(refusal.is_none_or(|refusal| refusal.number() == number));
+    }
 }
 
 #[test]
 fn flags() {
-    let rights = ["READ", "WRITE", "EXEC", "SUPER", "HASH", "CLEANUP", "VITAL", "UNCACHEABLE"];
-    let ours = [
+    let rights = [
         Rights::READ, Rights::WRITE, Rights::EXEC, Rights::SUPER, Rights::HASH, Rights::CLEANUP, Rights::VITAL, Rights::UNCACHEABLE,
     ];
-    let named = rights.iter().zip(ours).map(|(name, right)| (*name, u64::from(right.bits()), ""));
-    assert!(named.eq(entries("rights")));
+    let names = ["READ", "WRITE", "EXEC", "SUPER", "HASH", "CLEANUP", "VITAL", "UNCACHEABLE"];
+    assert!(names.into_iter().zip(rights.map(|right| u64::from(right.bits()))).eq(numbers("rights")));
 
     let interface = [("MAY_SEND", Interface::SEND), ("MAY_ALIAS", Interface::ALIAS), ("MAY_CARVE", Interface::CARVE)];
-    assert!(interface.map(|(name, bit)| (name, bit.bits(), "")).into_iter().eq(entries("interface")));
+    assert!(interface.map(|(name, bit)| (name, bit.bits())).into_iter().eq(numbers("interface")));
 
     let marks = [Marks::REACH, Marks::READ, Marks::WRITE, Marks::EXEC, Marks::SUPER];
     let named = marks.map(|mark| (format!("MARK_{mark}").to_uppercase(), mark.bits()));
-    assert!(entries("mark").iter().map(|(name, bits, _)| (name.to_string(), *bits)).eq(named));
+    assert!(numbers("mark").into_iter().map(|(name, bits)| (name.to_string(), bits)).eq(named));
 }
 
 #[test]
