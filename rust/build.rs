@@ -39,29 +39,37 @@ fn in_folder(folder: &Path) -> Option<(PathBuf, &'static str)> {
 
 /// The first of the places that the crate's front page names.
 fn find() -> Result<(PathBuf, &'static str), String> {
+    let target = env::var("CARGO_CFG_TARGET_ARCH").unwrap_or_default();
+    if target != "x86_64" {
+        return Err(format!("the static library is for x86-64, and this build is for {target}"));
+    }
+    // A build script runs in its crate's folder.
+    let own = env::current_dir().map_err(|e| format!("the crate's folder: {e}"))?;
     if let Some(folder) = env::var_os(VARIABLE) {
-        let folder = PathBuf::from(folder);
+        let folder = own.join(folder);
         return in_folder(&folder).ok_or_else(|| {
-            format!("{VARIABLE} is {}, where neither libmityvurno.a nor libengine.a is; expected the folder of one of them", folder.display())
+            format!("{VARIABLE} names {}, where neither libmityvurno.a nor libengine.a is; expected the folder of one of them", folder.display())
         });
     }
-    let repository = PathBuf::from(env::var_os("CARGO_MANIFEST_DIR").unwrap_or_default()).join("..");
+    let repository = own.parent().unwrap_or(&own);
     let written = repository.join("target/staticlib");
     if let Some(found) = in_folder(&written) {
         return Ok(found);
     }
-    if repository.join("crates.txt").is_file() && prove(&repository)? {
+    if repository.join("crates.txt").is_file() && prove(repository)? {
         return in_folder(&written).ok_or_else(|| format!("`rt staticlib engine` has not written {}", library(&written, "engine").display()));
     }
-    installed().and_then(|folder| in_folder(&folder)).ok_or_else(|| {
-        format!(
-            "the static library is not there. Do one of these:\n  \
-             - set {VARIABLE} to the folder that has libmityvurno.a or libengine.a;\n  \
-             - run `rt staticlib engine` in the repository, which writes {};\n  \
-             - install the library so that `pkg-config --variable=libdir mityvurno` names its folder",
-            library(&written, "engine").display()
-        )
-    })
+    installed().and_then(|folder| in_folder(&folder)).ok_or_else(|| missing(&library(&written, "engine")))
+}
+
+fn missing(written: &Path) -> String {
+    format!(
+        "the static library is not there. Do one of these:\n  \
+         - set {VARIABLE} to the folder that has libmityvurno.a or libengine.a;\n  \
+         - run `rt staticlib engine` in the repository, which writes {};\n  \
+         - install the library so that `pkg-config --variable=libdir mityvurno` names its folder",
+        written.display()
+    )
 }
 
 /// Has the library proved and written; false where `rt` is not found.

@@ -47,8 +47,8 @@
 //!
 //! Each call is proved to answer, and to leave every word, as the model of document 01 says, on any memory at all: tables that are not sound are
 //! refused with [`Refusal::Memory`], a refused call changes no word of the tables, and the work area is all zero after every call. docs/STATEMENTS.md in
-//! the repository says what is proved, and what must be believed; this crate is not proved, but its calls add nothing to the answers. Nothing but
-//! these calls may write the tables: the words of other sound tables are other tables, and no test can tell.
+//! the repository says what is proved, and what must be believed. This crate is not proved: it hands arguments on, and answers back as types. Nothing
+//! but these calls may write the tables: whoever writes the words of other sound tables there has made other tables, and no test can tell.
 //!
 //! # What the library asks of its host
 //!

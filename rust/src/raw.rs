@@ -2,7 +2,7 @@
 //!
 //! Any contents and any lengths may be lent: each function tests both and answers 1 where they are not those of sound tables. So these functions are
 //! safe: a slice is as many aligned words as its length says, and what is written does not overlap. [`Tables`](crate::Tables) is the same with lengths
-//! that fit and answers as types; the methods of the same names say what each function does.
+//! that fit and answers as types. Its methods say what each function does; they have the same names, but for `make` and `convert`.
 // The exported functions take plain numbers.
 #![allow(unsafe_code, clippy::too_many_arguments)]
 

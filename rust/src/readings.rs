@@ -92,13 +92,13 @@ impl Tables<'_> {
 #[derive(Clone, Debug)]
 struct List<'r, T> {
     listed: slice::Iter<'r, T>,
-    total: u64,
+    total: usize,
 }
 
 impl<'r, T> List<'r, T> {
     fn new(run: &'r [T], total: u64) -> List<'r, T> {
-        let places = run.len().min(usize::try_from(total).unwrap_or(usize::MAX));
-        List { listed: run[..places].iter(), total }
+        let total = total as usize;
+        List { listed: run[..total.min(run.len())].iter(), total }
     }
 }
 
@@ -110,8 +110,8 @@ macro_rules! list {
         pub struct $name<'r>(List<'r, $place>);
 
         impl $name<'_> {
-            /// The length of the whole list. At first [`len`](ExactSizeIterator::len) is smaller where the run was too short for it.
-            pub fn total(&self) -> u64 {
+            /// The length of the whole list; [`len`](ExactSizeIterator::len) of a list that was just read is smaller where the run was too short.
+            pub fn total(&self) -> usize {
                 self.0.total
             }
         }

@@ -7,11 +7,12 @@ use crate::{Refusal, Sizes};
 
 /// Tables and their work area, in memory that the host lends.
 ///
-/// All that the engine knows stands in the words of the tables; a `Tables` is only the loan, and can be had again by [`Tables::found`]. Every call
-/// tests the words first and trusts none: where they are not those of sound tables it is refused with [`Refusal::Memory`], and so is every later one.
-/// That refusal can come from each method below, and is not named again there. The work area is all zero after every call.
+/// All that the engine knows stands in the words of the tables; this is only the loan, which can be taken up again by [`Tables::found`]. Every call tests
+/// the words first and trusts none. Where they are not those of sound tables it is refused with [`Refusal::Memory`]: each method can be, and does not
+/// name it again. The work area is all zero after every call.
 ///
-/// Each call takes the loan for itself. The library can do more, readings of the same tables at once, each with a work area of its own: [`raw`].
+/// Readings take the loan for themselves, too, since they use the work area. The library can do more: readings of the same tables at once, each with a
+/// work area of its own ([`raw`]).
 pub struct Tables<'m> {
     pub(crate) words: &'m mut [u64],
     pub(crate) work: &'m mut [u64],
