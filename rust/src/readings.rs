@@ -19,8 +19,8 @@ pub struct Permission {
 }
 
 impl Tables<'_> {
-    /// The largest number of regions that give the domain an address of the range, its reach (`mityvurno_get_refcount`). Of two numbers that are no
-    /// range, too: document 01, `get_refcount`.
+    /// The domain's largest reach in the range, that is, by how many regions it has an address there (`mityvurno_get_refcount`). Any two numbers are
+    /// answered: document 01, `get_refcount`.
     ///
     /// Refusals: [`NoDomain`](Refusal::NoDomain).
     pub fn get_refcount(&mut self, domain: Domain, range: Range<u64>) -> Result<u64, Refusal> {
@@ -35,7 +35,8 @@ impl Tables<'_> {
     }
 
     /// The slots of the domains that reach an address, rising, each once (`mityvurno_holders`). A run of [`Sizes::domains`](crate::Sizes::domains) places
-    /// has room for all; a shorter one gets the lowest slots. Places that are not needed stay as they are, as does the whole run on refusal.
+    /// has room for all; a shorter one gets the lowest slots, and [`total`](Holders::total) says how many there are. Places that are not needed stay as
+    /// they are, as does the whole run on refusal.
     ///
     /// Refusals: none but [`Memory`](Refusal::Memory).
     ///
@@ -60,7 +61,8 @@ impl Tables<'_> {
     }
 
     /// The domain's permissions, rising (`mityvurno_permissions`). A run of [`Sizes::records`](crate::Sizes::records) places has room for all; a
-    /// shorter one gets the lowest. Places that are not needed stay as they are, as does the whole run on refusal.
+    /// shorter one gets the lowest, and [`total`](Permissions::total) says how many there are. Places that are not needed stay as they are, as does the
+    /// whole run on refusal.
     ///
     /// Refusals: [`NoDomain`](Refusal::NoDomain).
     ///

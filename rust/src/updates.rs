@@ -3,7 +3,7 @@
 use crate::raw;
 use crate::{Domain, Marks, Refusal, Tables};
 
-/// What the host is told.
+/// An entry of the queue: what the host has to do.
 #[derive(Clone, Copy, PartialEq, Eq, Hash, Debug)]
 pub enum Update {
     /// A domain's permissions changed.
