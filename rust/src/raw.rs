@@ -1,34 +1,48 @@
 //! The exported functions of the proved library, as `include/mityvurno.h` declares them, on slices.
 //!
 //! Any contents and any lengths may be lent: each function tests both and answers 1 where they are not those of sound tables. So these functions are
-//! safe. [`Tables`](crate::Tables) is the same with lengths that fit and answers as types.
+//! safe: a slice is as many aligned words as its length says, and what is written does not overlap. [`Tables`](crate::Tables) is the same with lengths
+//! that fit and answers as types. Its methods say what each function does; they have the same names, but for `make` and `convert`.
+// The exported functions take plain numbers.
+#![allow(unsafe_code, clippy::too_many_arguments)]
 
-/// The refusal's number, 0 where the call is accepted, and the value, 0 where there is none.
+/// What most functions return: whether the call is accepted, and a value.
 #[repr(C)]
 #[derive(Clone, Copy, PartialEq, Eq, Debug)]
 pub struct Reply {
+    /// 0 where the call is accepted, else the number of the refusal, and the other fields are 0.
     pub refusal: u64,
+    /// 0 where the call has none.
     pub value: u64,
 }
 
-/// The same with the handle of a new domain.
+/// What opening a domain returns: the handle of the new domain.
 #[repr(C)]
 #[derive(Clone, Copy, PartialEq, Eq, Debug)]
 pub struct DomainReply {
+    /// As in [`Reply`].
     pub refusal: u64,
+    /// The handle's slot.
     pub slot: u64,
+    /// The handle's generation.
     pub generation: u64,
 }
 
-/// The same with a popped update: kind 0 none; 1 a domain, with slot, generation, core map and marks; 2 a range to clean up, with start and end.
+/// What [`pop`] returns. Kind 0: none; 1: a domain, with slot, generation, core map and marks; 2: a range to clean up, with start and end.
 #[repr(C)]
 #[derive(Clone, Copy, PartialEq, Eq, Debug)]
 pub struct UpdateReply {
+    /// As in [`Reply`].
     pub refusal: u64,
+    /// 0, 1 or 2, as above.
     pub kind: u64,
+    /// The slot, or the start.
     pub a: u64,
+    /// The generation, or the end.
     pub b: u64,
+    /// The core map.
     pub c: u64,
+    /// The domain's marks.
     pub marks: u64,
 }
 
@@ -36,8 +50,11 @@ pub struct UpdateReply {
 #[repr(C)]
 #[derive(Clone, Copy, PartialEq, Eq, Debug, Default)]
 pub struct Permission {
+    /// The first address.
     pub start: u64,
+    /// The address behind the last.
     pub end: u64,
+    /// The rights word.
     pub rights: u64,
 }
 
