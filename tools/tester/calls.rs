@@ -3,6 +3,9 @@
 mod arguments;
 mod csv;
 mod dump;
+#[allow(dead_code)]
+#[path = "../../oracle/driver/linked/exported.rs"]
+mod exported;
 mod faults;
 mod files;
 mod json;
