@@ -1,60 +1,87 @@
-//! A readable list of calls as a script, and what the script program answers to it, call by call. tools/script is the command.
+//! A readable list of calls as a script, what the script program answers to it, and the list of a script. tools/script is the command.
 
-#[allow(dead_code)]
-#[path = "../oracle/driver/calls.rs"]
-mod calls;
-#[allow(dead_code)]
-#[path = "../oracle/driver/lists.rs"]
-mod lists;
-#[allow(dead_code)]
-#[path = "../oracle/driver/records.rs"]
-mod records;
+#[path = "tester/bad_record.rs"]
+mod bad_record;
+#[path = "tester/files.rs"]
+mod files;
+#[path = "tester/output.rs"]
+mod output;
 
 use std::io::{self, Read, Write};
 use std::process::{Command, ExitCode, Stdio};
 use std::thread;
 
-use calls::Call;
+use shared::calls::Call;
+use shared::{lists, records, refusals};
 
-/// Document 01's names of the refusals, and docs/DIFFERENCES.md's of document 02's, by number.
-const REFUSALS: [&str; 24] = [
-    "", "Memory", "Sizes", "NoDomain", "NoSlot", "WrongKind", "Stale", "BadRange", "Beyond", "Root", "NotCarried", "NoRegion",
-    "NoLocal", "NoTracker", "RingFull", "NoDomainRoom", "Spent", "BadRecord", "BadFlag", "NoHash", "NotAllowed", "Frozen", "HoldsRoot", "Running",
-];
+use output::{failed, Output};
+
+const USAGE: &str = "\
+tools/script runs a list of calls on the script program (target/bin/script).
+
+    tools/script FILE            each call beside its answer, and the lists that the program prints after them
+    tools/script --bytes FILE    only writes the script that the program reads, to standard output
+    tools/script --list SCRIPT   the list of calls of a script's bytes
+
+- is standard input. oracle/README.md has the form of lists; a script has the calls open, root, alias, carve,
+send without flags, revoke and region-revoke.
+
+Status 0: done, refused calls included.
+       1: SCRIPT has a bad record; the calls before it are shown.
+       2: wrong use, input that cannot be read, output that cannot be written, a program that is missing or fails.
+";
 
 fn main() -> ExitCode {
     let args: Vec<String> = std::env::args().skip(1).collect();
     let words: Vec<&str> = args.iter().map(String::as_str).collect();
-    let done = match words[..] {
-        [_, "--bytes", file] => read(file).and_then(|calls| io::stdout().write_all(&script(&calls)).map_err(|e| e.to_string())),
-        [program, file] => read(file).and_then(|calls| show(program, &calls)),
-        _ => Err("expected PROGRAM [--bytes] FILE".to_string()),
-    };
-    match done {
-        Ok(()) => ExitCode::SUCCESS,
-        Err(message) => {
-            eprintln!("{message}");
-            ExitCode::FAILURE
+    output::end(|out| match words[..] {
+        [_, "--help"] => out.write_all(USAGE.as_bytes()).map_err(failed).map(|()| true),
+        [_, "--bytes", file] => out.write_all(&script(&read(file)?)).map_err(failed).map(|()| true),
+        [_, "--list", file] => list(files::name(file), &files::bytes(file)?, out),
+        [program, file] if file == "-" || !file.starts_with('-') => show(program, &read(file)?, out).map(|()| true),
+        _ => {
+            let found = if words.len() < 2 { "nothing".to_string() } else { words[1..].join(" ") };
+            Err(format!("tools/script: expected [--bytes | --list] FILE, found {found}; tools/script --help says more"))
         }
-    }
+    })
 }
 
 /// The calls of a file, or a line for each thing wrong in it.
 fn read(file: &str) -> Result<Vec<Call>, String> {
-    let text = if file == "-" { io::read_to_string(io::stdin()) } else { std::fs::read_to_string(file) };
-    let text = text.map_err(|e| format!("{file}: {e}"))?;
     let (mut calls, mut wrong) = (Vec::new(), Vec::new());
-    for (k, line) in text.lines().enumerate() {
+    for (k, line) in files::text(file)?.lines().enumerate() {
         match lists::parse_script(line) {
             Ok(call) => calls.extend(call),
-            Err(what) => wrong.push(format!("line {}: {what}", k + 1)),
+            Err(what) => wrong.push(format!("{}:{}: {what}", files::name(file), k + 1)),
         }
     }
     if wrong.is_empty() { Ok(calls) } else { Err(wrong.join("\n")) }
 }
 
+/// Every call that `parse_script` reads has a record.
 fn script(calls: &[Call]) -> Vec<u8> {
-    calls.iter().flat_map(|call| records::encode(call).expect("a call of a script")).collect()
+    calls.iter().filter_map(records::encode).flatten().collect()
+}
+
+/// The list of a script's bytes, up to a bad record; false where there is one.
+fn list(file: &str, script: &[u8], out: &mut Output) -> Result<bool, String> {
+    let mut left = script;
+    for number in 1.. {
+        match records::next(left) {
+            Ok(None) => break,
+            Ok(Some((call, rest))) => {
+                writeln!(out, "{call}").map_err(failed)?;
+                left = rest;
+            }
+            Err(records::BadRecord) => {
+                let (byte, what) = bad_record::fault(left);
+                out.flush().map_err(failed)?;
+                let _ = writeln!(io::stderr(), "{file}: byte {}, in record {number}: {what}", script.len() - left.len() + byte);
+                return Ok(false);
+            }
+        }
+    }
+    Ok(true)
 }
 
 /// What the program prints for a script.
@@ -72,7 +99,7 @@ fn run(program: &str, script: Vec<u8>) -> Result<String, String> {
 }
 
 /// Each call with its answer, and below them the lists.
-fn show(program: &str, calls: &[Call]) -> Result<(), String> {
+fn show(program: &str, calls: &[Call], out: &mut Output) -> Result<(), String> {
     let printed = run(program, script(calls))?;
     let width = calls.iter().map(|call| call.to_string().len()).max().unwrap_or(0);
     let mut lines = printed.lines();
@@ -80,18 +107,16 @@ fn show(program: &str, calls: &[Call]) -> Result<(), String> {
         let line = lines.next().unwrap_or("");
         let number = k + 1;
         let answer = line.strip_prefix(&format!("{number} ")).ok_or_else(|| format!("call {number}, {call}: no answer, but \"{line}\""))?;
-        println!("{number:>3}  {:width$}  {}", call.to_string(), named(answer));
+        writeln!(out, "{number:>3}  {:width$}  {}", call.to_string(), named(answer)).map_err(failed)?;
     }
-    println!("\nd domain start end rights reach, p domain cores, c start end:");
-    lines.for_each(|line| println!("{line}"));
-    Ok(())
+    writeln!(out, "\nd domain start end rights reach, p domain cores, c start end:").map_err(failed)?;
+    lines.try_for_each(|line| writeln!(out, "{line}")).map_err(failed)
 }
 
 /// A refusal with its name.
 fn named(answer: &str) -> String {
-    let number = answer.strip_prefix("no ").and_then(|n| n.parse::<usize>().ok());
-    match number.and_then(|n| REFUSALS.get(n)) {
-        Some(name) => format!("{answer}  {name}"),
+    match answer.strip_prefix("no ").and_then(|n| n.parse().ok()) {
+        Some(number) => format!("{answer}  {}", refusals::name(number)),
         None => answer.to_string(),
     }
 }

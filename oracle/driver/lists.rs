@@ -2,7 +2,8 @@
 
 use std::str::SplitWhitespace;
 
-use crate::calls::{Access, Call, Extras, Handle, PoolName, RegionHash};
+use crate::calls::{Access, Call, Extras, Handle, PoolName, RegionHash, Sizes};
+use crate::rights::of_names;
 
 /// The calls that a script has, too.
 const SCRIPT: [&str; 7] = ["open", "root", "alias", "carve", "send", "revoke", "region-revoke"];
@@ -11,6 +12,7 @@ const OTHERS: [&str; 10] =
     ["channel", "cores", "interface", "freeze", "pop", "core-map", "permissions", "refcount", "holders", "generation"];
 
 const HANDLE: &str = "a handle as 0.0 (slot, generation)";
+const RIGHTS: &str = "a number up to 255 or names as RW+CLEANUP";
 
 /// The words of a call behind its name.
 struct Words<'a>(SplitWhitespace<'a>);
@@ -37,7 +39,7 @@ impl Words<'_> {
 
     fn access(&mut self) -> Result<Access, String> {
         let (start, end) = (self.number("start")?, self.number("end")?);
-        let rights = self.take("rights", "a number up to 255", byte)?;
+        let rights = self.take("rights", RIGHTS, rights)?;
         Ok(Access { start, end, rights })
     }
 
@@ -46,7 +48,7 @@ impl Words<'_> {
         if self.0.clone().next().is_none() {
             return Ok(Extras::NONE);
         }
-        let flags = self.take("flags", "- or a number up to 255", |word| or_none(word, byte))?;
+        let flags = self.take("flags", &format!("- or {RIGHTS}"), |word| or_none(word, rights))?;
         let hash = self.take("hash", "- or 64 hex digits", |word| or_none(word, hash))?;
         Ok(Extras { flags, hash })
     }
@@ -61,7 +63,7 @@ impl Words<'_> {
     }
 
     fn end(&mut self) -> Result<(), String> {
-        self.0.next().map_or(Ok(()), |word| Err(format!("expected the end of the call, found \"{word}\"")))
+        self.0.next().map_or(Ok(()), |word| Err(format!("expected the end of the line, found \"{word}\"")))
     }
 }
 
@@ -70,8 +72,12 @@ fn number(word: &str) -> Option<u64> {
     word.bytes().all(|b| b.is_ascii_digit()).then(|| word.parse().ok()).flatten()
 }
 
-fn byte(word: &str) -> Option<u8> {
-    number(word).and_then(|n| u8::try_from(n).ok())
+/// A number, or the names of its bits.
+fn rights(word: &str) -> Option<u8> {
+    match number(word) {
+        Some(n) => u8::try_from(n).ok(),
+        None => of_names(word),
+    }
 }
 
 /// `-` is none, and any other word as `read` takes it.
@@ -93,6 +99,25 @@ fn handle(word: &str) -> Option<Handle> {
 fn words(line: &str) -> SplitWhitespace<'_> {
     let end = [line.find('#'), line.find("->")].into_iter().flatten().min();
     line[..end.unwrap_or(line.len())].split_whitespace()
+}
+
+/// The answer of an earlier run: what stands between `->` and a comment.
+pub fn answer(line: &str) -> Option<&str> {
+    let line = line.split('#').next().unwrap_or("");
+    line.split_once("->").map(|(_, answer)| answer.trim())
+}
+
+/// The sizes of a line `sizes D S R T U`, which begins a new list; `Ok(None)` for any other line.
+pub fn sizes(line: &str) -> Result<Option<Sizes>, String> {
+    let mut words = words(line);
+    if words.next() != Some("sizes") {
+        return Ok(None);
+    }
+    let mut w = Words(words);
+    let mut size = |what| w.number(what).map(|n| usize::try_from(n).unwrap_or(usize::MAX));
+    let (domains, slots, regions) = (size("domains")?, size("slots")?, size("regions")?);
+    let (records, updates) = (size("records")?, size("updates")?);
+    w.end().map(|()| Some(Sizes { domains, slots, regions, records, updates }))
 }
 
 /// One line of a list of calls; `Ok(None)` for an empty line, a comment and the line of sizes.
@@ -120,7 +145,7 @@ pub fn parse_script(line: &str) -> Result<Option<Call>, String> {
 fn without_extras(call: Call) -> Result<Call, String> {
     match call {
         Call::Send { extras, .. } if extras != Extras::NONE => {
-            Err(format!("a send of a script has no flags and no hash; expected the end of the call, found \"{}\"", extras.to_string().trim()))
+            Err(format!("a send of a script has no flags and no hash; expected the end of the line, found \"{}\"", extras.to_string().trim()))
         }
         _ => Ok(call),
     }
