@@ -3,38 +3,8 @@
 use shared::calls::Sizes;
 use shared::lists;
 
-pub const USAGE: &str = "\
-tools/calls runs lists of calls on the proved library (target/staticlib/libengine.a).
-
-    tools/calls [OPTIONS] FILE    each call beside its answer; - is standard input
-    tools/calls --words WORDS     no list: the tables with these words, and whether they are sound
-
-oracle/README.md has the form of lists. A line `sizes D S R T U` begins a new list on empty tables:
-D domains, S slots in each one's list, R regions, T tracker records, U updates.
-
-How the answers are shown, one of these at most:
-    --json              an object a line for each call
-    --csv               a line for each call, below a header
-    --list              the list again, each call with its answer behind ->
-    --check             only where an answer differs from the one behind -> in FILE
-    --picture           who reaches what after the last call, as SVG
-
-Besides:
-    --why               for a refused call the facts that the refusal follows from; not with --list, --picture
-    --dump              after each list the tables, section by section (docs/TABLES.md); alone or with --json
-    --write-words OUT   the words of the tables after the last call, to the file OUT
-
-What the calls are run on:
-    --sizes D,S,R,T,U   empty tables of these sizes where FILE gives none; without it 8,16,128,128,32
-    --words WORDS       tables with the words of this file: decimal numbers, or hex behind 0x, with blanks,
-                        commas and brackets between them; # begins a comment
-    --memory MEMORY     the same from memory as it is: 8 bytes a word, the lowest first
-
-Status 0: done, refused calls included.
-       1: an answer differs (--check); the tables are not sound (--words or --memory without a list, --picture);
-          a refusal is unexplained (--why).
-       2: wrong use, input that cannot be read, output that cannot be written, a closed pipe too.
-";
+/// tools/calls shows it without this program where there is no library.
+pub const USAGE: &str = include_str!("usage.txt");
 
 /// How the answers are shown.
 #[derive(Clone, Copy, PartialEq, Eq, Debug)]
