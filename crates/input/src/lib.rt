@@ -6,8 +6,8 @@ ghost use Rattle.libc.specs.Io.{Moved};
 ghost use Rattle.input.specs.Buffered.{Within, Keeps, Grows, Whole, behind};
 use libc::STDIN_FILENO;
 
-// The bytes at hand are those from `at` up to `end`. Behind them: `more`, the input had not ended and no read had failed; `failed`, a read failed,
-// so that nobody knows whether the input had ended.
+// The bytes at hand are those from `at` up to `end`. `more`: the input had not ended behind them, and no read failed there; `failed`: one did, so
+// that nobody knows whether the input had ended.
 pub struct Buffered {
     pub at: usize,
     pub end: usize,
@@ -30,7 +30,7 @@ fn move_down(b: &mut [u8], at: usize, n: usize)
     }
 }
 
-// What is at hand when a read behind the bytes h has answered.
+// What is at hand when a read behind the bytes h has answered: `failed` exactly if it answered below 0.
 fn answered(b: &[u8], h: Buffered, got: isize) -> Buffered
     requires { ⌜ Within h (length (now b)) ⌝ }
     requires { ⌜ Moved (length (now b) - h .end) got ⌝ }
@@ -56,7 +56,7 @@ fn read_behind(b: &mut [u8], h: Buffered) -> Buffered
     answered(b, h, got)
 }
 
-// Reads until a whole record must be at hand, the input ends or a read fails.
+// Reads until a whole record must be at hand, the input ends or a read fails. A pipe can answer with less than a record.
 fn read_on(b: &mut [u8], h: Buffered) -> Buffered
     requires { ⌜ Within h (length (now b)) ⌝ }
     ensures { λ r. ⌜ Within r (length (now (b .entry))) ⌝ }
@@ -73,7 +73,7 @@ fn read_on(b: &mut [u8], h: Buffered) -> Buffered
     r
 }
 
-// A whole record at hand, where the input has one; the bytes that were at hand are still the first.
+// A whole record at hand, unless the input ends or a read fails before; the bytes that were at hand are still the first.
 pub fn ready(b: &mut [u8], h: Buffered) -> Buffered
     requires { ⌜ Within h (length (now b)) ⌝ }
     ensures { λ r. ⌜ Within r (length (now (b .entry))) ⌝ }

@@ -106,13 +106,13 @@ fn pair(text: &mut [u8], n: usize, letter: u8, x: u64, y: u64) -> usize
 
 // ---- Writing
 
-// The first n bytes of the run are yet to be written. `failed`: a write failed, and nothing is written any more.
+// The first n bytes of the run are yet to be written. `failed`: a write failed, and nothing is written after it.
 pub struct Pending {
     pub n: usize,
     pub failed: bool,
 }
 
-// Where a write failed, the bytes behind it would follow a line that was cut.
+// Writes these bytes, unless a write failed before: they would follow a line that was cut.
 pub fn write(text: &[u8], p: Pending) -> Pending
     requires { ⌜ p .n ≤ length (now text) ⌝ }
     ensures { λ r. ⌜ r .n ≡ 0 ⌝ }
@@ -142,7 +142,7 @@ pub fn room(text: &[u8], p: Pending) -> Pending
     write(text, p)
 }
 
-// A line on standard error. Where that fails there is nobody left to tell.
+// A line on standard error. Where that fails, nobody can be told.
 pub fn error_line(line: &[u8]) {
     io::write_all(STDERR_FILENO, line);
 }

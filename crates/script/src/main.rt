@@ -2,7 +2,8 @@
 // each, then what the domains reach, and then the queue. Both lists are of `ScriptTables`: tables that an accepted making and calls of the exported
 // functions left, of which demand 3 holds (`everything`, crate promise). No contract can say what is read or printed: that the calls are those of the
 // bytes at hand is the contract of `take` (crate running), that the lists are the tables' those of crates listing and engine. That every byte of a
-// line has its place, and that reading on loses none, is proved in crates output and input.
+// line has its place, that reading on loses none, and that no record is taken for cut while more may come, is proved in crates output and input.
+// That a read or a write that fails is said on standard error is tested (tests/script).
 ghost use Prim.Native.Nat.{_+_, _≤_};
 ghost use lib.ListN.{length};
 ghost use Rattle.tables.specs.View.{Sized};
@@ -85,7 +86,7 @@ struct Ran {
     read_failed: bool,
 }
 
-// All records of the input, or up to a write that fails: their calls leave nothing but lines.
+// All records that can be read, or those up to a write that fails: what calls leave behind is in the lines alone.
 fn run_records(b: &mut [u8], text: &mut [u8], t: &mut [u64], w: &mut [u64]) -> Ran
     requires { ⌜ 128 ≤ length (now text) ⌝ }
     ensures { λ r. ⌜ r .text .n ≤ length (now (text .entry)) ⌝ }
@@ -181,7 +182,7 @@ fn list_queue(text: &mut [u8], p: Pending, t: &mut [u64], w: &mut [u64]) -> Pend
     q
 }
 
-// Rattle has no exit status: only standard error says what failed.
+// Rattle has no exit status, so that standard error alone can say that reading or writing failed.
 fn main() {
     let mut t = [0u64; WORDS];
     let mut w = [0u64; WORDS];
