@@ -3,6 +3,8 @@
 ghost use mathlib.Core.Path.{_≡_};
 ghost use Prim.Native.Nat.{_+_, _≤_, _<_};
 ghost use lib.ListN.{length};
+ghost use mathlib.Core.Bool.{true};
+use libc::STDERR_FILENO;
 use libc::STDOUT_FILENO;
 use replies::Reply;
 use replies::UpdateReply;
@@ -104,21 +106,43 @@ fn pair(text: &mut [u8], n: usize, letter: u8, x: u64, y: u64) -> usize
 
 // ---- Writing
 
-pub fn write(text: &[u8], n: usize)
-    requires { ⌜ n ≤ length (now text) ⌝ }
+// The first n bytes of the run are yet to be written. `failed`: a write failed, and nothing is written after it.
+pub struct Pending {
+    pub n: usize,
+    pub failed: bool,
+}
+
+// Writes these bytes, unless a write failed before: they would follow a line that was cut.
+pub fn write(text: &[u8], p: Pending) -> Pending
+    requires { ⌜ p .n ≤ length (now text) ⌝ }
+    ensures { λ r. ⌜ r .n ≡ 0 ⌝ }
+    ensures { λ r. ⌜ (p .failed ≡ true → r .failed ≡ true) ⌝ }
 {
-    io::write_all(STDOUT_FILENO, &text[..n]);
+    let n = p.n;
+    if p.failed {
+        return Pending { n: 0, failed: true };
+    }
+    Pending {
+        n: 0,
+        failed: !io::write_all(STDOUT_FILENO, &text[..n]),
+    }
 }
 
 // Writes the bytes that are there unless a line fits behind them.
-pub fn room(text: &[u8], n: usize) -> usize
-    requires { ⌜ n ≤ length (now text) ⌝ }
+pub fn room(text: &[u8], p: Pending) -> Pending
+    requires { ⌜ p .n ≤ length (now text) ⌝ }
     requires { ⌜ 128 ≤ length (now text) ⌝ }
-    ensures { λ r. ⌜ r + 128 ≤ length (now (text .entry)) ⌝ }
+    ensures { λ r. ⌜ r .n + 128 ≤ length (now (text .entry)) ⌝ }
+    ensures { λ r. ⌜ (p .n + 128 ≤ length (now (text .entry)) → r ≡ p) ⌝ }
+    ensures { λ r. ⌜ (p .failed ≡ true → r .failed ≡ true) ⌝ }
 {
-    if 128 <= text.len() - n {
-        return n;
+    if 128 <= text.len() - p.n {
+        return p;
     }
-    write(text, n);
-    0
+    write(text, p)
+}
+
+// A line on standard error. Where that fails, nobody can be told.
+pub fn error_line(line: &[u8]) {
+    io::write_all(STDERR_FILENO, line);
 }

@@ -1,42 +1,43 @@
--- The part that is read into comes back behind the first n bytes.
-use Rattle.input.specs.Buffered.{keeps-front}
+-- The part that is read into comes back behind the bytes at hand.
+use mathlib.Core.Path.{refl}
+use denote.Ref.{now}
+use lib.ListN.{length}
+use mir.Syntax.{w64}
+use mir.ValLaws.{toZ-ofZ}
 use borrow.Author.Needs.{needs}
+use Rattle.input.specs.Buffered.{moved-behind, read-once}
 use Rattle.input.proofs.read_behind.Statement.{statement}
 use Rattle.input.proofs.read_behind.Tie as tie
 
-sub-read-full : tie.Need-sub-read-full
-sub-read-full c = search needs
+sub-read : tie.Need-sub-read
+sub-read c = search needs
 
-part-read-full-start : tie.Need-part-read-full-start
-part-read-full-start c = search needs
+part-read-start : tie.Need-part-read-start
+part-read-start c = search needs
 
-part-read-full-end : tie.Need-part-read-full-end
-part-read-full-end c = search needs
+part-read-end : tie.Need-part-read-end
+part-read-end c = search needs
 
-read-full-requires : tie.Need-read-full-requires
-read-full-requires c κs = search needs
+read-requires : tie.Need-read-requires
+read-requires c κs = search needs
 
-add-t5 : tie.Need-add-t5
-add-t5 c = search needs
-
-add-t8 : tie.Need-add-t8
-add-t8 c = search needs
+answered-requires : tie.Need-answered-requires
+answered-requires c κs = (search needs, moved-behind (now (c .before .before .before .before .before .before .args .b)) ((c .before .before .before .before .before .before .args .h) .end) _ (c .before .before .before .read .result) _ (toZ-ofZ w64 (c .before .before .before .read .result) (record { sfits = (c .before .before .before .read .ok) })) (c .before .before .b .given .1) (c .before .before .before .read .ensures))
 
 same-length : tie.Need-same-length
 same-length c = search needs
 
 returns : tie.Need-returns
-returns c = (search needs, keeps-front _ _ _ _ _ (c .before .before .before .before .before .pre))
+returns c = read-once (c .before .before .before .before .before .before .before .args .h) (now (c .before .before .before .before .before .before .before .args .b)) _ (c .before .before .before .before .before .before .before .pre) _ _ (c .answered .ensures) (moved-behind (now (c .before .before .before .before .before .before .before .args .b)) ((c .before .before .before .before .before .before .before .args .h) .end) _ (c .before .before .before .before .read .result) _ (toZ-ofZ w64 (c .before .before .before .before .read .result) (record { sfits = (c .before .before .before .before .read .ok) })) refl (c .before .before .before .before .read .ensures))
 
 pub read-behind-spec : {M : Type 1} → statement M
 read-behind-spec =
     tie.close
     (tie.spec
-    sub-read-full
-    part-read-full-start
-    part-read-full-end
-    read-full-requires
-    add-t5
-    add-t8
+    sub-read
+    part-read-start
+    part-read-end
+    read-requires
+    answered-requires
     same-length
     returns)

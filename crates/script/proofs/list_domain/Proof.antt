@@ -10,10 +10,10 @@ use Rattle.script.proofs.list_domain.Statement.{statement}
 use Rattle.script.proofs.list_domain.Tie as tie
 
 abbrev Inv-loop : tie.InvT-loop
-Inv-loop text₀ n t d run lines m₀ i₀ text m i = (m ≤ length text₀) × (length text ≡ length text₀) × (i ≤ lines)
+Inv-loop text₀ t d run lines q₀ i₀ text q i = (q .n ≤ length text₀) × (length text ≡ length text₀) × (i ≤ lines)
 
 abbrev μ-loop : tie.MeasureT-loop
-μ-loop text₀ n t d run lines m₀ i₀ text m i = lines - i
+μ-loop text₀ t d run lines q₀ i₀ text q i = lines - i
 
 slice-aggregate-fill-lines : tie.Need-slice-aggregate-fill-lines Inv-loop μ-loop
 slice-aggregate-fill-lines c = search needs

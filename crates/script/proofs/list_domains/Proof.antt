@@ -8,10 +8,10 @@ use Rattle.script.proofs.list_domains.Statement.{statement}
 use Rattle.script.proofs.list_domains.Tie as tie
 
 abbrev Inv-loop : tie.InvT-loop
-Inv-loop text₀ n t m₀ d₀ text m d = (m ≤ length text₀) × (length text ≡ length text₀) × (d ≤ 8)
+Inv-loop text₀ t q₀ d₀ text q d = (q .n ≤ length text₀) × (length text ≡ length text₀) × (d ≤ 8)
 
 abbrev μ-loop : tie.MeasureT-loop
-μ-loop text₀ n t m₀ d₀ text m d = 8 - d
+μ-loop text₀ t q₀ d₀ text q d = 8 - d
 
 loop-holds : tie.Need-loop-holds Inv-loop μ-loop
 loop-holds c = search needs

@@ -9,10 +9,10 @@ use Rattle.script.proofs.list_queue.Statement.{statement}
 use Rattle.script.proofs.list_queue.Tie as tie
 
 abbrev Inv-loop : tie.InvT-loop
-Inv-loop text₀ n t₀ w₀ m₀ left₀ text t w m left = (m ≤ length text₀) × (length text ≡ length text₀) × (length t ≡ length t₀) × (length w ≡ length w₀) × ScriptTables t
+Inv-loop text₀ t₀ w₀ q₀ left₀ text t w q left = (q .n ≤ length text₀) × (length text ≡ length text₀) × (length t ≡ length t₀) × (length w ≡ length w₀) × ScriptTables t
 
 abbrev μ-loop : tie.MeasureT-loop
-μ-loop text₀ n t₀ w₀ m₀ left₀ text t w m left = left
+μ-loop text₀ t₀ w₀ q₀ left₀ text t w q left = left
 
 loop-holds : tie.Need-loop-holds Inv-loop μ-loop
 loop-holds c = search needs

@@ -56,8 +56,23 @@ slice-aggregate-write c = search needs
 write-requires : tie.Need-write-requires
 write-requires c κs = search needs
 
+slice-aggregate-error-line : tie.Need-slice-aggregate-error-line
+slice-aggregate-error-line c = search needs
+
+error-line-requires : tie.Need-error-line-requires
+error-line-requires c κs = search needs
+
+slice-aggregate-error-line-2 : tie.Need-slice-aggregate-error-line-2
+slice-aggregate-error-line-2 c = search needs
+
+error-line-requires-2 : tie.Need-error-line-requires-2
+error-line-requires-2 c κs = search needs
+
 returns : tie.Need-returns
 returns c = search needs
+
+returns-2 : tie.Need-returns-2
+returns-2 c = search needs
 
 pub main-spec : {M : Type 1} → statement M
 main-spec =
@@ -80,4 +95,9 @@ main-spec =
     list-queue-requires
     slice-aggregate-write
     write-requires
-    returns)
+    slice-aggregate-error-line
+    error-line-requires
+    slice-aggregate-error-line-2
+    error-line-requires-2
+    returns
+    returns-2)
