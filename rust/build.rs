@@ -53,7 +53,7 @@ fn find() -> Result<(PathBuf, &'static str), String> {
     }
     let repository = own.parent().unwrap_or(&own);
     let written = repository.join("target/staticlib");
-    if let Some(found) = in_folder(&written) {
+    if let Some(found) = in_folder(&written).or_else(|| in_folder(&repository.join("lib"))) {
         return Ok(found);
     }
     if repository.join("crates.txt").is_file() && prove(repository)? {
