@@ -182,7 +182,8 @@ checkOptions o = elim (o .flags) [
     require (not (has f HASH) || isSome (o .hash)) noHash)  -- 19
 ]
 
--- 10, 6, and for a region its effective ranges; "A channel, RegionRevoke or Capa::None only moves." Request 1: "For other capabilities both are ignored."
+-- 10, 6, and for a region, a root as any other, its effective ranges; "A channel, RegionRevoke or Capa::None only moves." Request 1: "For other
+-- capabilities both are ignored."
 unfoldable pub sendCapa : Capa → ℕ → SendOptions → State → Outcome State
 sendCapa noCapa to o s = ok s
 sendCapa (region h) to o s = do

@@ -1,5 +1,5 @@
--- The trusted text. Read this head first, then Rights.antt of crate rights and Refusals.antt of crate refusals, then the files in the order of
--- docs/STATEMENTS.md, which also says what a first reading leaves out. What stands below `Checked` is proved of them.
+-- The trusted text. Read this head first. Who has questions then goes by the table in docs/STATEMENTS.md; who reads all goes on with Rights.antt of crate
+-- rights, Refusals.antt of crate refusals and the files in the order given there. What module `Checked` has is proved of them.
 --
 -- What it is about. A domain runs a supplier's program. The platform gives it roots: ranges of addresses with rights. Of a region that it owns a domain makes
 -- aliases (parent and alias both count there) and carves (the parent counts there no more), sends them to other domains, and revokes them with all below.
@@ -10,7 +10,7 @@
 -- tables. Demand 3: after any calls the stored numbers are those that a book kept from calls and answers alone gives (crate book).
 --   Example: A has a root 0 to 16 with rights 3 (READ, WRITE), carves 4 to 8 with rights 1 and sends the carve to B. Reach, READ and WRITE at 5:
 --     root  A 1 1 1, B 0 0 0      carved  A 1 1 0, B 0 0 0      sent  A 0 0 0, B 1 1 0      revoked  A 1 1 1, B 0 0 0
---   It is revoked by B, by a RegionRevoke that A made while it held the carve, or with a close of B or of whoever holds that RegionRevoke.
+--   It is revoked by B, by a RegionRevoke that A or B made while it held the carve, or with a close of B or of whoever holds such a RegionRevoke.
 --
 -- How to read it. In comments "…" quotes document 01, or document 02 where a request is named, `…` names the Rust or a definition, **…** names a paragraph
 -- of document 01, and a number such as 12 is a refusal (crate `refusals` has their names).

@@ -1,7 +1,7 @@
 -- **Tracker** (document 01; `RegionTracker`). Records rise; both walks go from left to right and take and free record slots on the way. A range is named by
 -- two addresses, `from` and, not included, `to`; r is its rights. Proved in crate laws: what `gain` and `lose` make of the counts at each address
 -- (`gain-count`, `lose-count`), and that they mark exactly the counts that came to or left 0 (`gain-marks`, `lose-marks`). So who does not ask which record
--- slot is taken, or when 13 comes, reads down to `splitAt`, then `meets`, `mergeable`, `gain` and `lose`.
+-- slot is taken, or when 13 comes, reads down to `Walk`, then `meets`, `mergeable`, `gain` and `lose`.
 use Prim.Native.Nat.{ℕ, _+_, _-_, min, max}
 use mathlib.Core.Bool.{Bool, not, _&&_}
 use mathlib.Core.List.{List, [], _∷_, _++_}
