@@ -2,7 +2,7 @@
 use refusals::Refusal;
 
 // A value, 0 where there is none; or a refusal. It stands for `Result` of the source.
-#[derive(Drop)]
+#[derive(Clone, Copy)]
 pub enum Answer {
     Done(u64),
     Refused(Refusal),

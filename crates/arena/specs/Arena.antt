@@ -14,79 +14,79 @@ use Rattle.arena.specs.declared.Freed.TheVariants.{Done, Spent, NotHeld}
 abbrev pub with_top : Arena → ℕ → ℕ → Arena
 with_top a h c = record { head = h; count = c; links = a.links; gens = a.gens }
 
-abbrev pub withLink : Arena → ℕ → ℕ → Arena
-withLink a i v = record { head = a.head; count = a.count; links = set a.links i v; gens = a.gens }
+abbrev pub with_link : Arena → ℕ → ℕ → Arena
+with_link a i v = record { head = a.head; count = a.count; links = set a.links i v; gens = a.gens }
 
-abbrev pub withGen : Arena → ℕ → ℕ → Arena
-withGen a i v = record { head = a.head; count = a.count; links = a.links; gens = set a.gens i v }
+abbrev pub with_gen : Arena → ℕ → ℕ → Arena
+with_gen a i v = record { head = a.head; count = a.count; links = a.links; gens = set a.gens i v }
 
 -- ---- readings
 
-unfoldable pub isFreeB : Arena → ℕ → Bool
-isFreeB a i = ltb 0 (get_or a.links i 0)
+unfoldable pub is_free_b : Arena → ℕ → Bool
+is_free_b a i = ltb 0 (get_or a.links i 0)
 
 -- the handle's slot is in use and has its generation
-unfoldable pub liveB : Arena → Handle → Bool
-liveB a h = both (ltb h.slot (length a.links)) (both (eqb (get_or a.links h.slot 0) 0) (eqb (get_or a.gens h.slot 0) h.generation))
+unfoldable pub live_b : Arena → Handle → Bool
+live_b a h = both (ltb h.slot (length a.links)) (both (eqb (get_or a.links h.slot 0) 0) (eqb (get_or a.gens h.slot 0) h.generation))
 
 -- the handle is older than its slot's generation
-abbrev pub olderB : Arena → Handle → Bool
-olderB a h = ltb h.generation (get_or a.gens h.slot 0)
+abbrev pub older_b : Arena → Handle → Bool
+older_b a h = ltb h.generation (get_or a.gens h.slot 0)
 
-unfoldable pub capacityOf : Arena → ℕ
-capacityOf a = length a.links - a.count
+unfoldable pub capacity_of : Arena → ℕ
+capacity_of a = length a.links - a.count
 
 -- ---- allocating
 
 -- the link of the slot that is given next; 0 where every slot counts as in use
-unfoldable pub headLink : Arena → ℕ
-headLink a = pick (ltb a.count (length a.links)) (get_or a.links a.head 0) 0
+unfoldable pub head_link : Arena → ℕ
+head_link a = pick (ltb a.count (length a.links)) (get_or a.links a.head 0) 0
 
 unfoldable pub given : Arena → Given
-given a = pick (ltb 0 (headLink a)) (At (record { slot = a.head; generation = get_or a.gens a.head 0 })) Full
+given a = pick (ltb 0 (head_link a)) (At (record { slot = a.head; generation = get_or a.gens a.head 0 })) Full
 
 -- the slot that is given is in use, and the one after it is the head
 abbrev pub taken : Arena → Arena
-taken a = with_top (withLink a a.head 0) (headLink a - 1) (a.count + 1)
+taken a = with_top (with_link a a.head 0) (head_link a - 1) (a.count + 1)
 
 unfoldable pub allocated : Arena → Arena
-allocated a = pick (ltb 0 (headLink a)) (taken a) a
+allocated a = pick (ltb 0 (head_link a)) (taken a) a
 
 -- ---- freeing
 
 -- slot i is in use; the head and the count are a free list's
-unfoldable pub heldB : Arena → ℕ → Bool
-heldB a i = both (both (ltb i (length a.links)) (ltb a.head (length a.links))) (both (ltb 0 a.count) (eqb (get_or a.links i 0) 0))
+unfoldable pub held_b : Arena → ℕ → Bool
+held_b a i = both (both (ltb i (length a.links)) (ltb a.head (length a.links))) (both (ltb 0 a.count) (eqb (get_or a.links i 0) 0))
 
 -- the generation of slot i can be raised
-unfoldable pub raisableB : Arena → ℕ → Bool
-raisableB a i = ltb (get_or a.gens i 0) (2 ^ 64 - 1)
+unfoldable pub raisable_b : Arena → ℕ → Bool
+raisable_b a i = ltb (get_or a.gens i 0) (2 ^ 64 - 1)
 
-unfoldable pub answerTo : Arena → ℕ → Freed
-answerTo a i = pick (heldB a i) (pick (raisableB a i) Done Spent) NotHeld
+unfoldable pub answer_to : Arena → ℕ → Freed
+answer_to a i = pick (held_b a i) (pick (raisable_b a i) Done Spent) NotHeld
 
 -- slot i is the head, with the old head after it and the next generation
 abbrev pub pushed : Arena → ℕ → Arena
-pushed a i = with_top (withGen (withLink a i (a.head + 1)) i (get_or a.gens i 0 + 1)) i (a.count - 1)
+pushed a i = with_top (with_gen (with_link a i (a.head + 1)) i (get_or a.gens i 0 + 1)) i (a.count - 1)
 
 -- freeing slot i is done
-unfoldable pub freesB : Arena → ℕ → Bool
-freesB a i = both (heldB a i) (raisableB a i)
+unfoldable pub frees_b : Arena → ℕ → Bool
+frees_b a i = both (held_b a i) (raisable_b a i)
 
 unfoldable pub freed : Arena → ℕ → Arena
-freed a i = pick (freesB a i) (pushed a i) a
+freed a i = pick (frees_b a i) (pushed a i) a
 
 -- ---- making
 
 -- slot i is free, with the next one after it, the first after the last
-unfoldable pub freshLink : ℕ → ℕ → ℕ
-freshLink n i = (i + 1) % n + 1
+unfoldable pub fresh_link : ℕ → ℕ → ℕ
+fresh_link n i = (i + 1) % n + 1
 
 -- m links from slot k on
-unfoldable pub linksFrom : ℕ → ℕ → ℕ → List ℕ
-linksFrom n k zero = []
-linksFrom n k (suc m) = freshLink n k ∷ linksFrom n (suc k) m
+unfoldable pub links_from : ℕ → ℕ → ℕ → List ℕ
+links_from n k zero = []
+links_from n k (suc m) = fresh_link n k ∷ links_from n (suc k) m
 
 -- `FreeList::new` and zero generations
-unfoldable pub newArena : ℕ → Arena
-newArena n = record { head = 0; count = 0; links = linksFrom n 0 n; gens = replicate n 0 }
+unfoldable pub new_arena : ℕ → Arena
+new_arena n = record { head = 0; count = 0; links = links_from n 0 n; gens = replicate n 0 }

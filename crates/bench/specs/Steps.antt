@@ -6,9 +6,9 @@ use Rattle.base.specs.Cases.{pick}
 use Rattle.base.specs.Tests.{both}
 use Rattle.tables.specs.declared.Slot.{Slot}
 use Rattle.sizes.specs.declared.Sizes.{Sizes}
-use Rattle.sizes.specs.Limits.{limitsB}
+use Rattle.sizes.specs.Limits.{limits_b}
 use Rattle.tables.specs.Tables.{Tables}
-use Rattle.sizes.specs.Tests.{sizedB}
+use Rattle.sizes.specs.Tests.{sized_b}
 use Rattle.sizes.specs.Sizes.{total}
 use Rattle.tables.specs.View.{layout, Left}
 use Rattle.tables.specs.Layout.{words_are}
@@ -26,37 +26,37 @@ nothing = 18446744073709551615
 
 -- ---- answers as words
 
-abbrev pub flagOf : Bool → ℕ
-flagOf b = pick b 1 0
+abbrev pub flag_of : Bool → ℕ
+flag_of b = pick b 1 0
 
-abbrev pub insertedOf : Inserted → ℕ
-insertedOf (At i) = i
-insertedOf Full = nothing
+abbrev pub inserted_of : Inserted → ℕ
+inserted_of (At i) = i
+inserted_of Full = nothing
 
 abbrev pub given_of : Given → ℕ
 given_of (AtHandle h) = h.slot
 given_of NoneFree = nothing
 
-abbrev pub freedOf : Freed → ℕ
-freedOf Done = 1
-freedOf Spent = 0
-freedOf NotHeld = 0
+abbrev pub freed_of : Freed → ℕ
+freed_of Done = 1
+freed_of Spent = 0
+freed_of NotHeld = 0
 
-abbrev pub capaOf : ℕ → ℕ → ℕ → Slot
-capaOf k s g = record { kind = k; handle = record { slot = s; generation = g } }
+abbrev pub capa_of : ℕ → ℕ → ℕ → Slot
+capa_of k s g = record { kind = k; handle = record { slot = s; generation = g } }
 
-abbrev pub sizesOf : ℕ → ℕ → ℕ → ℕ → ℕ → Sizes
-sizesOf d s r t u = record { domains = d; slots = s; regions = r; records = t; updates = u }
+abbrev pub sizes_of : ℕ → ℕ → ℕ → ℕ → ℕ → Sizes
+sizes_of d s r t u = record { domains = d; slots = s; regions = r; records = t; updates = u }
 
 -- ---- on tables of the right length
 
 unfoldable pub reply : List ℕ → ℕ → ℕ
-reply t n = pick (sizedB t) n nothing
+reply t n = pick (sized_b t) n nothing
 
 unfoldable pub left : List ℕ → Tables → List ℕ
-left t s = pick (sizedB t) (layout s) t
+left t s = pick (sized_b t) (layout s) t
 
-module _ (t : List ℕ) (b : Bool) (e : b ≡ sizedB t) where
+module _ (t : List ℕ) (b : Bool) (e : b ≡ sized_b t) where
   -- the step is taken
   pub taken : b ≡ true → (m n : ℕ) → m ≡ n → (u : List ℕ) (s : Tables) → Left u s → (m ≡ reply t n) × (u ≡ left t s)
   unfolding reply left
@@ -70,7 +70,7 @@ module _ (t : List ℕ) (b : Bool) (e : b ≡ sizedB t) where
 
 -- the sizes lie in their limits and ask for this length
 abbrev fits : List ℕ → Sizes → Bool
-fits t z = both (limitsB z) (eqb (length t) (total z))
+fits t z = both (limits_b z) (eqb (length t) (total z))
 
 unfoldable pub makes : List ℕ → Sizes → ℕ
 makes t z = pick (fits t z) 1 nothing
@@ -78,7 +78,7 @@ makes t z = pick (fits t z) 1 nothing
 unfoldable pub made : List ℕ → Sizes → List ℕ
 made t z = pick (fits t z) (layout (empty z)) t
 
-module _ (t : List ℕ) (z : Sizes) (b : Bool) (e : b ≡ limitsB z) where
+module _ (t : List ℕ) (z : Sizes) (b : Bool) (e : b ≡ limits_b z) where
   pub now-made : b ≡ true → length t ≡ total z → (u : List ℕ) → u ≡ layout (empty z) → (1 ≡ makes t z) × (u ≡ made t z)
   unfolding makes made
   now-made h l u w = rw (sym e ∙ h, eq-eqb (length t) (total z) l) (refl, w)

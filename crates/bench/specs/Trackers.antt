@@ -3,20 +3,20 @@ use Rattle.std.specs.Prelude.{◌≡◌, Bool, true, false, List, [], ◌∷◌,
 use Rattle.std.proofs.Math.Path.{refl}
 use Rattle.std.proofs.Common.{sym, ◌∙◌}
 use Rattle.base.specs.Cases.{pick}
-use Rattle.sizes.specs.Tests.{sizedB}
+use Rattle.sizes.specs.Tests.{sized_b}
 use Rattle.answers.specs.declared.Answer.{Answer}
 use Rattle.answers.specs.declared.Answer.TheVariants.{Done, Refused}
 use Rattle.region.specs.declared.AccessRights.{AccessRights}
 use Rattle.readings.specs.declared.Permission.{Permission}
-use Rattle.readings.specs.Readings.{fillRun}
+use Rattle.readings.specs.Readings.{fill_run}
 use Rattle.bench.specs.Steps.{nothing, reply}
 
-abbrev pub changeOf : Answer → ℕ
-changeOf (Done v) = v
-changeOf (Refused r) = nothing
+abbrev pub change_of : Answer → ℕ
+change_of (Done v) = v
+change_of (Refused r) = nothing
 
-abbrev pub accessOf : ℕ → ℕ → ℕ → AccessRights
-accessOf s e r = record { start = s; end = e; ops = record { 0 = r } }
+abbrev pub access_of : ℕ → ℕ → ℕ → AccessRights
+access_of s e r = record { start = s; end = e; ops = record { 0 = r } }
 
 -- a permission list as words, three for each
 abbrev pub words_of : List Permission → List ℕ
@@ -25,9 +25,9 @@ words_of (p ∷ l) = p.start ∷ p.end ∷ p.rights ∷ words_of l
 
 -- a list in a lent run, on tables of the right length
 unfoldable pub filled : List ℕ → List ℕ → List ℕ → List ℕ
-filled t l run = pick (sizedB t) (fillRun l run) run
+filled t l run = pick (sized_b t) (fill_run l run) run
 
-module _ (t : List ℕ) (b : Bool) (e : b ≡ sizedB t) where
+module _ (t : List ℕ) (b : Bool) (e : b ≡ sized_b t) where
   -- a reading of the tables
   pub read : b ≡ true → {m n : ℕ} → m ≡ n → m ≡ reply t n
   unfolding reply
@@ -38,7 +38,7 @@ module _ (t : List ℕ) (b : Bool) (e : b ≡ sizedB t) where
   unread h n = rw (sym e ∙ h) refl
 
   -- with a run
-  pub listed : b ≡ true → {m n : ℕ} → m ≡ n → (run l run₀ : List ℕ) → run ≡ fillRun l run₀ → (m ≡ reply t n) × (run ≡ filled t l run₀)
+  pub listed : b ≡ true → {m n : ℕ} → m ≡ n → (run l run₀ : List ℕ) → run ≡ fill_run l run₀ → (m ≡ reply t n) × (run ≡ filled t l run₀)
   unfolding filled
   listed h a run l run₀ w = (read h a, rw (sym e ∙ h) w)
 

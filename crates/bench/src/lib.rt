@@ -2,19 +2,19 @@
 // document 01 demands of calls is not promised of them. Each tests the length first; where it is wrong the answer is `NOTHING` and no word changes.
 ghost use Rattle.std.specs.Prelude.{◌≡◌, length, replicate};
 ghost use Rattle.words.specs.Copies.{copied};
-ghost use Rattle.sizes.specs.Limits.{limitsB};
-ghost use Rattle.tables.specs.Tables.{withRegionPool};
+ghost use Rattle.sizes.specs.Limits.{limits_b};
+ghost use Rattle.tables.specs.Tables.{with_region_pool};
 ghost use Rattle.tables.specs.View.{view};
-ghost use Rattle.arena.specs.Arena.{given, allocated, answerTo};
+ghost use Rattle.arena.specs.Arena.{given, allocated, answer_to};
 ghost use Rattle.pools.specs.declared.Pool.{Pool};
-ghost use Rattle.pools.specs.Wiping.{slotFreed};
-ghost use Rattle.slot_list.specs.Lists.{giveSlot};
-ghost use Rattle.stored_slots.specs.Record.{listAt};
-ghost use Rattle.slots.specs.Capas.{withCapa, withoutCapa};
-ghost use Rattle.ring.specs.Ring.{cleanupOf, pushOf, pop_of};
-ghost use Rattle.ring_search.specs.Queueing.{queueOf};
-ghost use Rattle.stored_ring.specs.Stored.{ringOf, withRingOf};
-ghost use Rattle.bench.specs.Steps.{nothing, flagOf, insertedOf, given_of, freedOf, capaOf, sizesOf, reply, left, makes, made};
+ghost use Rattle.pools.specs.Wiping.{slot_freed};
+ghost use Rattle.slot_list.specs.Lists.{give_slot};
+ghost use Rattle.stored_slots.specs.Record.{list_at};
+ghost use Rattle.slots.specs.Capas.{with_capa, without_capa};
+ghost use Rattle.ring.specs.Ring.{cleanup_of, push_of, pop_of};
+ghost use Rattle.ring_search.specs.Queueing.{queue_of};
+ghost use Rattle.stored_ring.specs.Stored.{ring_of, with_ring_of};
+ghost use Rattle.bench.specs.Steps.{nothing, flag_of, inserted_of, given_of, freed_of, capa_of, sizes_of, reply, left, makes, made};
 
 pub mod trackers;
 
@@ -28,13 +28,13 @@ pub const NOTHING: u64 = 18446744073709551615;
 // ---- Answers as words
 
 fn flag(b: bool) -> u64
-    ensures { result ≡ flagOf b }
+    ensures { result ≡ flag_of b }
 {
     if b { 1 } else { 0 }
 }
 
 fn inserted(x: Inserted) -> u64
-    ensures { result ≡ insertedOf x }
+    ensures { result ≡ inserted_of x }
 {
     match x {
         Inserted::At(i) => i as u64,
@@ -52,7 +52,7 @@ fn given_slot(x: Given) -> u64
 }
 
 fn freed(x: Freed) -> u64
-    ensures { result ≡ freedOf x }
+    ensures { result ≡ freed_of x }
 {
     match x {
         Freed::Done => 1,
@@ -71,8 +71,8 @@ pub extern "C" fn bench_insert(
     slot: u64,
     generation: u64,
 ) -> u64
-    ensures { (result ≡ reply t.old (insertedOf (giveSlot (listAt (view t.old) d)).at))
-        × (t.new ≡ left t.old (withCapa (view t.old) d (capaOf kind slot generation))) }
+    ensures { (result ≡ reply t.old (inserted_of (give_slot (list_at (view t.old) d)).at))
+        × (t.new ≡ left t.old (with_capa (view t.old) d (capa_of kind slot generation))) }
 {
     if sizes::is_sized(t) {
         let handle = Handle { slot, generation };
@@ -83,7 +83,7 @@ pub extern "C" fn bench_insert(
 
 #[unsafe(no_mangle)]
 pub extern "C" fn bench_remove(t: &mut [u64], d: usize, i: usize) -> u64
-    ensures { (result ≡ reply t.old 1) × (t.new ≡ left t.old (withoutCapa (view t.old) d i)) }
+    ensures { (result ≡ reply t.old 1) × (t.new ≡ left t.old (without_capa (view t.old) d i)) }
 {
     if sizes::is_sized(t) {
         slots::remove_capa(t, d, i);
@@ -102,8 +102,8 @@ pub extern "C" fn bench_queue(
     cores: u64,
     marks: u64,
 ) -> u64
-    ensures { (result ≡ reply t.old (flagOf (queueOf (ringOf (view t.old)) slot generation cores marks).ok))
-        × (t.new ≡ left t.old (withRingOf (view t.old) (queueOf (ringOf (view t.old)) slot generation cores marks).ring)) }
+    ensures { (result ≡ reply t.old (flag_of (queue_of (ring_of (view t.old)) slot generation cores marks).ok))
+        × (t.new ≡ left t.old (with_ring_of (view t.old) (queue_of (ring_of (view t.old)) slot generation cores marks).ring)) }
 {
     if sizes::is_sized(t) {
         return flag(update::queue_domain(t, slot, generation, cores, marks));
@@ -113,8 +113,8 @@ pub extern "C" fn bench_queue(
 
 #[unsafe(no_mangle)]
 pub extern "C" fn bench_push(t: &mut [u64], start: u64, end: u64) -> u64
-    ensures { (result ≡ reply t.old (flagOf (pushOf (ringOf (view t.old)) (cleanupOf start end)).ok))
-        × (t.new ≡ left t.old (withRingOf (view t.old) (pushOf (ringOf (view t.old)) (cleanupOf start end)).ring)) }
+    ensures { (result ≡ reply t.old (flag_of (push_of (ring_of (view t.old)) (cleanup_of start end)).ok))
+        × (t.new ≡ left t.old (with_ring_of (view t.old) (push_of (ring_of (view t.old)) (cleanup_of start end)).ring)) }
 {
     if sizes::is_sized(t) {
         return flag(update::push_cleanup(t, start, end));
@@ -125,8 +125,8 @@ pub extern "C" fn bench_push(t: &mut [u64], start: u64, end: u64) -> u64
 // The kind of the update that is popped, 0 for none.
 #[unsafe(no_mangle)]
 pub extern "C" fn bench_pop(t: &mut [u64]) -> u64
-    ensures { (result ≡ reply t.old (pop_of (ringOf (view t.old))).item.entry.update.kind)
-        × (t.new ≡ left t.old (withRingOf (view t.old) (pop_of (ringOf (view t.old))).ring)) }
+    ensures { (result ≡ reply t.old (pop_of (ring_of (view t.old))).item.entry.update.kind)
+        × (t.new ≡ left t.old (with_ring_of (view t.old) (pop_of (ring_of (view t.old))).ring)) }
 {
     if sizes::is_sized(t) {
         let item = update::pop_update(t);
@@ -139,8 +139,8 @@ pub extern "C" fn bench_pop(t: &mut [u64]) -> u64
 
 #[unsafe(no_mangle)]
 pub extern "C" fn bench_allocate(t: &mut [u64]) -> u64
-    ensures { (result ≡ reply t.old (given_of (given (view t.old).regionPool)))
-        × (t.new ≡ left t.old (withRegionPool (view t.old) (allocated (view t.old).regionPool))) }
+    ensures { (result ≡ reply t.old (given_of (given (view t.old).region_pool)))
+        × (t.new ≡ left t.old (with_region_pool (view t.old) (allocated (view t.old).region_pool))) }
 {
     if sizes::is_sized(t) {
         return given_slot(pools::allocate_region(t));
@@ -150,8 +150,8 @@ pub extern "C" fn bench_allocate(t: &mut [u64]) -> u64
 
 #[unsafe(no_mangle)]
 pub extern "C" fn bench_free(t: &mut [u64], i: usize) -> u64
-    ensures { (result ≡ reply t.old (freedOf (answerTo (view t.old).regionPool i)))
-        × (t.new ≡ left t.old (slotFreed (view t.old) Pool.Regions i)) }
+    ensures { (result ≡ reply t.old (freed_of (answer_to (view t.old).region_pool i)))
+        × (t.new ≡ left t.old (slot_freed (view t.old) Pool.Regions i)) }
 {
     if sizes::is_sized(t) {
         return freed(pools::free_region(t, i));
@@ -171,8 +171,8 @@ pub extern "C" fn bench_make(
     records: usize,
     updates: usize,
 ) -> u64
-    ensures { (result ≡ makes t.old (sizesOf domains slots regions records updates))
-        × (t.new ≡ made t.old (sizesOf domains slots regions records updates)) }
+    ensures { (result ≡ makes t.old (sizes_of domains slots regions records updates))
+        × (t.new ≡ made t.old (sizes_of domains slots regions records updates)) }
 {
     let z = Sizes {
         domains,

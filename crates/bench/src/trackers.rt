@@ -1,10 +1,10 @@
 // Steps on a domain's tracker: a range gained and lost, and the readings of its records.
 ghost use Rattle.std.specs.Prelude.{◌≡◌, ◌+◌, ◌≤◌, length, set};
 ghost use Rattle.tables.specs.View.{view, Sized};
-ghost use Rattle.tracker.specs.Walks.{addRegion, removeRegion};
-ghost use Rattle.readings.specs.Readings.{recordsOf, largestReach, permissionList, fillRun};
+ghost use Rattle.tracker.specs.Walks.{add_region, remove_region};
+ghost use Rattle.readings.specs.Readings.{records_of, largest_reach, permission_list, fill_run};
 ghost use Rattle.bench.specs.Steps.{reply, left};
-ghost use Rattle.bench.specs.Trackers.{changeOf, accessOf, words_of, filled};
+ghost use Rattle.bench.specs.Trackers.{change_of, access_of, words_of, filled};
 
 use crate::NOTHING;
 use answers::Answer;
@@ -14,7 +14,7 @@ use rights::Rights;
 
 // 1 where a count left or came to 0, else 0; `NOTHING` for a refusal.
 fn change(x: Answer) -> u64
-    ensures { result ≡ changeOf x }
+    ensures { result ≡ change_of x }
 {
     match x {
         Answer::Done(v) => v,
@@ -26,8 +26,8 @@ fn change(x: Answer) -> u64
 
 #[unsafe(no_mangle)]
 pub extern "C" fn bench_gain(t: &mut [u64], d: usize, start: u64, end: u64, rights: u8) -> u64
-    ensures { (result ≡ reply t.old (changeOf (addRegion d (accessOf start end rights) (view t.old)).answer))
-        × (t.new ≡ left t.old (addRegion d (accessOf start end rights) (view t.old)).tables) }
+    ensures { (result ≡ reply t.old (change_of (add_region d (access_of start end rights) (view t.old)).answer))
+        × (t.new ≡ left t.old (add_region d (access_of start end rights) (view t.old)).tables) }
 {
     if sizes::is_sized(t) {
         let ops = Rights(rights);
@@ -38,8 +38,8 @@ pub extern "C" fn bench_gain(t: &mut [u64], d: usize, start: u64, end: u64, righ
 
 #[unsafe(no_mangle)]
 pub extern "C" fn bench_loss(t: &mut [u64], d: usize, start: u64, end: u64, rights: u8) -> u64
-    ensures { (result ≡ reply t.old (changeOf (removeRegion d (accessOf start end rights) (view t.old)).answer))
-        × (t.new ≡ left t.old (removeRegion d (accessOf start end rights) (view t.old)).tables) }
+    ensures { (result ≡ reply t.old (change_of (remove_region d (access_of start end rights) (view t.old)).answer))
+        × (t.new ≡ left t.old (remove_region d (access_of start end rights) (view t.old)).tables) }
 {
     if sizes::is_sized(t) {
         let ops = Rights(rights);
@@ -52,7 +52,7 @@ pub extern "C" fn bench_loss(t: &mut [u64], d: usize, start: u64, end: u64, righ
 
 #[unsafe(no_mangle)]
 pub extern "C" fn bench_refcount(t: &[u64], d: usize, start: u64, end: u64) -> u64
-    ensures { result ≡ reply t.now (largestReach start end (recordsOf (view t.now) d)) }
+    ensures { result ≡ reply t.now (largest_reach start end (records_of (view t.now) d)) }
 {
     if sizes::is_sized(t) {
         return readings::get_refcount(t, d, start, end);
@@ -73,7 +73,7 @@ fn put_permission(run: &mut [u64], i: usize, p: Permission)
 // As the exported `mityvurno_permissions` does it. No table has more than 1,024 records.
 fn list(t: &[u64], d: usize, run: &mut [u64]) -> u64
     requires { Sized t.now }
-    ensures { (result ≡ length (permissionList (view t.now) d)) × (run.new ≡ fillRun (words_of (permissionList (view t.now) d)) run.old) }
+    ensures { (result ≡ length (permission_list (view t.now) d)) × (run.new ≡ fill_run (words_of (permission_list (view t.now) d)) run.old) }
 {
     let p = readings::plan_of(t, d, 1024);
     let mut left = p.turns;
@@ -92,8 +92,8 @@ fn list(t: &[u64], d: usize, run: &mut [u64]) -> u64
 // A function that takes a run of `Permission` is proved by hand alone, so the list goes into words.
 #[unsafe(no_mangle)]
 pub extern "C" fn bench_permissions(t: &[u64], d: usize, run: &mut [u64]) -> u64
-    ensures { (result ≡ reply t.now (length (permissionList (view t.now) d)))
-        × (run.new ≡ filled t.now (words_of (permissionList (view t.now) d)) run.old) }
+    ensures { (result ≡ reply t.now (length (permission_list (view t.now) d)))
+        × (run.new ≡ filled t.now (words_of (permission_list (view t.now) d)) run.old) }
 {
     if sizes::is_sized(t) {
         return list(t, d, run);

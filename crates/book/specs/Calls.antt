@@ -4,7 +4,7 @@ use Rattle.std.proofs.Math.Option.{none, some}
 use Rattle.model.specs.Outcome.{Outcome, ok, refuse}
 use Rattle.model.specs.State.{State}
 use Rattle.model.specs.Sound.{Sound}
-use Rattle.model.specs.Perform.{Step, Call, Value, performStep, perform, after}
+use Rattle.model.specs.Perform.{Step, Call, Value, perform_step, perform, after}
 use Rattle.laws.specs.Accepted.{All, accepted, refused, bind, bind-any}
 use Rattle.book.specs.Book.{Book, accept, note}
 use Rattle.book.specs.Matches.{Matches}
@@ -23,7 +23,7 @@ use Rattle.book.specs.Pop.{pop-match}
 
 -- an accepted call
 pub perform-match : (b : Book) (s : State) (c : Call) → Sound s → Matches b s → All (λ y. Matches (accept b c y.0) y.1) (perform s c)
-unfolding perform performStep accept
+unfolding perform perform_step accept
 perform-match b s (Call.Make z) o g = bind (make-in-match _ _ z) (λ t q. accepted q)
 perform-match b s (Call.Do (Step.Open none c)) o g = bind (open-match b s none c o g) (λ x q. accepted q)
 perform-match b s (Call.Do (Step.Open (some m) c)) o g = bind (open-match b s (some m) c o g) (λ x q. accepted q)

@@ -5,14 +5,14 @@ use Rattle.std.proofs.Math.Option
 use Rattle.std.proofs.Math.Option.{Option, none, some}
 use Rattle.base.specs.Cases.{holds, fails, test}
 use Rattle.base.specs.Tests.{true-is, false-is}
-use Rattle.model.specs.Lists.{is_some, atSlot}
-use Rattle.model.specs.State.{State, Pool, Handle, Region, Kind, Alias, Access, noneRegion, regionAt, putRegion, withChildren, parent_of}
-use Rattle.model.specs.Tree.{insertChild}
-use Rattle.model.specs.Calls.{addChild}
-use Rattle.model.specs.Sound.{OnceEach, slotUses}
+use Rattle.model.specs.Lists.{is_some, at_slot}
+use Rattle.model.specs.State.{State, Pool, Handle, Region, Kind, Alias, Access, none_region, region_at, put_region, with_children, parent_of}
+use Rattle.model.specs.Tree.{insert_child}
+use Rattle.model.specs.Calls.{add_child}
+use Rattle.model.specs.Sound.{OnceEach, slot_uses}
 use Rattle.laws.specs.Accepted.{All, bind}
 use Rattle.book.specs.Book.{Book, Noted, noted}
-use Rattle.book.specs.Demand3.{kindBy}
+use Rattle.book.specs.Demand3.{kind_by}
 use Rattle.book.specs.Matches.{Regions, MatchesAt}
 use Rattle.book.specs.Tests.{set-some, some_below}
 use Rattle.book.specs.NewRegion.{new-region-match, RegionPut, slot-match}
@@ -31,39 +31,39 @@ same-node g = record { kind = refl; owner = refl; start = refl; end = refl; righ
 node-as : (g g' g'' : Region) → g'' ≡ g' → SameNode g g' → SameNode g g''
 node-as g g' g'' e h = rw e h
 
-pub edit-regions : (rs : List Noted) (p : Pool) (gs gs' : List (Option Region)) (at : ℕ → Handle) (place : ℕ → ℕ) → ((j : ℕ) → is_some (atSlot gs' j) ≡ is_some (atSlot gs j)) → ((j : ℕ) → SameNode (Option.get_or (atSlot gs j) noneRegion) (Option.get_or (atSlot gs' j) noneRegion)) → Regions rs p gs at place → Regions rs p gs' at place
+pub edit-regions : (rs : List Noted) (p : Pool) (gs gs' : List (Option Region)) (at : ℕ → Handle) (place : ℕ → ℕ) → ((j : ℕ) → is_some (at_slot gs' j) ≡ is_some (at_slot gs j)) → ((j : ℕ) → SameNode (Option.get_or (at_slot gs j) none_region) (Option.get_or (at_slot gs' j) none_region)) → Regions rs p gs at place → Regions rs p gs' at place
 edit-regions rs p gs gs' at place e n m = record {
-  aliveIsLive = λ k u. m.aliveIsLive k u ∙ sym (ap (λ c. c && eqb (get_or p.gens (at k).slot 0) (at k).generation) (e (at k).slot));
-  deadIsOlder = m.deadIsOlder;
+  alive_is_live = λ k u. m.alive_is_live k u ∙ sym (ap (λ c. c && eqb (get_or p.gens (at k).slot 0) (at k).generation) (e (at k).slot));
+  dead_is_older = m.dead_is_older;
   stored = λ k u a. let h = m.stored k u a in let v = n (at k).slot in record { kind = v.kind ∙ h.kind; owner = v.owner ∙ h.owner; start = v.start ∙ h.start; end = v.end ∙ h.end; rights = v.rights ∙ h.rights };
   back = λ i h. m.back i (sym (e i) ∙ h);
   one = m.one;
-  parentEarlier = m.parentEarlier;
-  parentLives = m.parentLives;
-  rootsLive = m.rootsLive;
+  parent_earlier = m.parent_earlier;
+  parent_lives = m.parent_lives;
+  roots_live = m.roots_live;
 }
 
-module _ (gs : List (Option Region)) (q : ℕ) (g : Region) (i : is_some (atSlot gs q) ≡ true) (n : SameNode (Option.get_or (atSlot gs q) noneRegion) g) where
-  node_at : (j : ℕ) → j ≡ q → SameNode (Option.get_or (atSlot gs j) noneRegion) (Option.get_or (atSlot (set gs q (some g)) j) noneRegion)
-  node_at j e = rw e (node-as _ g _ (ap (λ o. Option.get_or o noneRegion) (get_or-set_same gs q (some g) none (some_below gs q i))) n)
+module _ (gs : List (Option Region)) (q : ℕ) (g : Region) (i : is_some (at_slot gs q) ≡ true) (n : SameNode (Option.get_or (at_slot gs q) none_region) g) where
+  node_at : (j : ℕ) → j ≡ q → SameNode (Option.get_or (at_slot gs j) none_region) (Option.get_or (at_slot (set gs q (some g)) j) none_region)
+  node_at j e = rw e (node-as _ g _ (ap (λ o. Option.get_or o none_region) (get_or-set_same gs q (some g) none (some_below gs q i))) n)
 
-  set-node : (j : ℕ) → SameNode (Option.get_or (atSlot gs j) noneRegion) (Option.get_or (atSlot (set gs q (some g)) j) noneRegion)
+  set-node : (j : ℕ) → SameNode (Option.get_or (at_slot gs j) none_region) (Option.get_or (at_slot (set gs q (some g)) j) none_region)
   set-node j = elim (test (eqb j q)) [
     | holds t ↦ node_at j (eqb→eq j q (true-is t))
-    | fails t ↦ node-as _ _ _ (ap (λ o. Option.get_or o noneRegion) (get_or-set_other gs q j (some g) none (λ e. false-is t (true-is (eq-eqb j q e))))) (same-node _)
+    | fails t ↦ node-as _ _ _ (ap (λ o. Option.get_or o none_region) (get_or-set_other gs q j (some g) none (λ e. false-is t (true-is (eq-eqb j q e))))) (same-node _)
   ]
 
   pub set-regions : (rs : List Noted) (p : Pool) (at : ℕ → Handle) (place : ℕ → ℕ) → Regions rs p gs at place → Regions rs p (set gs q (some g)) at place
   set-regions rs p at place m = edit-regions rs p gs _ at place (set-some gs q g i) set-node m
 
 -- the child list of a live region changes in the tables alone
-pub children-match : (b : Book) (s : State) (at : ℕ → Handle) (place : ℕ → ℕ) (q : ℕ) (cs : List ℕ) → is_some (atSlot s.regions q) ≡ true → MatchesAt b s at place → MatchesAt b (putRegion q (withChildren cs (regionAt s q)) s) at place
-children-match b s at place q cs i m = record { sizes = m.sizes; regions = set-regions s.regions q _ i (record { kind = refl; owner = refl; start = refl; end = refl; rights = refl }) b.regions s.regionPool at place m.regions; lists = m.lists; generations = m.generations }
+pub children-match : (b : Book) (s : State) (at : ℕ → Handle) (place : ℕ → ℕ) (q : ℕ) (cs : List ℕ) → is_some (at_slot s.regions q) ≡ true → MatchesAt b s at place → MatchesAt b (put_region q (with_children cs (region_at s q)) s) at place
+children-match b s at place q cs i m = record { sizes = m.sizes; regions = set-regions s.regions q _ i (record { kind = refl; owner = refl; start = refl; end = refl; rights = refl }) b.regions s.region_pool at place m.regions; lists = m.lists; generations = m.generations }
 
-pub child-match : (b : Book) (s : State) (at : ℕ → Handle) (place : ℕ → ℕ) (d p : ℕ) (k k' : Kind) (a : Access) (n : ℕ) → OnceEach n (slotUses s.regions) s.regionPool.free → length s.regions ≡ n → MatchesAt b s at place → k' ≡ kindBy (λ j. (at j).slot) k → ((q : ℕ) → parent_of k ≡ some q → q < length b.regions) → ((q : ℕ) → parent_of k ≡ some q → (noted b.regions q).alive ≡ true) → is_some (atSlot s.regions p) ≡ true → is_some (atSlot s.domains d) ≡ true → All (RegionPut b s d k a) (addChild d p k' a s)
-unfolding addChild insertChild
-child-match b s at place d p k k' a n once len m same parent parentLives i j =
-    bind (new-region-match b s at place d k k' a n once len m same parent parentLives) (λ x g.
+pub child-match : (b : Book) (s : State) (at : ℕ → Handle) (place : ℕ → ℕ) (d p : ℕ) (k k' : Kind) (a : Access) (n : ℕ) → OnceEach n (slot_uses s.regions) s.region_pool.free → length s.regions ≡ n → MatchesAt b s at place → k' ≡ kind_by (λ j. (at j).slot) k → ((q : ℕ) → parent_of k ≡ some q → q < length b.regions) → ((q : ℕ) → parent_of k ≡ some q → (noted b.regions q).alive ≡ true) → is_some (at_slot s.regions p) ≡ true → is_some (at_slot s.domains d) ≡ true → All (RegionPut b s d k a) (add_child d p k' a s)
+unfolding add_child insert_child
+child-match b s at place d p k k' a n once len m same parent parent_lives i j =
+    bind (new-region-match b s at place d k k' a n once len m same parent parent_lives) (λ x g.
     slot-match b s _ d k a _ _ _ (children-match _ x.1 _ _ p _ (ap is_some (g.slots p i) ∙ i) g.fits) g.last g.domains j)
 
 pub parent-lives : (b : Book) (k q : ℕ) → (noted b.regions k).alive ≡ true → parent_of (Alias k) ≡ some q → (noted b.regions q).alive ≡ true

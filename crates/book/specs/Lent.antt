@@ -5,17 +5,17 @@ use Rattle.model.specs.Lists.{Each}
 use Rattle.model.specs.Outcome.{Outcome, ok, refuse}
 use Rattle.refusals.specs.declared.Refusal.{Refusal}
 use Rattle.model.specs.State.{State, Sizes}
-use Rattle.model.specs.Making.{makeIn}
+use Rattle.model.specs.Making.{make_in}
 use Rattle.model.specs.Layout.{words}
 use Rattle.model.specs.Perform.{Call, Value, Answer, step}
 use Rattle.model.specs.CallWords.{CallWords}
 use Rattle.model.specs.Sound.{Sound}
-use Rattle.model.specs.Memory.{Lent, madeAnswer, tablesLeft, After, made, notSound, performed}
+use Rattle.model.specs.Memory.{Lent, made_answer, tables_left, After, made, not_sound, performed}
 use Rattle.laws.specs.Accepted.{All, accepted, both}
 use Rattle.laws.specs.Empty.{made-sound}
 use Rattle.laws.specs.Words.Unique.{words-unique}
 use Rattle.book.specs.Book.{Book, blank, accept, note}
-use Rattle.book.specs.Demand3.{noteAll, Claims}
+use Rattle.book.specs.Demand3.{note_all, Claims}
 use Rattle.book.specs.Matches.{Matches}
 use Rattle.book.specs.Make.{make-in-match}
 use Rattle.book.specs.Theorem.{matches-step, matches-claims}
@@ -35,7 +35,7 @@ pub record ClaimsOf (b : Book) (t : List ℕ) : Type 0 where
 
 -- Demand 3, from an accepted making in lent memory.
 abbrev pub Demand3Lent : Type 0
-Demand3Lent = (t w t₁ w₁ t₂ : List ℕ) (z : Sizes) (cs : List Call) (ys : List Answer) → After t w (Call.Make z) (Answer.yes Value.done) t₁ w₁ → Each CallWords cs → Chain t₁ cs ys t₂ → ClaimsOf (noteAll (blank z) cs ys) t₂
+Demand3Lent = (t w t₁ w₁ t₂ : List ℕ) (z : Sizes) (cs : List Call) (ys : List Answer) → After t w (Call.Make z) (Answer.yes Value.done) t₁ w₁ → Each CallWords cs → Chain t₁ cs ys t₂ → ClaimsOf (note_all (blank z) cs ys) t₂
 
 -- ---- book and lent tables match
 
@@ -50,7 +50,7 @@ pub record BookOf (b : Book) (t : List ℕ) : Type 0 where
 abbrev Begun : Sizes → State → Type 0
 Begun z s = Matches (blank z) s × Sound s
 
-begins : (n m : ℕ) (z : Sizes) → All (Begun z) (makeIn n m z)
+begins : (n m : ℕ) (z : Sizes) → All (Begun z) (make_in n m z)
 begins n m z = both (make-in-match n m z) (made-sound n m z)
 
 -- any sound state that these words are of
@@ -65,12 +65,12 @@ not_yes : (r : Refusal) → Answer.no r ≡ Answer.yes Value.done → ⊥
 unfolding refusal
 not_yes r e = subst refusal e tt
 
-made-book : (t : List ℕ) (z : Sizes) (m : Outcome State) → All (Begun z) m → madeAnswer m ≡ Answer.yes Value.done → BookOf (blank z) (tablesLeft t m)
+made-book : (t : List ℕ) (z : Sizes) (m : Outcome State) → All (Begun z) m → made_answer m ≡ Answer.yes Value.done → BookOf (blank z) (tables_left t m)
 made-book t z (ok s) (accepted h) e = record { state = s; tables = refl; sound = h.1; matches = h.0 }
 made-book t z (refuse r) h e = absurd (not_yes r e)
 
 -- a making within a list: the book is begun anew, or goes on where the making is refused
-noted-book : (b : Book) (t : List ℕ) (z : Sizes) (m : Outcome State) → All (Begun z) m → BookOf b t → BookOf (note b (Call.Make z) (madeAnswer m)) (tablesLeft t m)
+noted-book : (b : Book) (t : List ℕ) (z : Sizes) (m : Outcome State) → All (Begun z) m → BookOf b t → BookOf (note b (Call.Make z) (made_answer m)) (tables_left t m)
 unfolding note accept
 noted-book b t z (ok s) (accepted h) k = record { state = s; tables = refl; sound = h.1; matches = h.0 }
 noted-book b t z (refuse r) h k = k
@@ -78,21 +78,21 @@ noted-book b t z (refuse r) h k = k
 -- THEOREM: an accepted making begins it
 pub book-of-made : (t w t₁ w₁ : List ℕ) (z : Sizes) (y : Answer) → y ≡ Answer.yes Value.done → After t w (Call.Make z) y t₁ w₁ → BookOf (blank z) t₁
 book-of-made t w t₁ w₁ z y e (made v) = made-book t v _ (begins _ _ v) e
-book-of-made t w t₁ w₁ z y e (notSound d q n) = absurd q
+book-of-made t w t₁ w₁ z y e (not_sound d q n) = absurd q
 book-of-made t w t₁ w₁ z y e (performed d s q l) = absurd q
 
 -- THEOREM: any call keeps it
 pub book-of-call : (b : Book) (t w t₁ w₁ : List ℕ) (c : Call) (y : Answer) → CallWords c → BookOf b t → After t w c y t₁ w₁ → BookOf (note b c y) t₁
 unfolding note accept
 book-of-call b t w t₁ w₁ c y u h (made z) = noted-book b t z _ (begins _ _ z) h
-book-of-call b t w t₁ w₁ c y u h (notSound d p n) = h
+book-of-call b t w t₁ w₁ c y u h (not_sound d p n) = h
 book-of-call b t w t₁ w₁ c y u h (performed d s p l) =
     let q = matches-step b s d u l.sound (book-of-state b t w s h l) in
     record { state = (step s d).1; tables = refl; sound = q.1; matches = q.0 }
 
 -- THEOREM: any chain of calls keeps it
-pub book-of-chain : (b : Book) (t t₂ : List ℕ) (cs : List Call) (ys : List Answer) → Each CallWords cs → BookOf b t → Chain t cs ys t₂ → BookOf (noteAll b cs ys) t₂
-unfolding noteAll
+pub book-of-chain : (b : Book) (t t₂ : List ℕ) (cs : List Call) (ys : List Answer) → Each CallWords cs → BookOf b t → Chain t cs ys t₂ → BookOf (note_all b cs ys) t₂
+unfolding note_all
 book-of-chain b t t₂ cs ys u h Chain.start = h
 book-of-chain b t t₂ cs ys u h (Chain.next x r) = book-of-chain _ _ t₂ _ _ u.1 (book-of-call b t _ _ _ _ _ u.0 h x) r
 

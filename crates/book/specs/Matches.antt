@@ -3,10 +3,10 @@ use Rattle.std.specs.Prelude.{◌≡◌, refl, ℕ, zero, suc, ◌<◌, true, fa
 use Rattle.std.proofs.Common.{ap}
 use Rattle.std.proofs.Math.Option
 use Rattle.std.proofs.Math.Option.{Option, none, some}
-use Rattle.model.specs.Lists.{is_some, atSlot}
-use Rattle.model.specs.State.{State, Pool, Handle, Capa, noCapa, region, regionRevoke, management, channel, LocalList, Domain, Region, noneRegion, parent_of}
-use Rattle.model.specs.Pool.{isLive, handle_of}
-use Rattle.book.specs.Book.{Book, Noted, Held, emptied, regionOf, revokeOf, managementOf, channelOf, Slots, Opened, noted, open_at}
+use Rattle.model.specs.Lists.{is_some, at_slot}
+use Rattle.model.specs.State.{State, Pool, Handle, Capa, no_capa, region, region_revoke, management, channel, LocalList, Domain, Region, none_region, parent_of}
+use Rattle.model.specs.Pool.{is_live, handle_of}
+use Rattle.book.specs.Book.{Book, Noted, Held, emptied, region_of, revoke_of, management_of, channel_of, Slots, Opened, noted, open_at}
 use Rattle.book.specs.Demand3.{SameRegion}
 
 -- ---- two lists, element by element
@@ -48,20 +48,20 @@ module _ {A B : Type 0} where
 
 -- What a slot holds in the book and in the tables: P holds of a place and its region's handle. A domain is named by the same handle on both sides.
 pub data SameHeld (P : ℕ → Handle → Type 0) : Option Held → Option Capa → Type 0 where
-  sameFree : SameHeld P none none
-  sameEmptied : SameHeld P (some emptied) (some noCapa)
-  sameRegion : {k : ℕ} {h : Handle} → P k h → SameHeld P (some (regionOf k)) (some (region h))
-  sameRevoke : {k : ℕ} {h : Handle} → P k h → SameHeld P (some (revokeOf k)) (some (regionRevoke h))
-  sameManagement : {h : Handle} → SameHeld P (some (managementOf h)) (some (management h))
-  sameChannel : {h : Handle} → SameHeld P (some (channelOf h)) (some (channel h))
+  same_free : SameHeld P none none
+  same_emptied : SameHeld P (some emptied) (some no_capa)
+  same_region : {k : ℕ} {h : Handle} → P k h → SameHeld P (some (region_of k)) (some (region h))
+  same_revoke : {k : ℕ} {h : Handle} → P k h → SameHeld P (some (revoke_of k)) (some (region_revoke h))
+  same_management : {h : Handle} → SameHeld P (some (management_of h)) (some (management h))
+  same_channel : {h : Handle} → SameHeld P (some (channel_of h)) (some (channel h))
 
 pub same_map : {P P' : ℕ → Handle → Type 0} → ((k : ℕ) (h : Handle) → P k h → P' k h) → (x : Option Held) (y : Option Capa) → SameHeld P x y → SameHeld P' x y
-same_map f x y sameFree = sameFree
-same_map f x y sameEmptied = sameEmptied
-same_map f x y (sameRegion p) = sameRegion (f _ _ p)
-same_map f x y (sameRevoke p) = sameRevoke (f _ _ p)
-same_map f x y sameManagement = sameManagement
-same_map f x y sameChannel = sameChannel
+same_map f x y same_free = same_free
+same_map f x y same_emptied = same_emptied
+same_map f x y (same_region p) = same_region (f _ _ p)
+same_map f x y (same_revoke p) = same_revoke (f _ _ p)
+same_map f x y same_management = same_management
+same_map f x y same_channel = same_channel
 
 -- slots that hold the same, and the same stack of free slots
 pub record SameSlots (P : ℕ → Handle → Type 0) (l : Slots) (m : LocalList) : Type 0 where
@@ -70,16 +70,16 @@ pub record SameSlots (P : ℕ → Handle → Type 0) (l : Slots) (m : LocalList)
 
 -- a domain is open in the book where it is live in the tables, with the same slots
 pub data SameList (P : ℕ → Handle → Type 0) : Option Opened → Option Domain → Type 0 where
-  notOpened : SameList P none none
-  isOpened : {o : Opened} {x : Domain} → SameSlots P o.slots x.locals → SameList P (some o) (some x)
+  not_opened : SameList P none none
+  is_opened : {o : Opened} {x : Domain} → SameSlots P o.slots x.locals → SameList P (some o) (some x)
 
 module _ {P P' : ℕ → Handle → Type 0} (f : (k : ℕ) (h : Handle) → P k h → P' k h) where
   slots_map : (l : Slots) (m : LocalList) → SameSlots P l m → SameSlots P' l m
   slots_map l m h = record { held = both-map (same_map f) h.held; stack = h.stack }
 
   pub list-map : (x : Option Opened) (y : Option Domain) → SameList P x y → SameList P' x y
-  list-map x y notOpened = notOpened
-  list-map x y (isOpened h) = isOpened (slots_map _ _ h)
+  list-map x y not_opened = not_opened
+  list-map x y (is_opened h) = is_opened (slots_map _ _ h)
 
 -- ---- the relation
 
@@ -90,24 +90,24 @@ AtPlace rs at k h = (k < length rs) × h ≡ at k
 -- `at` gives the slot and generation in which the region of a place stands or stood, `place` the place of what stands in a slot.
 pub record Regions (rs : List Noted) (p : Pool) (gs : List (Option Region)) (at : ℕ → Handle) (place : ℕ → ℕ) : Type 0 where
   -- alive in the book is live in the tables; a handle of a dead one is older than its slot's generation
-  pub aliveIsLive : (k : ℕ) → k < length rs → (noted rs k).alive ≡ isLive p gs (at k)
-  pub deadIsOlder : (k : ℕ) → k < length rs → (noted rs k).alive ≡ false → (at k).generation < get_or p.gens (at k).slot 0
+  pub alive_is_live : (k : ℕ) → k < length rs → (noted rs k).alive ≡ is_live p gs (at k)
+  pub dead_is_older : (k : ℕ) → k < length rs → (noted rs k).alive ≡ false → (at k).generation < get_or p.gens (at k).slot 0
   -- a live region is stored as the book has it, and stored ones are the book's
-  pub stored : (k : ℕ) → k < length rs → (noted rs k).alive ≡ true → SameRegion (λ j. (at j).slot) (noted rs k) (Option.get_or (atSlot gs (at k).slot) noneRegion)
-  pub back : (i : ℕ) → is_some (atSlot gs i) ≡ true → (place i < length rs) × at (place i) ≡ handle_of p i
+  pub stored : (k : ℕ) → k < length rs → (noted rs k).alive ≡ true → SameRegion (λ j. (at j).slot) (noted rs k) (Option.get_or (at_slot gs (at k).slot) none_region)
+  pub back : (i : ℕ) → is_some (at_slot gs i) ≡ true → (place i < length rs) × at (place i) ≡ handle_of p i
   pub one : (k : ℕ) → k < length rs → (noted rs k).alive ≡ true → place (at k).slot ≡ k
   -- a parent comes first, and lives while its child does
-  pub parentEarlier : (k q : ℕ) → k < length rs → parent_of (noted rs k).kind ≡ some q → q < k
-  pub parentLives : (k q : ℕ) → k < length rs → (noted rs k).alive ≡ true → parent_of (noted rs k).kind ≡ some q → (noted rs q).alive ≡ true
+  pub parent_earlier : (k q : ℕ) → k < length rs → parent_of (noted rs k).kind ≡ some q → q < k
+  pub parent_lives : (k q : ℕ) → k < length rs → (noted rs k).alive ≡ true → parent_of (noted rs k).kind ≡ some q → (noted rs q).alive ≡ true
   -- no root dies: what the total of demand 3 needs
-  pub rootsLive : (k : ℕ) → k < length rs → parent_of (noted rs k).kind ≡ none → (noted rs k).alive ≡ true
+  pub roots_live : (k : ℕ) → k < length rs → parent_of (noted rs k).kind ≡ none → (noted rs k).alive ≡ true
 
 -- The same sizes, the regions matched, each domain's slots the same, and an open domain's generation that of its slot.
 pub record MatchesAt (b : Book) (s : State) (at : ℕ → Handle) (place : ℕ → ℕ) : Type 0 where
   pub sizes : b.sizes ≡ s.sizes
-  pub regions : Regions b.regions s.regionPool s.regions at place
+  pub regions : Regions b.regions s.region_pool s.regions at place
   pub lists : Both (SameList (AtPlace b.regions at)) b.lists s.domains
-  pub generations : (d : ℕ) → is_some (atSlot s.domains d) ≡ true → (open_at b d).generation ≡ get_or s.domainPool.gens d 0
+  pub generations : (d : ℕ) → is_some (at_slot s.domains d) ≡ true → (open_at b d).generation ≡ get_or s.domain_pool.gens d 0
 
 -- Book and tables match: at some handles and places.
 pub record Matches (b : Book) (s : State) : Type 0 where

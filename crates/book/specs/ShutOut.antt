@@ -6,17 +6,17 @@ use Rattle.std.proofs.Math.Option.{none}
 use Rattle.std.proofs.Common.{arith}
 use Rattle.model.specs.Lists.{Each}
 use Rattle.model.specs.Outcome.{Outcome, ok, refuse}
-use Rattle.model.specs.State.{State, Sizes, Access, domainAt, putDomain, withTracker, withRecordPool}
+use Rattle.model.specs.State.{State, Sizes, Access, domain_at, put_domain, with_tracker, with_record_pool}
 use Rattle.model.specs.Fields.{Field, fields, get}
-use Rattle.model.specs.Counts.{storedCounts}
+use Rattle.model.specs.Counts.{stored_counts}
 use Rattle.model.specs.Regions.{activate}
-use Rattle.model.specs.Making.{makeTables, emptyTables}
+use Rattle.model.specs.Making.{make_tables, empty_tables}
 use Rattle.model.specs.Perform.{Step, Call, Answer, step, run}
 use Rattle.model.specs.CallWords.{CallWords}
 use Rattle.model.specs.Checked.Compute.{computing}
 use Rattle.model.specs.Checked.Script.{dom, access}
 use Rattle.book.specs.Book.{blank}
-use Rattle.book.specs.Demand3.{noteAll, bookCount, Claims}
+use Rattle.book.specs.Demand3.{note_all, book_count, Claims}
 use Rattle.book.specs.Theorem.{demand3}
 use Rattle.book.specs.Example.{noting, sizes}
 
@@ -33,46 +33,46 @@ run_by e s (c ∷ cs) = let x = e s c in let y = run_by e x.1 cs in (x.0 ∷ y.0
 
 -- Demand 3 with the engine e in the model's place.
 abbrev pub Demand3Of : Engine → Type 0
-Demand3Of e = (z : Sizes) (s : State) (cs : List Call) → makeTables z ≡ ok s → Each CallWords cs → Claims (noteAll (blank z) cs (run_by e s cs).0) (run_by e s cs).1
+Demand3Of e = (z : Sizes) (s : State) (cs : List Call) → make_tables z ≡ ok s → Each CallWords cs → Claims (note_all (blank z) cs (run_by e s cs).0) (run_by e s cs).1
 
 -- ---- two wrong engines
 
 -- The model's, but for what a carve leaves: by the domain, the range with its rights, and the tables before and after it.
-abbrev behindCarve : (ℕ → Access → State → State → State) → State → Call → State → State
-behindCarve f s (Call.Do (Step.Carve h l a)) t = f h.slot a s t
-behindCarve f s (Call.Do (Step.Open m cores)) t = t
-behindCarve f s (Call.Do (Step.Channel h to)) t = t
-behindCarve f s (Call.Do (Step.SetCoreMap h cores)) t = t
-behindCarve f s (Call.Do (Step.SetInterface h word)) t = t
-behindCarve f s (Call.Do (Step.FreezeInterface h)) t = t
-behindCarve f s (Call.Do (Step.Root h a)) t = t
-behindCarve f s (Call.Do (Step.Alias h l a)) t = t
-behindCarve f s (Call.Do (Step.Send h l target o)) t = t
-behindCarve f s (Call.Do (Step.Revoke h l)) t = t
-behindCarve f s (Call.Do (Step.CreateRevokeCapa h l)) t = t
-behindCarve f s (Call.Make z) t = t
-behindCarve f s Call.Pop t = t
-behindCarve f s (Call.Read r) t = t
+abbrev behind_carve : (ℕ → Access → State → State → State) → State → Call → State → State
+behind_carve f s (Call.Do (Step.Carve h l a)) t = f h.slot a s t
+behind_carve f s (Call.Do (Step.Open m cores)) t = t
+behind_carve f s (Call.Do (Step.Channel h to)) t = t
+behind_carve f s (Call.Do (Step.SetCoreMap h cores)) t = t
+behind_carve f s (Call.Do (Step.SetInterface h word)) t = t
+behind_carve f s (Call.Do (Step.FreezeInterface h)) t = t
+behind_carve f s (Call.Do (Step.Root h a)) t = t
+behind_carve f s (Call.Do (Step.Alias h l a)) t = t
+behind_carve f s (Call.Do (Step.Send h l target o)) t = t
+behind_carve f s (Call.Do (Step.Revoke h l)) t = t
+behind_carve f s (Call.Do (Step.CreateRevokeCapa h l)) t = t
+behind_carve f s (Call.Make z) t = t
+behind_carve f s Call.Pop t = t
+behind_carve f s (Call.Read r) t = t
 
-abbrev carvingBy : (ℕ → Access → State → State → State) → Engine
-carvingBy f s c = let x = step s c in (x.0, behindCarve f s c x.1)
+abbrev carving_by : (ℕ → Access → State → State → State) → Engine
+carving_by f s c = let x = step s c in (x.0, behind_carve f s c x.1)
 
 -- tables t, with domain d's tracker and the record pool as they were in s
-abbrev trackerOf : ℕ → State → State → State
-trackerOf d s t = withRecordPool s.recordPool (putDomain d (withTracker (domainAt s d).tracker (domainAt t d)) t)
+abbrev tracker_of : ℕ → State → State → State
+tracker_of d s t = with_record_pool s.record_pool (put_domain d (with_tracker (domain_at s d).tracker (domain_at t d)) t)
 
 -- A carve edits the tree and leaves the tracker.
-abbrev pub leavesTracker : Engine
-leavesTracker = carvingBy (λ d a s t. trackerOf d s t)
+abbrev pub leaves_tracker : Engine
+leaves_tracker = carving_by (λ d a s t. tracker_of d s t)
 
 -- the tables of an accepted step
-abbrev tablesOr : State → Outcome State → State
-tablesOr s (ok t) = t
-tablesOr s (refuse r) = s
+abbrev tables_or : State → Outcome State → State
+tables_or s (ok t) = t
+tables_or s (refuse r) = s
 
 -- A carve's range is gained once more: a reach that no region gives.
-abbrev pub inventsReach : Engine
-inventsReach = carvingBy (λ d a s t. tablesOr t (activate [] d a t))
+abbrev pub invents_reach : Engine
+invents_reach = carving_by (λ d a s t. tables_or t (activate [] d a t))
 
 -- ---- a list of calls
 
@@ -91,7 +91,7 @@ calls =
 calls-words : Each CallWords calls
 calls-words = omega arith
 
-made : makeTables (sizes 1 4) ≡ ok (emptyTables (sizes 1 4))
+made : make_tables (sizes 1 4) ≡ ok (empty_tables (sizes 1 4))
 unfolding computing
 made = refl
 
@@ -100,8 +100,8 @@ made = refl
 -- reach, READ, WRITE, EXEC and SUPER of domain 0 after the calls, as stored and by the book
 abbrev counts : Engine → List ℕ × List ℕ
 counts e =
-    let x = run_by e (emptyTables (sizes 1 4)) calls in
-    (map (λ f. get f (storedCounts x.1 0 4)) fields, map (λ f. bookCount (noteAll (blank (sizes 1 4)) calls x.0) f 0 4) fields)
+    let x = run_by e (empty_tables (sizes 1 4)) calls in
+    (map (λ f. get f (stored_counts x.1 0 4)) fields, map (λ f. book_count (note_all (blank (sizes 1 4)) calls x.0) f 0 4) fields)
 
 -- the engine whose counts they are
 abbrev engine : Engine
@@ -124,11 +124,11 @@ pub holds-of-model : Demand3Of step
 holds-of-model z s cs e w = rw (same-run s cs) (demand3 z s cs e w)
 
 -- THEOREM: it does not hold where a carve leaves the tracker: WRITE is stored at 4, and no region gives it
-pub shuts-out-left-tracker : Demand3Of leavesTracker → ⊥
+pub shuts-out-left-tracker : Demand3Of leaves_tracker → ⊥
 unfolding noting
-shuts-out-left-tracker h = let e : ◌≡◌ {A = ℕ} 1 0 = (h (sizes 1 4) (emptyTables (sizes 1 4)) calls made calls-words).counted Field.Write 0 4 in omega arith
+shuts-out-left-tracker h = let e : ◌≡◌ {A = ℕ} 1 0 = (h (sizes 1 4) (empty_tables (sizes 1 4)) calls made calls-words).counted Field.Write 0 4 in omega arith
 
 -- THEOREM: nor where a reach is invented: 2 is stored at 4, and one region gives it
-pub shuts-out-invented-reach : Demand3Of inventsReach → ⊥
+pub shuts-out-invented-reach : Demand3Of invents_reach → ⊥
 unfolding noting
-shuts-out-invented-reach h = let e : ◌≡◌ {A = ℕ} 2 1 = (h (sizes 1 4) (emptyTables (sizes 1 4)) calls made calls-words).counted Field.Reach 0 4 in omega arith
+shuts-out-invented-reach h = let e : ◌≡◌ {A = ℕ} 2 1 = (h (sizes 1 4) (empty_tables (sizes 1 4)) calls made calls-words).counted Field.Reach 0 4 in omega arith

@@ -3,7 +3,7 @@ use Rattle.std.specs.Prelude.{◌≡◌, refl, ℕ, zero, suc, ◌<◌, Bool, tr
 use Rattle.std.proofs.Common.{sym, arith}
 use Rattle.std.proofs.Math.Option.{Option, none, some, get_or}
 use Rattle.base.specs.Tests.{true-is}
-use Rattle.model.specs.Lists.{is_some, atSlot}
+use Rattle.model.specs.Lists.{is_some, at_slot}
 use Rattle.book.specs.Book.{Noted, noted}
 
 pub and_left : (c e : Bool) → (c && e) ≡ true → c ≡ true
@@ -35,14 +35,14 @@ some_is none d h = absurd (true-is h)
 some_is (some a) d h = refl
 
 -- a slot in use is given another value
-pub set-some : {A : Type 0} (gs : List (Option A)) (q : ℕ) (g : A) → is_some (atSlot gs q) ≡ true → (j : ℕ) → is_some (atSlot (set gs q (some g)) j) ≡ is_some (atSlot gs j)
+pub set-some : {A : Type 0} (gs : List (Option A)) (q : ℕ) (g : A) → is_some (at_slot gs q) ≡ true → (j : ℕ) → is_some (at_slot (set gs q (some g)) j) ≡ is_some (at_slot gs j)
 set-some [] q g i j = refl
 set-some (x ∷ gs) zero g i zero = sym i
 set-some (x ∷ gs) zero g i (suc j) = refl
 set-some (x ∷ gs) (suc q) g i zero = refl
 set-some (x ∷ gs) (suc q) g i (suc j) = set-some gs q g i j
 
-pub some_below : {A : Type 0} (gs : List (Option A)) (q : ℕ) → is_some (atSlot gs q) ≡ true → q < length gs
+pub some_below : {A : Type 0} (gs : List (Option A)) (q : ℕ) → is_some (at_slot gs q) ≡ true → q < length gs
 some_below [] q h = absurd (true-is h)
 some_below (x ∷ gs) zero h = omega arith
 some_below (x ∷ gs) (suc q) h = let u = some_below gs q h in omega arith

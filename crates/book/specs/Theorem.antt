@@ -7,8 +7,8 @@ use Rattle.model.specs.Outcome.{Outcome, ok, refuse}
 use Rattle.refusals.specs.declared.Refusal.{Refusal}
 use Rattle.model.specs.State.{State, Sizes}
 use Rattle.model.specs.Fields.{Field, get, passes}
-use Rattle.model.specs.Making.{makeTables}
-use Rattle.model.specs.Counts.{storedCounts}
+use Rattle.model.specs.Making.{make_tables}
+use Rattle.model.specs.Counts.{stored_counts}
 use Rattle.model.specs.Perform.{Call, step, run}
 use Rattle.model.specs.CallWords.{CallWords}
 use Rattle.model.specs.Sound.{Sound}
@@ -17,7 +17,7 @@ use Rattle.laws.specs.Empty.{empty-sound}
 use Rattle.laws.specs.SoundKept.{sound-kept}
 use Rattle.laws.specs.Tree.Stored.{stored, stored-total, stored-root}
 use Rattle.book.specs.Book.{Book, blank, note}
-use Rattle.book.specs.Demand3.{noteAll, noteTally, isRootOver, sum_to, Claims, Demand3}
+use Rattle.book.specs.Demand3.{note_all, note_tally, is_root_over, sum_to, Claims, Demand3}
 use Rattle.book.specs.Matches.{Matches}
 use Rattle.book.specs.Make.{make-match}
 use Rattle.book.specs.Calls.{perform-match, after-match}
@@ -45,8 +45,8 @@ from-ok P s (refuse r) refused e = absurd (no_ok r s e)
     no_ok r s e = subst is e tt
 
 -- THEOREM: an accepted making begins it
-pub matches-made : (z : Sizes) (s : State) → makeTables z ≡ ok s → Matches (blank z) s × Sound s
-matches-made z s e = from-ok (λ t. Matches (blank z) t × Sound t) s (makeTables z) (both (make-match z) (empty-sound z)) e
+pub matches-made : (z : Sizes) (s : State) → make_tables z ≡ ok s → Matches (blank z) s × Sound s
+matches-made z s e = from-ok (λ t. Matches (blank z) t × Sound t) s (make_tables z) (both (make-match z) (empty-sound z)) e
 
 -- ---- calls
 
@@ -56,25 +56,25 @@ unfolding step
 matches-step b s c w sound m = after-match b s c _ (both (perform-match b s c sound m) (sound-kept s c sound w)) sound m
 
 -- THEOREM: the same after any list of calls
-pub matches-run : (b : Book) (s : State) (cs : List Call) → Each CallWords cs → Sound s → Matches b s → Matches (noteAll b cs (run s cs).0) (run s cs).1 × Sound (run s cs).1
-unfolding run noteAll
+pub matches-run : (b : Book) (s : State) (cs : List Call) → Each CallWords cs → Sound s → Matches b s → Matches (note_all b cs (run s cs).0) (run s cs).1 × Sound (run s cs).1
+unfolding run note_all
 matches-run b s [] w sound m = (m, sound)
 matches-run b s (c ∷ cs) w sound m = let q = matches-step b s c w.0 sound m in matches-run _ _ cs w.1 q.1 q.0
 
 -- ---- the claims
 
 module _ (b : Book) (s : State) (sound : Sound s) (m : Matches b s) where
-  counted : (f : Field) (d a : ℕ) → get f (storedCounts s d a) ≡ noteTally b.regions d a (passes f) 0 b.regions
+  counted : (f : Field) (d a : ℕ) → get f (stored_counts s d a) ≡ note_tally b.regions d a (passes f) 0 b.regions
   counted f d a = stored s sound a f d ∙ sym (tally-same-as b s m d a (passes f))
 
-  from-root : (f : Field) (d a : ℕ) → 0 < get f (storedCounts s d a) → T (exists (λ r. isRootOver a r && passes f r.rights) b.regions)
+  from-root : (f : Field) (d a : ℕ) → 0 < get f (stored_counts s d a) → T (exists (λ r. is_root_over a r && passes f r.rights) b.regions)
   from-root f d a h = root-had b s m f a (stored-root s sound a f d h)
 
   -- THEOREM: where book and tables match and the tables are sound, all claims hold
   pub matches-claims : Claims b s
   matches-claims = record {
     counted = counted;
-    total = λ a. ap (λ (z : Sizes). sum_to z.domains (λ d. (storedCounts s d a).reach)) m.fits.sizes ∙ sum_is (λ d. (storedCounts s d a).reach) s.sizes.domains ∙ stored-total s sound a ∙ sym (ap₂ ◌+◌ (roots-same b s m a) (aliases-same b s m a));
+    total = λ a. ap (λ (z : Sizes). sum_to z.domains (λ d. (stored_counts s d a).reach)) m.fits.sizes ∙ sum_is (λ d. (stored_counts s d a).reach) s.sizes.domains ∙ stored-total s sound a ∙ sym (ap₂ ◌+◌ (roots-same b s m a) (aliases-same b s m a));
     rooted = from-root;
     regions = one-for-one b s m;
   }

@@ -4,7 +4,7 @@ use send_options::SendOptions;
 use tables::Handle;
 
 // A part of the region in `local`, with its range and rights.
-#[derive(Drop)]
+#[derive(Clone, Copy)]
 pub struct Child {
     pub domain: Handle,
     pub local: usize,
@@ -12,7 +12,7 @@ pub struct Child {
 }
 
 // The constructors are the model's, in its order; an opening has a manager or none.
-#[derive(Drop)]
+#[derive(Clone, Copy)]
 pub enum Call {
     Open(u64),
     OpenUnder(Handle, u64),

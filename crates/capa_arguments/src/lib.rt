@@ -1,10 +1,10 @@
 // The calls about capabilities, built of the plain arguments that an exported function takes.
 ghost use Rattle.std.specs.Prelude.{◌≡◌};
-ghost use Rattle.model.specs.State.{noOptions};
+ghost use Rattle.model.specs.State.{no_options};
 ghost use Rattle.model.specs.Perform.{Step};
 ghost use Rattle.model.specs.CallWords.{StepWords};
-ghost use Rattle.call.specs.Arguments.{handle, hashIn, with_flags, withHash};
-ghost use Rattle.call.specs.Steps.{stepNamed};
+ghost use Rattle.call.specs.Arguments.{handle, hash_in, with_flags, with_hash};
+ghost use Rattle.call.specs.Steps.{step_named};
 
 use call::Call;
 use rights::Rights;
@@ -13,8 +13,8 @@ use tables::{Handle, Hash};
 
 // Without a flag word and a hash.
 pub fn send(domain: u64, generation: u64, local: u64, target: u64) -> Call
-    ensures result_value { stepNamed result ≡ Step.Send (handle domain generation) local target noOptions }
-    ensures step_words { StepWords (stepNamed result) }
+    ensures result_value { step_named result ≡ Step.Send (handle domain generation) local target no_options }
+    ensures step_words { StepWords (step_named result) }
 {
     let domain = Handle {
         slot: domain,
@@ -25,8 +25,8 @@ pub fn send(domain: u64, generation: u64, local: u64, target: u64) -> Call
 
 // With a flag word and no hash.
 pub fn send_with_flags(domain: u64, generation: u64, local: u64, target: u64, flags: u8) -> Call
-    ensures result_value { stepNamed result ≡ Step.Send (handle domain generation) local target (with_flags flags) }
-    ensures step_words { StepWords (stepNamed result) }
+    ensures result_value { step_named result ≡ Step.Send (handle domain generation) local target (with_flags flags) }
+    ensures step_words { StepWords (step_named result) }
 {
     let domain = Handle {
         slot: domain,
@@ -39,13 +39,13 @@ pub fn send_with_flags(domain: u64, generation: u64, local: u64, target: u64, fl
 
 // The four words of 32 bytes.
 fn hash_of(h: &[u8; 32]) -> Hash
-    ensures { result ≡ record { word0 = (hashIn h.now).word0; word1 = (hashIn h.now).word1; word2 = (hashIn h.now).word2; word3 = (hashIn h.now).word3 } }
+    ensures { result ≡ record { word0 = (hash_in h.now).word0; word1 = (hash_in h.now).word1; word2 = (hash_in h.now).word2; word3 = (hash_in h.now).word3 } }
 {
     Hash {
-        word0: bytes::eight(h, 0),
-        word1: bytes::eight(h, 8),
-        word2: bytes::eight(h, 16),
-        word3: bytes::eight(h, 24),
+        word0: byte_numbers::eight(h, 0),
+        word1: byte_numbers::eight(h, 8),
+        word2: byte_numbers::eight(h, 16),
+        word3: byte_numbers::eight(h, 24),
     }
 }
 
@@ -58,8 +58,8 @@ pub fn send_with_hash(
     flags: u8,
     hash: &[u8; 32],
 ) -> Call
-    ensures result_value { stepNamed result ≡ Step.Send (handle domain generation) local target (withHash flags (hashIn hash.now)) }
-    ensures step_words { StepWords (stepNamed result) }
+    ensures result_value { step_named result ≡ Step.Send (handle domain generation) local target (with_hash flags (hash_in hash.now)) }
+    ensures step_words { StepWords (step_named result) }
 {
     let domain = Handle {
         slot: domain,
@@ -71,8 +71,8 @@ pub fn send_with_hash(
 }
 
 pub fn revoke(domain: u64, generation: u64, local: u64) -> Call
-    ensures result_value { stepNamed result ≡ Step.Revoke (handle domain generation) local }
-    ensures step_words { StepWords (stepNamed result) }
+    ensures result_value { step_named result ≡ Step.Revoke (handle domain generation) local }
+    ensures step_words { StepWords (step_named result) }
 {
     let domain = Handle {
         slot: domain,
@@ -82,8 +82,8 @@ pub fn revoke(domain: u64, generation: u64, local: u64) -> Call
 }
 
 pub fn create_revoke_capa(domain: u64, generation: u64, local: u64) -> Call
-    ensures result_value { stepNamed result ≡ Step.CreateRevokeCapa (handle domain generation) local }
-    ensures step_words { StepWords (stepNamed result) }
+    ensures result_value { step_named result ≡ Step.CreateRevokeCapa (handle domain generation) local }
+    ensures step_words { StepWords (step_named result) }
 {
     let domain = Handle {
         slot: domain,

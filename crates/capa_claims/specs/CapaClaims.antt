@@ -9,9 +9,9 @@ use Rattle.tables.specs.declared.Handle.{Handle}
 use Rattle.tables.specs.declared.Slot.{Slot}
 use Rattle.tables.specs.declared.RegionCapa.{RegionCapa}
 use Rattle.tables.specs.Kinds.{REGION, REGION_REVOKE, MANAGEMENT, CHANNEL, ROOT}
-use Rattle.tables.specs.Tables.{Tables, Arena, regionAt}
-use Rattle.arena.specs.Arena.{liveB, olderB}
-use Rattle.managers.specs.Managers.{managerOf, climbed}
+use Rattle.tables.specs.Tables.{Tables, Arena, region_at}
+use Rattle.arena.specs.Arena.{live_b, older_b}
+use Rattle.managers.specs.Managers.{manager_of, climbed}
 
 -- ---- numbers and links
 
@@ -24,49 +24,49 @@ abbrev pub wrong : Sizes → ℕ
 wrong z = z.regions + z.domains + 1
 
 -- the link names slot d
-abbrev pub namesB : ℕ → ℕ → Bool
-namesB l d = both (ltb 0 l) (eqb (l - 1) d)
+abbrev pub names_b : ℕ → ℕ → Bool
+names_b l d = both (ltb 0 l) (eqb (l - 1) d)
 
 -- what a handle claims: `live` where it is live, nothing where it is older than its slot's generation
-unfoldable pub claimBy : ℕ → Arena → Handle → ℕ → ℕ
-claimBy bad a h live = pick (liveB a h) live (pick (olderB a h) 0 bad)
+unfoldable pub claim_by : ℕ → Arena → Handle → ℕ → ℕ
+claim_by bad a h live = pick (live_b a h) live (pick (older_b a h) 0 bad)
 
 -- ---- a slot of domain d
 
 -- what slots and heads are held to: the sizes, the pools of regions and domains, the rows of regions, each domain's link to its manager
 pub record Named : Type 0 where
   pub sizes : Sizes
-  pub regionPool : Arena
-  pub domainPool : Arena
+  pub region_pool : Arena
+  pub domain_pool : Arena
   pub region : ℕ → RegionCapa
   pub manager : ℕ → ℕ
 
 abbrev pub named : Tables → Named
-named v = record { sizes = v.sizes; regionPool = v.regionPool; domainPool = v.domainPool; region = regionAt v; manager = managerOf v }
+named v = record { sizes = v.sizes; region_pool = v.region_pool; domain_pool = v.domain_pool; region = region_at v; manager = manager_of v }
 
 -- "each live region has one Region slot, in its domain"
-unfoldable pub regionClaim : Sizes → Arena → (ℕ → RegionCapa) → ℕ → Handle → ℕ
-regionClaim z a region d h = claimBy (wrong z) a h (pick (namesB (region h.slot).owner d) (number (wrong z) 0 z.regions h.slot) (wrong z))
+unfoldable pub region_claim : Sizes → Arena → (ℕ → RegionCapa) → ℕ → Handle → ℕ
+region_claim z a region d h = claim_by (wrong z) a h (pick (names_b (region h.slot).owner d) (number (wrong z) 0 z.regions h.slot) (wrong z))
 
 -- "no RegionRevoke names a live root"
-unfoldable pub revokeClaim : Sizes → Arena → (ℕ → RegionCapa) → Handle → ℕ
-revokeClaim z a region h = claimBy (wrong z) a h (pick (eqb (region h.slot).kind ROOT) (wrong z) 0)
+unfoldable pub revoke_claim : Sizes → Arena → (ℕ → RegionCapa) → Handle → ℕ
+revoke_claim z a region h = claim_by (wrong z) a h (pick (eqb (region h.slot).kind ROOT) (wrong z) 0)
 
 -- "each live managed domain has one Management slot, in its manager's list"
-unfoldable pub managementClaim : Sizes → Arena → (ℕ → ℕ) → ℕ → Handle → ℕ
-managementClaim z a manager d h = claimBy (wrong z) a h (pick (namesB (manager h.slot) d) (number (wrong z) z.regions z.domains h.slot) (wrong z))
+unfoldable pub management_claim : Sizes → Arena → (ℕ → ℕ) → ℕ → Handle → ℕ
+management_claim z a manager d h = claim_by (wrong z) a h (pick (names_b (manager h.slot) d) (number (wrong z) z.regions z.domains h.slot) (wrong z))
 
 -- a channel names any domain
-unfoldable pub slotClaim : Named → ℕ → Slot → ℕ
-slotClaim n d x =
-    pick (eqb x.kind REGION) (regionClaim n.sizes n.regionPool n.region d x.handle)
-    (pick (eqb x.kind REGION_REVOKE) (revokeClaim n.sizes n.regionPool n.region x.handle)
-    (pick (eqb x.kind MANAGEMENT) (managementClaim n.sizes n.domainPool n.manager d x.handle)
-    (pick (eqb x.kind CHANNEL) (claimBy (wrong n.sizes) n.domainPool x.handle 0) 0)))
+unfoldable pub slot_claim : Named → ℕ → Slot → ℕ
+slot_claim n d x =
+    pick (eqb x.kind REGION) (region_claim n.sizes n.region_pool n.region d x.handle)
+    (pick (eqb x.kind REGION_REVOKE) (revoke_claim n.sizes n.region_pool n.region x.handle)
+    (pick (eqb x.kind MANAGEMENT) (management_claim n.sizes n.domain_pool n.manager d x.handle)
+    (pick (eqb x.kind CHANNEL) (claim_by (wrong n.sizes) n.domain_pool x.handle 0) 0)))
 
 -- ---- a domain's head
 
 -- "managers form no circle"; an unmanaged domain claims itself, since no slot may
-unfoldable pub headClaim : Sizes → (ℕ → ℕ) → ℕ → ℕ
-headClaim z manager d =
+unfoldable pub head_claim : Sizes → (ℕ → ℕ) → ℕ → ℕ
+head_claim z manager d =
     pick (eqb (climbed manager z.domains (manager d)) 0) (pick (eqb (manager d) 0) (number (wrong z) z.regions z.domains d) 0) (wrong z)

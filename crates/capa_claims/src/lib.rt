@@ -2,10 +2,10 @@
 // domains `dl`, `dg`, and the section of domains `p`.
 ghost use Rattle.std.specs.Prelude.{◌≡◌, ◌+◌, ◌≤◌};
 ghost use Rattle.sizes.specs.Limits.{Limits};
-ghost use Rattle.arena.specs.Arena.{liveB};
-ghost use Rattle.sections.specs.Rows.{regionIn};
-ghost use Rattle.managers.specs.Managers.{managerIn};
-ghost use Rattle.capa_claims.specs.CapaClaims.{number, wrong, namesB, claimBy, regionClaim, revokeClaim, managementClaim, slotClaim, headClaim};
+ghost use Rattle.arena.specs.Arena.{live_b};
+ghost use Rattle.sections.specs.Rows.{region_in};
+ghost use Rattle.managers.specs.Managers.{manager_in};
+ghost use Rattle.capa_claims.specs.CapaClaims.{number, wrong, names_b, claim_by, region_claim, revoke_claim, management_claim, slot_claim, head_claim};
 ghost use Rattle.capa_claims.specs.Lent.{pooled, lent};
 
 use sizes::Sizes;
@@ -22,7 +22,7 @@ fn number_of(wrong: usize, base: usize, n: usize, i: u64) -> usize
 
 // Whether the link names slot d.
 fn names(l: u64, d: usize) -> bool
-    ensures { result ≡ namesB l d }
+    ensures { result ≡ names_b l d }
 {
     if 0 < l { l - 1 == d as u64 } else { false }
 }
@@ -36,7 +36,7 @@ fn wrong_of(z: Sizes) -> usize
 
 // Whether the handle's slot is in use and has its generation.
 fn is_live(l: &[u64], g: &[u64], h: Handle) -> bool
-    ensures { result ≡ liveB (pooled l.now g.now) h }
+    ensures { result ≡ live_b (pooled l.now g.now) h }
 {
     let i = h.slot as usize;
     let used = words::word(l, i) == 0;
@@ -46,7 +46,7 @@ fn is_live(l: &[u64], g: &[u64], h: Handle) -> bool
 
 // What a handle claims, `live` where it is live.
 fn claim_by(l: &[u64], g: &[u64], wrong: usize, h: Handle, live: usize) -> usize
-    ensures { result ≡ claimBy wrong (pooled l.now g.now) h live }
+    ensures { result ≡ claim_by wrong (pooled l.now g.now) h live }
 {
     let lives = is_live(l, g, h);
     let older = h.generation < words::word(g, h.slot as usize);
@@ -55,7 +55,7 @@ fn claim_by(l: &[u64], g: &[u64], wrong: usize, h: Handle, live: usize) -> usize
 
 fn region_claim(z: Sizes, rl: &[u64], rg: &[u64], r: &[u64], d: usize, h: Handle) -> usize
     requires { Limits z }
-    ensures { result ≡ regionClaim z (pooled rl.now rg.now) (regionIn r.now) d h }
+    ensures { result ≡ region_claim z (pooled rl.now rg.now) (region_in r.now) d h }
 {
     let bad = wrong_of(z);
     let row = sections::region_in(r, h.slot as usize);
@@ -66,7 +66,7 @@ fn region_claim(z: Sizes, rl: &[u64], rg: &[u64], r: &[u64], d: usize, h: Handle
 
 fn revoke_claim(z: Sizes, rl: &[u64], rg: &[u64], r: &[u64], h: Handle) -> usize
     requires { Limits z }
-    ensures { result ≡ revokeClaim z (pooled rl.now rg.now) (regionIn r.now) h }
+    ensures { result ≡ revoke_claim z (pooled rl.now rg.now) (region_in r.now) h }
 {
     let bad = wrong_of(z);
     let row = sections::region_in(r, h.slot as usize);
@@ -81,7 +81,7 @@ fn revoke_claim(z: Sizes, rl: &[u64], rg: &[u64], r: &[u64], h: Handle) -> usize
 
 fn management_claim(z: Sizes, dl: &[u64], dg: &[u64], p: &[u64], d: usize, h: Handle) -> usize
     requires { Limits z }
-    ensures { result ≡ managementClaim z (pooled dl.now dg.now) (managerIn z p.now) d h }
+    ensures { result ≡ management_claim z (pooled dl.now dg.now) (manager_in z p.now) d h }
 {
     let bad = wrong_of(z);
     let manager = managers::manager_in(z, p, h.slot as usize);
@@ -102,7 +102,7 @@ pub fn slot_claim(
     x: Slot,
 ) -> usize
     requires { Limits z }
-    ensures { result ≡ slotClaim (lent z rl.now rg.now r.now dl.now dg.now p.now) d x }
+    ensures { result ≡ slot_claim (lent z rl.now rg.now r.now dl.now dg.now p.now) d x }
 {
     let kind = x.kind;
     let h = x.handle;
@@ -123,7 +123,7 @@ pub fn slot_claim(
 
 pub fn head_claim(z: Sizes, p: &[u64], d: usize) -> usize
     requires { Limits z }
-    ensures { result ≡ headClaim z (managerIn z p.now) d }
+    ensures { result ≡ head_claim z (manager_in z p.now) d }
 {
     let bad = wrong_of(z);
     let manager = managers::manager_in(z, p, d);

@@ -5,21 +5,21 @@ use Rattle.base.specs.Cases.{pick}
 use Rattle.tables.specs.declared.Handle.{Handle}
 use Rattle.tables.specs.Kinds.{CARVE}
 use Rattle.tables.specs.Interface as interface
-use Rattle.tables.specs.Tables.{Tables, regionAt}
+use Rattle.tables.specs.Tables.{Tables, region_at}
 use Rattle.refusals.specs.Refusals.{beyond}
 use Rattle.answers.specs.Answers.{Effect, done, refused, and_then}
 use Rattle.region.specs.declared.AccessRights.{AccessRights}
-use Rattle.children.specs.Children.{checkChild}
-use Rattle.checks.specs.Checks.{callerWith, regionHeld, roomForRegion}
-use Rattle.region_calls.specs.Calls.{addChild}
-use Rattle.carve_calls.specs.Calls.{exchangeRights, carveRegion}
+use Rattle.children.specs.Children.{check_child}
+use Rattle.checks.specs.Checks.{caller_with, region_held, room_for_region}
+use Rattle.region_calls.specs.Calls.{add_child}
+use Rattle.carve_calls.specs.Calls.{exchange_rights, carve_region}
 
 unfoldable pub carved : ℕ → ℕ → AccessRights → Tables → Effect
 carved d p a s =
-    pick (checkChild false s p a)
-    (and_then (addChild d p CARVE a s) (λ n s₁. and_then (exchangeRights d (regionAt s p).rights a s₁) (λ v. done n))) (refused beyond s)
+    pick (check_child false s p a)
+    (and_then (add_child d p CARVE a s) (λ n s₁. and_then (exchange_rights d (region_at s p).rights a s₁) (λ v. done n))) (refused beyond s)
 
 module _ (h : Handle) (l : ℕ) (a : AccessRights) (s : Tables) where
-  pub carve-is : carveRegion h l a s ≡ and_then (callerWith interface.CARVE h s) (λ d s₁. and_then (regionHeld d l s₁) (λ p s₂. and_then (roomForRegion d a s₂) (λ u. carved d p a)))
-  unfolding carveRegion carved
+  pub carve-is : carve_region h l a s ≡ and_then (caller_with interface.CARVE h s) (λ d s₁. and_then (region_held d l s₁) (λ p s₂. and_then (room_for_region d a s₂) (λ u. carved d p a)))
+  unfolding carve_region carved
   carve-is = refl

@@ -1,7 +1,7 @@
 // Carves.
 ghost use Rattle.std.specs.Prelude.{◌≡◌};
 ghost use Rattle.tables.specs.View.{view, Sized, Left};
-ghost use Rattle.carve_calls.specs.Calls.{exchangeRights, carveRegion};
+ghost use Rattle.carve_calls.specs.Calls.{exchange_rights, carve_region};
 ghost use Rattle.carve_calls.specs.Parts.{carved};
 
 use answers::Answer;
@@ -12,8 +12,8 @@ use tables::{Handle, Interface, RegionCapa};
 // The range is lost with the parent's rights `old` and gained with its own, where these differ.
 fn exchange_rights(t: &mut [u64], d: usize, old: u64, a: AccessRights) -> Answer
     requires { Sized t.old }
-    ensures value { result ≡ (exchangeRights d old a (view t.old)).answer }
-    ensures left { Left t.new (exchangeRights d old a (view t.old)).tables }
+    ensures value { result ≡ (exchange_rights d old a (view t.old)).answer }
+    ensures left { Left t.new (exchange_rights d old a (view t.old)).tables }
 {
     let ops = a.ops;
     if old == ops.0 as u64 {
@@ -46,8 +46,8 @@ fn carve(t: &mut [u64], d: usize, p: usize, a: AccessRights) -> Answer
 
 pub fn carve_region(t: &mut [u64], h: Handle, l: usize, a: AccessRights) -> Answer
     requires { Sized t.old }
-    ensures value { result ≡ (carveRegion h l a (view t.old)).answer }
-    ensures left { Left t.new (carveRegion h l a (view t.old)).tables }
+    ensures value { result ≡ (carve_region h l a (view t.old)).answer }
+    ensures left { Left t.new (carve_region h l a (view t.old)).tables }
 {
     match checks::caller_with(t, h, Interface::CARVE) {
         Answer::Done(d) => match checks::region_held(t, d as usize, l) {

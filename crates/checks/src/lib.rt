@@ -2,7 +2,7 @@
 ghost use Rattle.std.specs.Prelude.{◌≡◌};
 ghost use Rattle.tables.specs.View.{view, Sized, Left};
 ghost use Rattle.rights.specs.Rights.{has};
-ghost use Rattle.checks.specs.Checks.{liveDomain, callerWith, liveRegion, asRegion, asTarget, regionHeld, targetHeld, roomForRegion};
+ghost use Rattle.checks.specs.Checks.{live_domain, caller_with, live_region, as_region, as_target, region_held, target_held, room_for_region};
 
 use answers::Answer;
 use refusals::Refusal;
@@ -12,7 +12,7 @@ use tables::{Handle, Slot};
 // 3; the answer is the domain's slot.
 pub fn live_domain(t: &[u64], h: Handle) -> Answer
     requires { Sized t.now }
-    ensures { result ≡ (liveDomain h (view t.now)).answer }
+    ensures { result ≡ (live_domain h (view t.now)).answer }
 {
     if pools::domain_is_live(t, h) {
         Answer::Done(h.slot)
@@ -34,7 +34,7 @@ fn has(word: u64, flag: u64) -> bool
 // 3, 20 (document 02, request 2): a domain whose interface has that bit; the answer is its slot.
 pub fn caller_with(t: &[u64], h: Handle, bit: u64) -> Answer
     requires { Sized t.now }
-    ensures { result ≡ (callerWith bit h (view t.now)).answer }
+    ensures { result ≡ (caller_with bit h (view t.now)).answer }
 {
     match live_domain(t, h) {
         Answer::Done(d) => {
@@ -51,7 +51,7 @@ pub fn caller_with(t: &[u64], h: Handle, bit: u64) -> Answer
 // 6; the answer is the region's slot.
 pub fn live_region(t: &[u64], h: Handle) -> Answer
     requires { Sized t.now }
-    ensures { result ≡ (liveRegion h (view t.now)).answer }
+    ensures { result ≡ (live_region h (view t.now)).answer }
 {
     if pools::region_is_live(t, h) {
         Answer::Done(h.slot)
@@ -63,7 +63,7 @@ pub fn live_region(t: &[u64], h: Handle) -> Answer
 // 5, 6: a capability that is in use, as a live region.
 fn as_region(t: &[u64], x: Slot) -> Answer
     requires { Sized t.now }
-    ensures { result ≡ (asRegion x (view t.now)).answer }
+    ensures { result ≡ (as_region x (view t.now)).answer }
 {
     let handle = x.handle;
     if x.kind == Slot::REGION {
@@ -75,7 +75,7 @@ fn as_region(t: &[u64], x: Slot) -> Answer
 // 5, 3: as a live domain to send to, by a Management or a Channel capability.
 fn as_target(t: &[u64], x: Slot) -> Answer
     requires { Sized t.now }
-    ensures { result ≡ (asTarget x (view t.now)).answer }
+    ensures { result ≡ (as_target x (view t.now)).answer }
 {
     let handle = x.handle;
     if x.kind == Slot::MANAGEMENT {
@@ -90,7 +90,7 @@ fn as_target(t: &[u64], x: Slot) -> Answer
 // 4, 5, 6: the live region that local slot l of domain d holds.
 pub fn region_held(t: &[u64], d: usize, l: usize) -> Answer
     requires { Sized t.now }
-    ensures { result ≡ (regionHeld d l (view t.now)).answer }
+    ensures { result ≡ (region_held d l (view t.now)).answer }
 {
     let x = slots::capa_at(t, d, l);
     if x.kind == Slot::FREE {
@@ -102,7 +102,7 @@ pub fn region_held(t: &[u64], d: usize, l: usize) -> Answer
 // 4, 5, 3: the live domain that it names.
 pub fn target_held(t: &[u64], d: usize, l: usize) -> Answer
     requires { Sized t.now }
-    ensures { result ≡ (targetHeld d l (view t.now)).answer }
+    ensures { result ≡ (target_held d l (view t.now)).answer }
 {
     let x = slots::capa_at(t, d, l);
     if x.kind == Slot::FREE {
@@ -114,8 +114,8 @@ pub fn target_held(t: &[u64], d: usize, l: usize) -> Answer
 // 11, 12, 7.
 pub fn room_for_region(t: &mut [u64], d: usize, a: AccessRights) -> Answer
     requires { Sized t.old }
-    ensures value { result ≡ (roomForRegion d a (view t.old)).answer }
-    ensures left { Left t.new (roomForRegion d a (view t.old)).tables }
+    ensures value { result ≡ (room_for_region d a (view t.old)).answer }
+    ensures left { Left t.new (room_for_region d a (view t.old)).tables }
 {
     if pools::region_capacity(t) == 0 {
         return Answer::Refused(Refusal::NO_REGION);

@@ -2,21 +2,21 @@
 // alias and carve. A link is a region's slot + 1, or 0 for none.
 ghost use Rattle.std.specs.Prelude.{◌≡◌, true, false, ◌%◌};
 ghost use Rattle.tables.specs.View.{view, Sized, Left};
-ghost use Rattle.children.specs.Children.{overlapsB, endsB, find, linkChild, insertChild, removeChild, fitsB, checkChild};
+ghost use Rattle.children.specs.Children.{overlaps_b, ends_b, find, link_child, insert_child, remove_child, fits_b, check_child};
 
 use region::AccessRights;
 use rights::Rights;
 use tables::RegionCapa;
 
 // Where a search of a child list stands: the links of the child before and of the child at hand.
-#[derive(Drop)]
+#[derive(Clone, Copy)]
 pub struct Place {
     pub prev: u64,
     pub at: u64,
 }
 
 // A range, and whether only carves count.
-#[derive(Drop)]
+#[derive(Clone, Copy)]
 pub struct Overlap {
     pub start: u64,
     pub end: u64,
@@ -25,7 +25,7 @@ pub struct Overlap {
 
 // What ends a search of a child list: a child that starts after an address, the child with that link, a child that
 // overlaps a range.
-#[derive(Drop)]
+#[derive(Clone, Copy)]
 pub enum Search {
     After(u64),
     Link(u64),
@@ -36,7 +36,7 @@ pub enum Search {
 
 // Whether the range and region r overlap; ranges that only touch do not.
 fn overlaps(o: Overlap, r: RegionCapa) -> bool
-    ensures { result ≡ overlapsB o r }
+    ensures { result ≡ overlaps_b o r }
 {
     let counts = if o.carves {
         r.kind == RegionCapa::CARVE
@@ -48,7 +48,7 @@ fn overlaps(o: Overlap, r: RegionCapa) -> bool
 
 // Whether the child with that link, region r, ends the search.
 fn ends(search: Search, link: u64, r: RegionCapa) -> bool
-    ensures { result ≡ endsB search link r }
+    ensures { result ≡ ends_b search link r }
 {
     match search {
         Search::After(a) => a < r.start,
@@ -86,7 +86,7 @@ fn find(t: &[u64], p: usize, search: Search) -> Place
 // Link `link` behind the child `prev`, or first under region p where that is 0.
 fn link_child(t: &mut [u64], p: usize, prev: u64, link: u64)
     requires { Sized t.old }
-    ensures { Left t.new (linkChild (view t.old) p prev link) }
+    ensures { Left t.new (link_child (view t.old) p prev link) }
 {
     if prev == 0 {
         let mut r = region_rows::load_region(t, p);
@@ -103,7 +103,7 @@ fn link_child(t: &mut [u64], p: usize, prev: u64, link: u64)
 // Region i joins the children of region p, after those that start where it starts or before.
 pub fn insert_child(t: &mut [u64], p: usize, i: usize)
     requires { Sized t.old }
-    ensures { Left t.new (insertChild (view t.old) p i) }
+    ensures { Left t.new (insert_child (view t.old) p i) }
 {
     let mut r = region_rows::load_region(t, i);
     let c = find(t, p, Search::After(r.start));
@@ -115,7 +115,7 @@ pub fn insert_child(t: &mut [u64], p: usize, i: usize)
 // Region i leaves the children of region p.
 pub fn remove_child(t: &mut [u64], p: usize, i: usize)
     requires { Sized t.old }
-    ensures { Left t.new (removeChild (view t.old) p i) }
+    ensures { Left t.new (remove_child (view t.old) p i) }
 {
     let mut r = region_rows::load_region(t, i);
     let next = r.next;
@@ -136,7 +136,7 @@ pub fn rights_of(word: u64) -> Rights
 
 // Whether the range lies in region r's, and the rights are allowed under it.
 fn fits(a: AccessRights, r: RegionCapa) -> bool
-    ensures { result ≡ fitsB a r }
+    ensures { result ≡ fits_b a r }
 {
     let inside = words::both(r.start <= a.start, a.end <= r.end);
     words::both(inside, rights_of(r.rights).allows(a.ops))
@@ -144,7 +144,7 @@ fn fits(a: AccessRights, r: RegionCapa) -> bool
 
 fn check_child(t: &[u64], p: usize, a: AccessRights, carves: bool) -> bool
     requires { Sized t.now }
-    ensures { result ≡ checkChild carves (view t.now) p a }
+    ensures { result ≡ check_child carves (view t.now) p a }
 {
     let r = region_rows::load_region(t, p);
     let o = Overlap {
@@ -159,7 +159,7 @@ fn check_child(t: &[u64], p: usize, a: AccessRights, carves: bool) -> bool
 // An alias may overlap other aliases, and no carve (document 01, **Alias**).
 pub fn check_alias(t: &[u64], p: usize, a: AccessRights) -> bool
     requires { Sized t.now }
-    ensures { result ≡ checkChild true (view t.now) p a }
+    ensures { result ≡ check_child true (view t.now) p a }
 {
     check_child(t, p, a, true)
 }
@@ -167,7 +167,7 @@ pub fn check_alias(t: &[u64], p: usize, a: AccessRights) -> bool
 // A carve may overlap no child (document 01, **Carve**).
 pub fn check_carve(t: &[u64], p: usize, a: AccessRights) -> bool
     requires { Sized t.now }
-    ensures { result ≡ checkChild false (view t.now) p a }
+    ensures { result ≡ check_child false (view t.now) p a }
 {
     check_child(t, p, a, false)
 }

@@ -15,18 +15,18 @@ claimed f c k zero = false
 claimed f c k (suc n) = either (eqb (f k) c) (claimed f c (suc k) n)
 
 -- item k, before n others: it claims nothing, or a number up to m that none of them claims
-abbrev pub claimFits : (ℕ → ℕ) → ℕ → ℕ → ℕ → Bool
-claimFits f m k n = either (eqb (f k) 0) (both (leb (f k) m) (not (claimed f (f k) (suc k) n)))
+abbrev pub claim_fits : (ℕ → ℕ) → ℕ → ℕ → ℕ → Bool
+claim_fits f m k n = either (eqb (f k) 0) (both (leb (f k) m) (not (claimed f (f k) (suc k) n)))
 
-abbrev pub claimsFit : (ℕ → ℕ) → ℕ → ℕ → ℕ → Bool
-claimsFit f m k zero = true
-claimsFit f m k (suc n) = both (claimFits f m k n) (claimsFit f m (suc k) n)
+abbrev pub claims_fit : (ℕ → ℕ) → ℕ → ℕ → ℕ → Bool
+claims_fit f m k zero = true
+claims_fit f m k (suc n) = both (claim_fits f m k n) (claims_fit f m (suc k) n)
 
 -- how many of n items from item k on claim something
-abbrev pub claimCount : (ℕ → ℕ) → ℕ → ℕ → ℕ
-claimCount f k zero = 0
-claimCount f k (suc n) = pick (eqb (f k) 0) 0 1 + claimCount f (suc k) n
+abbrev pub claim_count : (ℕ → ℕ) → ℕ → ℕ → ℕ
+claim_count f k zero = 0
+claim_count f k (suc n) = pick (eqb (f k) 0) 0 1 + claim_count f (suc k) n
 
 -- n items: nothing is wrong, nothing is claimed twice, and `want` numbers or more are claimed
-unfoldable pub claimsHold : (ℕ → ℕ) → ℕ → ℕ → ℕ → Bool
-claimsHold f m n want = both (claimsFit f m 0 n) (leb want (claimCount f 0 n))
+unfoldable pub claims_hold : (ℕ → ℕ) → ℕ → ℕ → ℕ → Bool
+claims_hold f m n want = both (claims_fit f m 0 n) (leb want (claim_count f 0 n))

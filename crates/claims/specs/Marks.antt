@@ -5,8 +5,8 @@ use Rattle.std.proofs.Math.Decide.{ℕ_discrete}
 use Rattle.std.proofs.lemmas.Bool.{lt-leb}
 use Rattle.base.specs.Cases.{pick, cmp, lt, ge}
 use Rattle.base.specs.Tests.{both}
-use Rattle.base.specs.Lists.{getD-zeros}
-use Rattle.claims.specs.Claims.{either, claimed, claimsFit, claimCount, claimsHold}
+use Rattle.base.specs.Lists.{get_or-zeros}
+use Rattle.claims.specs.Claims.{either, claimed, claims_fit, claim_count, claims_hold}
 
 -- nothing, or a number that has a mark to set
 unfoldable pub takes : List ℕ → ℕ → Bool
@@ -16,13 +16,13 @@ unfoldable pub marked : List ℕ → ℕ → List ℕ
 marked m c = pick (eqb c 0) m (set m (c - 1) 1)
 
 -- what is left to be claimed
-unfoldable pub leftBy : ℕ → ℕ → ℕ
-leftBy left c = pick (eqb c 0) left (left - 1)
+unfoldable pub left_by : ℕ → ℕ → ℕ
+left_by left c = pick (eqb c 0) left (left - 1)
 
 -- n items from item k on, with the marks m
 unfoldable pub scan : (ℕ → ℕ) → ℕ → ℕ → List ℕ → ℕ → Bool
 scan f zero k m left = eqb left 0
-scan f (suc n) k m left = pick (takes m (f k)) (scan f n (suc k) (marked m (f k)) (leftBy left (f k))) false
+scan f (suc n) k m left = pick (takes m (f k)) (scan f n (suc k) (marked m (f k)) (left_by left (f k))) false
 
 -- ---- what the marks stand for
 
@@ -30,9 +30,9 @@ scan f (suc n) k m left = pick (takes m (f k)) (scan f n (suc k) (marked m (f k)
 abbrev fresh : List ℕ → ℕ → Bool
 fresh m c = either (eqb c 0) (eqb (get_or m (c - 1) 0) 0)
 
-abbrev allFresh : (ℕ → ℕ) → List ℕ → ℕ → ℕ → Bool
-allFresh f m k zero = true
-allFresh f m k (suc n) = both (fresh m (f k)) (allFresh f m (suc k) n)
+abbrev all_fresh : (ℕ → ℕ) → List ℕ → ℕ → ℕ → Bool
+all_fresh f m k zero = true
+all_fresh f m k (suc n) = both (fresh m (f k)) (all_fresh f m (suc k) n)
 
 fresh_set : (m : List ℕ) (c x : ℕ) → 0 < c → c ≤ length m → fresh (set m (c - 1) 1) x ≡ both (fresh m x) (not (eqb x c))
 fresh_set m c x hc hm = elim (ℕ_discrete x 0) [
@@ -61,11 +61,11 @@ step true true false d = refl
 step true false c d = refl
 step false b c d = refl
 
-all_set : (f : ℕ → ℕ) (m : List ℕ) (c k n : ℕ) → 0 < c → c ≤ length m → allFresh f (set m (c - 1) 1) k n ≡ both (allFresh f m k n) (not (claimed f c k n))
+all_set : (f : ℕ → ℕ) (m : List ℕ) (c k n : ℕ) → 0 < c → c ≤ length m → all_fresh f (set m (c - 1) 1) k n ≡ both (all_fresh f m k n) (not (claimed f c k n))
 all_set f m c k zero hc hm = refl
 all_set f m c k (suc n) hc hm =
     (λ i. both (fresh_set m c (f k) hc hm i) (all_set f m c (suc k) n hc hm i))
-    ∙ step (fresh m (f k)) (eqb (f k) c) (allFresh f m (suc k) n) (claimed f c (suc k) n)
+    ∙ step (fresh m (f k)) (eqb (f k) c) (all_fresh f m (suc k) n) (claimed f c (suc k) n)
 
 turn : (a b c d : Bool) → both (both (both a b) c) d ≡ both (both a (both b c)) d
 turn true b c d = refl
@@ -92,19 +92,19 @@ none_left left = elim (ℕ_discrete left 0) [
     pos (suc k) h = omega arith
 
 abbrev whole : (ℕ → ℕ) → ℕ → ℕ → List ℕ → ℕ → Bool
-whole f n k m left = both (both (allFresh f m k n) (claimsFit f (length m) k n)) (leb left (claimCount f k n))
+whole f n k m left = both (both (all_fresh f m k n) (claims_fit f (length m) k n)) (leb left (claim_count f k n))
 
 Whole : (ℕ → ℕ) → ℕ → Type 0
 Whole f n = (k : ℕ) (m : List ℕ) (left : ℕ) → scan f n k m left ≡ whole f n k m left
 
 scan-suc : (f : ℕ → ℕ) (n : ℕ) → Whole f n → Whole f (suc n)
-unfolding Whole scan takes marked leftBy
+unfolding Whole scan takes marked left_by
 scan-suc f n ih k m left = elim (ℕ_discrete (f k) 0) [
   | yes e ↦
-      let z : claimCount f (suc k) n ≡ 0 + claimCount f (suc k) n = omega arith in
-      rw (eq-eqb (f k) 0 e) (ih (suc k) m left ∙ ap (λ c. both (both (allFresh f m (suc k) n) (claimsFit f (length m) (suc k) n)) (leb left c)) z)
+      let z : claim_count f (suc k) n ≡ 0 + claim_count f (suc k) n = omega arith in
+      rw (eq-eqb (f k) 0 e) (ih (suc k) m left ∙ ap (λ c. both (both (all_fresh f m (suc k) n) (claims_fit f (length m) (suc k) n)) (leb left c)) z)
   | no ne ↦ elim (cmp (length m) (f k)) [
-    | lt h ↦ rw (ne_eqb (f k) 0 ne, lt-leb (f k) (length m) h) (sym (dead (both (eqb (get_or m (f k - 1) 0) 0) (allFresh f m (suc k) n)) (claimsFit f (length m) (suc k) n) (leb left (1 + claimCount f (suc k) n))))
+    | lt h ↦ rw (ne_eqb (f k) 0 ne, lt-leb (f k) (length m) h) (sym (dead (both (eqb (get_or m (f k - 1) 0) 0) (all_fresh f m (suc k) n)) (claims_fit f (length m) (suc k) n) (leb left (1 + claim_count f (suc k) n))))
     | ge h ↦ elim (ℕ_discrete (get_or m (f k - 1) 0) 0) [
       | no x ↦ rw (ne_eqb (f k) 0 ne, ne_eqb (get_or m (f k - 1) 0) 0 x, le-leb (f k) (length m) h)
       | yes x ↦
@@ -112,8 +112,8 @@ scan-suc f n ih k m left = elim (ℕ_discrete (f k) 0) [
           let l : length s ≡ length m = length-set m (f k - 1) 1 in
           rw (ne_eqb (f k) 0 ne, le-leb (f k) (length m) h, eq-eqb (get_or m (f k - 1) 0) 0 x)
           (ih (suc k) s (left - 1)
-          ∙ (λ i. both (both (all_set f m (f k) (suc k) n (pos (f k) ne) h i) (claimsFit f (l i) (suc k) n)) (count_left left (claimCount f (suc k) n) i))
-          ∙ turn (allFresh f m (suc k) n) (not (claimed f (f k) (suc k) n)) (claimsFit f (length m) (suc k) n) (leb left (1 + claimCount f (suc k) n)))
+          ∙ (λ i. both (both (all_set f m (f k) (suc k) n (pos (f k) ne) h i) (claims_fit f (l i) (suc k) n)) (count_left left (claim_count f (suc k) n) i))
+          ∙ turn (all_fresh f m (suc k) n) (not (claimed f (f k) (suc k) n)) (claims_fit f (length m) (suc k) n) (leb left (1 + claim_count f (suc k) n)))
     ]
   ]
 ]
@@ -129,16 +129,16 @@ scan-whole f (suc n) = scan-suc f n (scan-whole f n)
 
 -- ---- no marks at first
 
-none-marked : (f : ℕ → ℕ) (j k n : ℕ) → allFresh f (replicate j 0) k n ≡ true
+none-marked : (f : ℕ → ℕ) (j k n : ℕ) → all_fresh f (replicate j 0) k n ≡ true
 none-marked f j k zero = refl
-none-marked f j k (suc n) = rw (getD-zeros j (f k - 1)) (yes (eqb (f k) 0) ∙ none-marked f j (suc k) n)
+none-marked f j k (suc n) = rw (get_or-zeros j (f k - 1)) (yes (eqb (f k) 0) ∙ none-marked f j (suc k) n)
   where
-    yes : (a : Bool) → both (either a true) (allFresh f (replicate j 0) (suc k) n) ≡ allFresh f (replicate j 0) (suc k) n
+    yes : (a : Bool) → both (either a true) (all_fresh f (replicate j 0) (suc k) n) ≡ all_fresh f (replicate j 0) (suc k) n
     yes true = refl
     yes false = refl
 
-pub scan-holds : (f : ℕ → ℕ) (m : List ℕ) (n want : ℕ) → m ≡ replicate (length m) 0 → scan f n 0 m want ≡ claimsHold f (length m) n want
-unfolding claimsHold Whole
+pub scan-holds : (f : ℕ → ℕ) (m : List ℕ) (n want : ℕ) → m ≡ replicate (length m) 0 → scan f n 0 m want ≡ claims_hold f (length m) n want
+unfolding claims_hold Whole
 scan-holds f m n want e =
-    let z : allFresh f m 0 n ≡ true = ap (λ l. allFresh f l 0 n) e ∙ none-marked f (length m) 0 n in
-    scan-whole f n 0 m want ∙ ap (λ b. both (both b (claimsFit f (length m) 0 n)) (leb want (claimCount f 0 n))) z
+    let z : all_fresh f m 0 n ≡ true = ap (λ l. all_fresh f l 0 n) e ∙ none-marked f (length m) 0 n in
+    scan-whole f n 0 m want ∙ ap (λ b. both (both b (claims_fit f (length m) 0 n)) (leb want (claim_count f 0 n))) z

@@ -8,8 +8,8 @@ use Rattle.std.proofs.Math.Arith.{digits_div, digits_mod}
 use Rattle.base.specs.Cases.{pick}
 use Rattle.base.specs.Tests.{both}
 use Rattle.claims.specs.declared.Tally.{Tally}
-use Rattle.claims.specs.Claims.{claimsHold}
-use Rattle.claims.specs.Marks.{takes, marked, leftBy, scan, scan-holds}
+use Rattle.claims.specs.Claims.{claims_hold}
+use Rattle.claims.specs.Marks.{takes, marked, left_by, scan, scan-holds}
 
 -- the marks, and what was seen
 pub record Marking : Type 0 where
@@ -20,7 +20,7 @@ abbrev pub marking : List ℕ → Tally → Marking
 marking m y = record { marks = m; seen = y }
 
 unfoldable pub taken : Marking → ℕ → Marking
-taken k c = marking (marked k.marks c) (record { fits = both (takes k.marks c) k.seen.fits; left = leftBy k.seen.left c })
+taken k c = marking (marked k.marks c) (record { fits = both (takes k.marks c) k.seen.fits; left = left_by k.seen.left c })
 
 -- n items from item i on
 unfoldable pub walked : (ℕ → ℕ) → ℕ → ℕ → Marking → Marking
@@ -28,9 +28,9 @@ walked f zero i k = k
 walked f (suc n) i k = walked f n (suc i) (taken k (f i))
 
 -- n rows of w items from row d on
-unfoldable pub rowsWalked : (ℕ → ℕ → ℕ) → ℕ → ℕ → ℕ → Marking → Marking
-rowsWalked g w zero d k = k
-rowsWalked g w (suc n) d k = rowsWalked g w n (suc d) (walked (g d) w 0 k)
+unfoldable pub rows_walked : (ℕ → ℕ → ℕ) → ℕ → ℕ → ℕ → Marking → Marking
+rows_walked g w zero d k = k
+rows_walked g w (suc n) d k = rows_walked g w n (suc d) (walked (g d) w 0 k)
 
 -- ---- the loops' turns
 
@@ -48,19 +48,19 @@ pub walk_end : (f : ℕ → ℕ) (n i : ℕ) (k : Marking) → n ≤ i → walke
 unfolding walked
 walk_end f n i k h = let e : n - i ≡ 0 = omega arith in ap (λ j. walked f j i k) e
 
-pub rows_start : (g : ℕ → ℕ → ℕ) (w n : ℕ) (k : Marking) → rowsWalked g w n 0 k ≡ rowsWalked g w (n - 0) 0 k
-rows_start g w n k = let e : n ≡ n - 0 = omega arith in ap (λ i. rowsWalked g w i 0 k) e
+pub rows_start : (g : ℕ → ℕ → ℕ) (w n : ℕ) (k : Marking) → rows_walked g w n 0 k ≡ rows_walked g w (n - 0) 0 k
+rows_start g w n k = let e : n ≡ n - 0 = omega arith in ap (λ i. rows_walked g w i 0 k) e
 
-pub rows-go : (g : ℕ → ℕ → ℕ) (w n d : ℕ) (k l : Marking) → d < n → l ≡ walked (g d) w 0 k → rowsWalked g w (n - d) d k ≡ rowsWalked g w (n - (d + 1)) (d + 1) l
-unfolding rowsWalked
+pub rows-go : (g : ℕ → ℕ → ℕ) (w n d : ℕ) (k l : Marking) → d < n → l ≡ walked (g d) w 0 k → rows_walked g w (n - d) d k ≡ rows_walked g w (n - (d + 1)) (d + 1) l
+unfolding rows_walked
 rows-go g w n d k l h e =
     let z : n - d ≡ suc (n - (d + 1)) = omega arith in
     let s : suc d ≡ d + 1 = omega arith in
-    ap (λ j. rowsWalked g w j d k) z ∙ (λ x. rowsWalked g w (n - (d + 1)) (s x) (sym e x))
+    ap (λ j. rows_walked g w j d k) z ∙ (λ x. rows_walked g w (n - (d + 1)) (s x) (sym e x))
 
-pub rows_end : (g : ℕ → ℕ → ℕ) (w n d : ℕ) (k : Marking) → n ≤ d → rowsWalked g w (n - d) d k ≡ k
-unfolding rowsWalked
-rows_end g w n d k h = let e : n - d ≡ 0 = omega arith in ap (λ j. rowsWalked g w j d k) e
+pub rows_end : (g : ℕ → ℕ → ℕ) (w n d : ℕ) (k : Marking) → n ≤ d → rows_walked g w (n - d) d k ≡ k
+unfolding rows_walked
+rows_end g w n d k h = let e : n - d ≡ 0 = omega arith in ap (λ j. rows_walked g w j d k) e
 
 -- ---- items, one after the other
 
@@ -85,7 +85,7 @@ walk_same f g (suc n) i j k h =
 
 -- nothing is claimed
 pub walk_none : (f : ℕ → ℕ) (n i : ℕ) (k : Marking) → ((x : ℕ) → f x ≡ 0) → walked f n i k ≡ k
-unfolding walked taken marked takes leftBy
+unfolding walked taken marked takes left_by
 walk_none f zero i k h = refl
 walk_none f (suc n) i k h = ap (λ c. walked f n (suc i) (taken k c)) (h i) ∙ walk_none f n (suc i) k h
 
@@ -101,14 +101,14 @@ module _ (g : ℕ → ℕ → ℕ) (w : ℕ) where
       let o : 0 + x ≡ x = omega arith in
       ap (g d) o ∙ sym (λ i. g (digits_div d {m = w + 1} {r = x} b i) (digits_mod d {m = w + 1} {r = x} b i))
 
-  pub rows-walk : (n d : ℕ) (k : Marking) → rowsWalked g (w + 1) n d k ≡ walked items (n * (w + 1)) (d * (w + 1)) k
-  unfolding rowsWalked walked
+  pub rows-walk : (n d : ℕ) (k : Marking) → rows_walked g (w + 1) n d k ≡ walked items (n * (w + 1)) (d * (w + 1)) k
+  unfolding rows_walked walked
   rows-walk zero d k = let z : 0 ≡ 0 * (w + 1) = omega arith in ap (λ j. walked items j (d * (w + 1)) k) z
   rows-walk (suc n) d k =
       let z : suc n * (w + 1) ≡ (w + 1) + n * (w + 1) = omega arith in
       let e : d * (w + 1) + (w + 1) ≡ suc d * (w + 1) = omega arith in
       let row = walked items (w + 1) (d * (w + 1)) k in
-      ap (rowsWalked g (w + 1) n (suc d)) (walk_same (g d) items (w + 1) 0 (d * (w + 1)) k (item d))
+      ap (rows_walked g (w + 1) n (suc d)) (walk_same (g d) items (w + 1) 0 (d * (w + 1)) k (item d))
       ∙ rows-walk n (suc d) row
       ∙ sym (ap (λ j. walked items j (d * (w + 1)) k) z ∙ walk_more items (w + 1) (n * (w + 1)) (d * (w + 1)) k ∙ ap (λ j. walked items (n * (w + 1)) j row) e)
 
@@ -121,12 +121,12 @@ ended k = both k.seen.fits (eqb k.seen.left 0)
 walk-scan : (f : ℕ → ℕ) (n i : ℕ) (k : Marking) → ended (walked f n i k) ≡ both k.seen.fits (scan f n i k.marks k.seen.left)
 unfolding walked scan taken
 walk-scan f zero i k = refl
-walk-scan f (suc n) i k = walk-scan f n (suc i) (taken k (f i)) ∙ turn (takes k.marks (f i)) k.seen.fits (scan f n (suc i) (marked k.marks (f i)) (leftBy k.seen.left (f i)))
+walk-scan f (suc n) i k = walk-scan f n (suc i) (taken k (f i)) ∙ turn (takes k.marks (f i)) k.seen.fits (scan f n (suc i) (marked k.marks (f i)) (left_by k.seen.left (f i)))
   where
     turn : (a b c : Bool) → both (both a b) c ≡ both b (pick a c false)
     turn true b c = refl
     turn false true c = refl
     turn false false c = refl
 
-pub walk-holds : (f : ℕ → ℕ) (m : List ℕ) (n want : ℕ) → m ≡ replicate (length m) 0 → ended (walked f n 0 (marking m (record { fits = true; left = want }))) ≡ claimsHold f (length m) n want
+pub walk-holds : (f : ℕ → ℕ) (m : List ℕ) (n want : ℕ) → m ≡ replicate (length m) 0 → ended (walked f n 0 (marking m (record { fits = true; left = want }))) ≡ claims_hold f (length m) n want
 walk-holds f m n want e = walk-scan f n 0 (marking m (record { fits = true; left = want })) ∙ scan-holds f m n want e

@@ -2,11 +2,11 @@
 // claimed.
 ghost use Rattle.std.specs.Prelude.{◌≡◌, ◌-◌};
 ghost use Rattle.base.specs.Cases.{pick};
-ghost use Rattle.claims.specs.Marks.{takes, marked, leftBy};
+ghost use Rattle.claims.specs.Marks.{takes, marked, left_by};
 ghost use Rattle.claims.specs.Walk.{marking, taken};
 
 // Whether every claim so far fits, and how many are left to be claimed.
-#[derive(Drop)]
+#[derive(Clone, Copy)]
 pub struct Tally {
     pub fits: bool,
     pub left: usize,
@@ -44,7 +44,7 @@ fn claim(m: &mut [u64], c: usize) -> bool
 }
 
 fn left_by(left: usize, c: usize) -> usize
-    ensures { result ≡ leftBy left c }
+    ensures { result ≡ left_by left c }
 {
     select(c == 0, left, less(left, 1))
 }

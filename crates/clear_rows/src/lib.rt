@@ -1,11 +1,11 @@
 // Rows of the tables by value: whether all words of one are 0, and whether a slot of a list in use is as its kind says.
 ghost use Rattle.std.specs.Prelude.{◌≡◌};
-ghost use Rattle.clear_rows.specs.Clear.{headClear, slotClear, slotWellFormed, slotFits, regionClear, recordClear};
+ghost use Rattle.clear_rows.specs.Clear.{head_clear, slot_clear, slot_well_formed, slot_fits, region_clear, record_clear};
 
 use tables::{DomainHead, Region, RegionCapa, Slot};
 
 pub fn head_clear(h: DomainHead) -> bool
-    ensures { result ≡ headClear h }
+    ensures { result ≡ head_clear h }
 {
     let first = words::both(h.manager == 0, h.cores == 0);
     words::both(
@@ -15,7 +15,7 @@ pub fn head_clear(h: DomainHead) -> bool
 }
 
 fn slot_clear(x: Slot) -> bool
-    ensures { result ≡ slotClear x }
+    ensures { result ≡ slot_clear x }
 {
     words::both(
         x.kind == 0,
@@ -24,7 +24,7 @@ fn slot_clear(x: Slot) -> bool
 }
 
 fn slot_well_formed(x: Slot) -> bool
-    ensures { result ≡ slotWellFormed x }
+    ensures { result ≡ slot_well_formed x }
 {
     if x.kind <= Slot::FREE {
         if x.kind == Slot::NONE {
@@ -38,7 +38,7 @@ fn slot_well_formed(x: Slot) -> bool
 }
 
 pub fn slot_fits(free: bool, x: Slot) -> bool
-    ensures { result ≡ slotFits free x }
+    ensures { result ≡ slot_fits free x }
 {
     if free {
         slot_clear(x)
@@ -48,7 +48,7 @@ pub fn slot_fits(free: bool, x: Slot) -> bool
 }
 
 pub fn region_clear(r: RegionCapa) -> bool
-    ensures { result ≡ regionClear r }
+    ensures { result ≡ region_clear r }
 {
     let a = words::both(
         words::both(r.kind == 0, r.owner == 0),
@@ -62,7 +62,7 @@ pub fn region_clear(r: RegionCapa) -> bool
 }
 
 pub fn record_clear(r: Region) -> bool
-    ensures { result ≡ recordClear r }
+    ensures { result ≡ record_clear r }
 {
     let a = words::both(
         words::both(r.start == 0, r.end == 0),

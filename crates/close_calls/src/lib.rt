@@ -2,7 +2,7 @@
 // would be closed with it.
 ghost use Rattle.std.specs.Prelude.{◌≡◌};
 ghost use Rattle.tables.specs.View.{view, Sized, Left};
-ghost use Rattle.close_calls.specs.Calls.{closeUnlessHeld, closeManaged};
+ghost use Rattle.close_calls.specs.Calls.{close_unless_held, close_managed};
 
 use answers::Answer;
 use refusals::Refusal;
@@ -11,8 +11,8 @@ use tables::Handle;
 // 22, then 23.
 fn close_unless_held(t: &mut [u64], d: usize) -> Answer
     requires { Sized t.old }
-    ensures value { result ≡ (closeUnlessHeld d (view t.old)).answer }
-    ensures left { Left t.new (closeUnlessHeld d (view t.old)).tables }
+    ensures value { result ≡ (close_unless_held d (view t.old)).answer }
+    ensures left { Left t.new (close_unless_held d (view t.old)).tables }
 {
     if closing_checks::closes_root(t, d) {
         return Answer::Refused(Refusal::HOLDS_ROOT);
@@ -26,8 +26,8 @@ fn close_unless_held(t: &mut [u64], d: usize) -> Answer
 // 3 where the domain was closed before.
 pub fn close_managed(t: &mut [u64], h: Handle) -> Answer
     requires { Sized t.old }
-    ensures value { result ≡ (closeManaged h (view t.old)).answer }
-    ensures left { Left t.new (closeManaged h (view t.old)).tables }
+    ensures value { result ≡ (close_managed h (view t.old)).answer }
+    ensures left { Left t.new (close_managed h (view t.old)).tables }
 {
     match checks::live_domain(t, h) {
         Answer::Done(d) => close_unless_held(t, d as usize),

@@ -3,16 +3,16 @@
 -- of that, and an alias 8 to 12. Then it ends the contract with 1.
 use Rattle.std.specs.Prelude.{◌≡◌, refl, ℕ, true, false, List, [], ◌∷◌, ◌++◌, map, eqb}
 use Rattle.std.proofs.Math.Option.{none, some}
-use Rattle.model.specs.Lists.{countUp}
-use Rattle.model.specs.State.{State, noOptions}
+use Rattle.model.specs.Lists.{count_up}
+use Rattle.model.specs.State.{State, no_options}
 use Rattle.model.specs.Fields.{Field, get}
-use Rattle.model.specs.Counts.{storedCounts, regionCount}
-use Rattle.model.specs.Closing.{isToClose}
-use Rattle.model.specs.Making.{emptyTables}
+use Rattle.model.specs.Counts.{stored_counts, region_count}
+use Rattle.model.specs.Closing.{is_to_close}
+use Rattle.model.specs.Making.{empty_tables}
 use Rattle.model.specs.Perform.{Step, Call, run}
 use Rattle.model.specs.Checked.Compute.{computing}
 use Rattle.model.specs.Checked.Script.{dom, access}
-use Rattle.closed.specs.Ends.{isNamed, is_taken, diesWithin, dies, leftFrom, regionsLeft, lost, returned}
+use Rattle.closed.specs.Ends.{is_named, is_taken, dies_within, dies, left_from, regions_left, lost, returned}
 
 abbrev calls : List Call
 calls =
@@ -21,18 +21,18 @@ calls =
     ∷ Call.Do (Step.Open (some (dom 1)) 0)
     ∷ Call.Do (Step.Root (dom 0) (access 0 16 3))
     ∷ Call.Do (Step.Carve (dom 0) 1 (access 4 8 1))
-    ∷ Call.Do (Step.Send (dom 0) 2 0 noOptions)
+    ∷ Call.Do (Step.Send (dom 0) 2 0 no_options)
     ∷ Call.Do (Step.Alias (dom 1) 1 (access 4 6 1))
-    ∷ Call.Do (Step.Send (dom 1) 2 0 noOptions)
+    ∷ Call.Do (Step.Send (dom 1) 2 0 no_options)
     ∷ Call.Do (Step.Alias (dom 0) 1 (access 0 4 3))
     ∷ Call.Do (Step.CreateRevokeCapa (dom 0) 2)
-    ∷ Call.Do (Step.Send (dom 0) 3 0 noOptions)
+    ∷ Call.Do (Step.Send (dom 0) 3 0 no_options)
     ∷ Call.Do (Step.Alias (dom 0) 1 (access 8 12 3))
     ∷ Call.Do (Step.Alias (dom 0) 2 (access 0 2 3))
     ∷ []
 
 abbrev start : State
-start = emptyTables (record { domains = 3; slots = 5; regions = 6; records = 8; updates = 8 })
+start = empty_tables (record { domains = 3; slots = 5; regions = 6; records = 8; updates = 8 })
 
 abbrev before : State
 before = (run start calls).1
@@ -41,49 +41,49 @@ abbrev after : State
 after = (run start (calls ++ (Call.Do (Step.Revoke (dom 0) 0) ∷ []))).1
 
 -- reach and the count of WRITE of domain e at 1, 5 and 9
-abbrev atThree : (Field → ℕ → ℕ → ℕ) → ℕ → List ℕ
-atThree n e = map (n Field.Reach e) (1 ∷ 5 ∷ 9 ∷ []) ++ map (n Field.Write e) (1 ∷ 5 ∷ 9 ∷ [])
+abbrev at_three : (Field → ℕ → ℕ → ℕ) → ℕ → List ℕ
+at_three n e = map (n Field.Reach e) (1 ∷ 5 ∷ 9 ∷ []) ++ map (n Field.Write e) (1 ∷ 5 ∷ 9 ∷ [])
 
-abbrev storedIn : State → ℕ → List ℕ
-storedIn s = atThree (λ f e a. get f (storedCounts s e a))
+abbrev stored_in : State → ℕ → List ℕ
+stored_in s = at_three (λ f e a. get f (stored_counts s e a))
 
 -- domains 1 and 2 are closed
-closed-domains : map (isToClose before 1) (countUp 0 3) ≡ false ∷ true ∷ true ∷ []
+closed-domains : map (is_to_close before 1) (count_up 0 3) ≡ false ∷ true ∷ true ∷ []
 unfolding computing
 closed-domains = refl
 
 -- the carve dies, the alias of it, and the alias that domain 1 has a RegionRevoke of, with the one below it; the root and the alias 8 to 12 are left
-dead-regions : map (dies before (is_taken before 1)) (countUp 0 6) ≡ false ∷ true ∷ true ∷ true ∷ false ∷ true ∷ []
-unfolding computing isNamed is_taken diesWithin dies
+dead-regions : map (dies before (is_taken before 1)) (count_up 0 6) ≡ false ∷ true ∷ true ∷ true ∷ false ∷ true ∷ []
+unfolding computing is_named is_taken dies_within dies
 dead-regions = refl
 
 -- a revoke of that alias alone takes it with the one below it
-taken_back : map (dies before (eqb 3)) (countUp 0 6) ≡ false ∷ false ∷ false ∷ true ∷ false ∷ true ∷ []
-unfolding computing diesWithin dies
+taken_back : map (dies before (eqb 3)) (count_up 0 6) ≡ false ∷ false ∷ false ∷ true ∷ false ∷ true ∷ []
+unfolding computing dies_within dies
 taken_back = refl
 
-stored-before : map (storedIn before) (countUp 0 3) ≡ (3 ∷ 0 ∷ 2 ∷ 3 ∷ 0 ∷ 2 ∷ []) ∷ (0 ∷ 1 ∷ 0 ∷ 0 ∷ 0 ∷ 0 ∷ []) ∷ (0 ∷ 1 ∷ 0 ∷ 0 ∷ 0 ∷ 0 ∷ []) ∷ []
+stored-before : map (stored_in before) (count_up 0 3) ≡ (3 ∷ 0 ∷ 2 ∷ 3 ∷ 0 ∷ 2 ∷ []) ∷ (0 ∷ 1 ∷ 0 ∷ 0 ∷ 0 ∷ 0 ∷ []) ∷ (0 ∷ 1 ∷ 0 ∷ 0 ∷ 0 ∷ 0 ∷ []) ∷ []
 unfolding computing
 stored-before = refl
 
 -- domain 0 has its range back at 5, with WRITE, and at 1 lost what the RegionRevoke named, with what was below
-abbrev numbersAfter : List (List ℕ)
-numbersAfter = (1 ∷ 1 ∷ 2 ∷ 1 ∷ 1 ∷ 2 ∷ []) ∷ (0 ∷ 0 ∷ 0 ∷ 0 ∷ 0 ∷ 0 ∷ []) ∷ (0 ∷ 0 ∷ 0 ∷ 0 ∷ 0 ∷ 0 ∷ []) ∷ []
+abbrev numbers_after : List (List ℕ)
+numbers_after = (1 ∷ 1 ∷ 2 ∷ 1 ∷ 1 ∷ 2 ∷ []) ∷ (0 ∷ 0 ∷ 0 ∷ 0 ∷ 0 ∷ 0 ∷ []) ∷ (0 ∷ 0 ∷ 0 ∷ 0 ∷ 0 ∷ 0 ∷ []) ∷ []
 
-stored-after : map (storedIn after) (countUp 0 3) ≡ numbersAfter
+stored-after : map (stored_in after) (count_up 0 3) ≡ numbers_after
 unfolding computing
 stored-after = refl
 
 -- as the tables before the close tell
-told-before : map (atThree (λ f e a. regionCount f (regionsLeft before (is_taken before 1)) e a)) (countUp 0 3) ≡ numbersAfter
-unfolding computing isNamed is_taken diesWithin dies leftFrom regionsLeft
+told-before : map (at_three (λ f e a. region_count f (regions_left before (is_taken before 1)) e a)) (count_up 0 3) ≡ numbers_after
+unfolding computing is_named is_taken dies_within dies left_from regions_left
 told-before = refl
 
 -- of the reach of domain 0 at 1, 5 and 9: what goes, and what returns
 goes-there : map (lost before (is_taken before 1) Field.Reach 0) (1 ∷ 5 ∷ 9 ∷ []) ≡ 2 ∷ 0 ∷ 0 ∷ []
-unfolding computing isNamed is_taken diesWithin dies leftFrom regionsLeft
+unfolding computing is_named is_taken dies_within dies left_from regions_left
 goes-there = refl
 
 returns-there : map (returned before (is_taken before 1) Field.Reach 0) (1 ∷ 5 ∷ 9 ∷ []) ≡ 0 ∷ 1 ∷ 0 ∷ []
-unfolding computing isNamed is_taken diesWithin dies leftFrom regionsLeft
+unfolding computing is_named is_taken dies_within dies left_from regions_left
 returns-there = refl

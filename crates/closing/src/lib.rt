@@ -3,7 +3,7 @@
 // whose turn another's begins. It is not the number of live domains that are not closing, which also falls when a domain below has been closed.
 ghost use Rattle.std.specs.Prelude.{◌≡◌};
 ghost use Rattle.tables.specs.View.{view, Sized, Left};
-ghost use Rattle.closing.specs.Close.{revokeLive, freedDomain, revokeSlot, closeDomain, close};
+ghost use Rattle.closing.specs.Close.{revoke_live, freed_domain, revoke_slot, close_domain, close};
 
 use answers::Answer;
 use arena::Freed;
@@ -13,8 +13,8 @@ use tables::{Handle, Slot};
 // The region, if it is alive, with all below it.
 fn revoke_live(t: &mut [u64], h: Handle, closing: u64) -> Answer
     requires { Sized t.old }
-    ensures value { result ≡ (revokeLive closing h (view t.old)).answer }
-    ensures left { Left t.new (revokeLive closing h (view t.old)).tables }
+    ensures value { result ≡ (revoke_live closing h (view t.old)).answer }
+    ensures left { Left t.new (revoke_live closing h (view t.old)).tables }
 {
     if pools::region_is_live(t, h) {
         return revocation::revoke(t, h.slot as usize, closing);
@@ -25,8 +25,8 @@ fn revoke_live(t: &mut [u64], h: Handle, closing: u64) -> Answer
 // 16 where its generation is spent.
 fn free_domain(t: &mut [u64], d: usize) -> Answer
     requires { Sized t.old }
-    ensures value { result ≡ (freedDomain d (view t.old)).answer }
-    ensures left { Left t.new (freedDomain d (view t.old)).tables }
+    ensures value { result ≡ (freed_domain d (view t.old)).answer }
+    ensures left { Left t.new (freed_domain d (view t.old)).tables }
 {
     match pools::free_domain(t, d) {
         Freed::Done => Answer::Done(0),
@@ -39,8 +39,8 @@ fn free_domain(t: &mut [u64], d: usize) -> Answer
 #[cycle(close_domain_revoke_slot)]
 fn revoke_slot(t: &mut [u64], d: usize, j: usize, closing: u64, waiting: u64) -> Answer
     requires { Sized t.old }
-    ensures value { result ≡ (revokeSlot waiting closing d j (view t.old)).answer }
-    ensures left { Left t.new (revokeSlot waiting closing d j (view t.old)).tables }
+    ensures value { result ≡ (revoke_slot waiting closing d j (view t.old)).answer }
+    ensures left { Left t.new (revoke_slot waiting closing d j (view t.old)).tables }
 {
     let x = slots::capa_at(t, d, j);
     let handle = x.handle;
@@ -63,8 +63,8 @@ fn revoke_slot(t: &mut [u64], d: usize, j: usize, closing: u64, waiting: u64) ->
 #[cycle(close_domain_revoke_slot)]
 fn close_domain(t: &mut [u64], d: usize, closing: u64, waiting: u64) -> Answer
     requires { Sized t.old }
-    ensures value { result ≡ (closeDomain waiting closing d (view t.old)).answer }
-    ensures left { Left t.new (closeDomain waiting closing d (view t.old)).tables }
+    ensures value { result ≡ (close_domain waiting closing d (view t.old)).answer }
+    ensures left { Left t.new (close_domain waiting closing d (view t.old)).tables }
 {
     if waiting == 0 {
         return Answer::Refused(Refusal::MEMORY);

@@ -3,33 +3,33 @@
 use Rattle.std.specs.Prelude.{ℕ, zero, suc, Bool, false, not, ◌&&◌, ◌||◌, eqb}
 use Rattle.base.specs.Cases.{pick}
 use Rattle.tables.specs.Kinds.{ROOT}
-use Rattle.tables.specs.Links.{slotTo}
-use Rattle.tables.specs.Tables.{Tables, headAt, regionAt}
+use Rattle.tables.specs.Links.{slot_to}
+use Rattle.tables.specs.Tables.{Tables, head_at, region_at}
 
--- Is domain e closed with domain d: d itself, or one whose managers lead to d? At most n managers are followed (the model's closesWith).
-unfoldable pub closesFrom : Tables → ℕ → ℕ → ℕ → Bool
-closesFrom s d zero e = eqb e d
-closesFrom s d (suc n) e = eqb e d || pick (eqb (headAt s e).manager 0) false (closesFrom s d n (slotTo (headAt s e).manager))
+-- Is domain e closed with domain d: d itself, or one whose managers lead to d? At most n managers are followed (the model's closes_with).
+unfoldable pub closes_from : Tables → ℕ → ℕ → ℕ → Bool
+closes_from s d zero e = eqb e d
+closes_from s d (suc n) e = eqb e d || pick (eqb (head_at s e).manager 0) false (closes_from s d n (slot_to (head_at s e).manager))
 
--- the model's isToClose
-unfoldable pub closesWithB : Tables → ℕ → ℕ → Bool
-closesWithB s d e = closesFrom s d s.sizes.domains e
+-- the model's is_to_close
+unfoldable pub closes_with_b : Tables → ℕ → ℕ → Bool
+closes_with_b s d e = closes_from s d s.sizes.domains e
 
 -- Does one of k numbers from i on pass the test?
-unfoldable pub someFrom : (ℕ → Bool) → ℕ → ℕ → Bool
-someFrom p i zero = false
-someFrom p i (suc k) = p i || someFrom p (suc i) k
+unfoldable pub some_from : (ℕ → Bool) → ℕ → ℕ → Bool
+some_from p i zero = false
+some_from p i (suc k) = p i || some_from p (suc i) k
 
--- the model's rootToClose and closesRoot
-unfoldable pub rootToCloseB : Tables → ℕ → ℕ → Bool
-rootToCloseB s d i = eqb (regionAt s i).kind ROOT && closesWithB s d (slotTo (regionAt s i).owner)
+-- the model's root_to_close and closes_root
+unfoldable pub root_to_close_b : Tables → ℕ → ℕ → Bool
+root_to_close_b s d i = eqb (region_at s i).kind ROOT && closes_with_b s d (slot_to (region_at s i).owner)
 
-unfoldable pub closesRootB : Tables → ℕ → Bool
-closesRootB s d = someFrom (rootToCloseB s d) 0 s.sizes.regions
+unfoldable pub closes_root_b : Tables → ℕ → Bool
+closes_root_b s d = some_from (root_to_close_b s d) 0 s.sizes.regions
 
--- the model's closesRunning
-unfoldable pub runningToCloseB : Tables → ℕ → ℕ → Bool
-runningToCloseB s d e = not (eqb (headAt s e).cores 0) && closesWithB s d e
+-- the model's closes_running
+unfoldable pub running_to_close_b : Tables → ℕ → ℕ → Bool
+running_to_close_b s d e = not (eqb (head_at s e).cores 0) && closes_with_b s d e
 
-unfoldable pub closesRunningB : Tables → ℕ → Bool
-closesRunningB s d = someFrom (runningToCloseB s d) 0 s.sizes.domains
+unfoldable pub closes_running_b : Tables → ℕ → Bool
+closes_running_b s d = some_from (running_to_close_b s d) 0 s.sizes.domains

@@ -2,7 +2,7 @@
 // has a core map. A free row is all zero, so that it is neither a root nor has one.
 ghost use Rattle.std.specs.Prelude.{◌≡◌};
 ghost use Rattle.tables.specs.View.{view, Sized};
-ghost use Rattle.closing_checks.specs.Closes.{closesWithB, rootToCloseB, closesRootB, runningToCloseB, closesRunningB};
+ghost use Rattle.closing_checks.specs.Closes.{closes_with_b, root_to_close_b, closes_root_b, running_to_close_b, closes_running_b};
 
 use tables::RegionCapa;
 
@@ -10,7 +10,7 @@ use tables::RegionCapa;
 // are domains, or they go round.
 pub fn closes_with(t: &[u64], d: usize, e: usize) -> bool
     requires { Sized t.now }
-    ensures { result ≡ closesWithB (view t.now) d e }
+    ensures { result ≡ closes_with_b (view t.now) d e }
 {
     let mut at = e;
     let mut left = words::size(t, sizes::DOMAINS);
@@ -32,7 +32,7 @@ pub fn closes_with(t: &[u64], d: usize, e: usize) -> bool
 
 fn root_to_close(t: &[u64], d: usize, i: usize) -> bool
     requires { Sized t.now }
-    ensures { result ≡ rootToCloseB (view t.now) d i }
+    ensures { result ≡ root_to_close_b (view t.now) d i }
 {
     let g = region_rows::load_region(t, i);
     if g.kind == RegionCapa::ROOT {
@@ -44,7 +44,7 @@ fn root_to_close(t: &[u64], d: usize, i: usize) -> bool
 // Whether a domain that is closed with domain d owns a root.
 pub fn closes_root(t: &[u64], d: usize) -> bool
     requires { Sized t.now }
-    ensures { result ≡ closesRootB (view t.now) d }
+    ensures { result ≡ closes_root_b (view t.now) d }
 {
     let n = words::size(t, sizes::REGIONS);
     let mut i = 0;
@@ -61,7 +61,7 @@ pub fn closes_root(t: &[u64], d: usize) -> bool
 
 fn running_to_close(t: &[u64], d: usize, e: usize) -> bool
     requires { Sized t.now }
-    ensures { result ≡ runningToCloseB (view t.now) d e }
+    ensures { result ≡ running_to_close_b (view t.now) d e }
 {
     let head = domain_rows::load_head(t, e);
     if head.cores == 0 {
@@ -73,7 +73,7 @@ fn running_to_close(t: &[u64], d: usize, e: usize) -> bool
 // Whether a domain that is closed with domain d has a core map.
 pub fn closes_running(t: &[u64], d: usize) -> bool
     requires { Sized t.now }
-    ensures { result ≡ closesRunningB (view t.now) d }
+    ensures { result ≡ closes_running_b (view t.now) d }
 {
     let n = words::size(t, sizes::DOMAINS);
     let mut e = 0;

@@ -3,8 +3,8 @@ use Rattle.std.specs.Prelude.{ℕ, ◌/◌, ◌%◌, ◌^◌, Bool, eqb}
 use Rattle.std.specs.Int.Bits.{bit_or}
 
 -- Is domain d closing?
-unfoldable pub closingB : ℕ → ℕ → Bool
-closingB closing d = eqb (closing / 2 ^ (d % 64) % 2) 1
+unfoldable pub closing_b : ℕ → ℕ → Bool
+closing_b closing d = eqb (closing / 2 ^ (d % 64) % 2) 1
 
-unfoldable pub withClosing : ℕ → ℕ → ℕ
-withClosing closing d = bit_or (2 ^ (d % 64)) closing
+unfoldable pub with_closing : ℕ → ℕ → ℕ
+with_closing closing d = bit_or (2 ^ (d % 64)) closing

@@ -3,14 +3,14 @@ use Rattle.std.specs.Prelude.{◌≡◌, ℕ, ◌%◌, ◌^◌, ◌<◌, false, 
 use Rattle.std.proofs.Common.{ap, ◌∙◌, arith}
 use Rattle.std.proofs.Math.Nat.{zero-div}
 use Rattle.rights.specs.Bits.{bit, bit-or, bit-power}
-use Rattle.closing_set.specs.Closing.{closingB, withClosing}
+use Rattle.closing_set.specs.Closing.{closing_b, with_closing}
 
-pub none-closing : (d : ℕ) → closingB 0 d ≡ false
-unfolding closingB
+pub none-closing : (d : ℕ) → closing_b 0 d ≡ false
+unfolding closing_b
 none-closing d = rw (zero-div (2 ^ (d % 64)))
 
-pub closing-more : (closing d e : ℕ) → d < 64 → e < 64 → closingB (withClosing closing d) e ≡ (eqb e d || closingB closing e)
-unfolding closingB withClosing
+pub closing-more : (closing d e : ℕ) → d < 64 → e < 64 → closing_b (with_closing closing d) e ≡ (eqb e d || closing_b closing e)
+unfolding closing_b with_closing
 closing-more closing d e hd he =
     let ed : d % 64 ≡ d = omega arith in
     let ee : e % 64 ≡ e = omega arith in

@@ -7,18 +7,18 @@ use Rattle.refusals.specs.Refusals.{memory}
 use Rattle.model.specs.Lists.{Each}
 use Rattle.model.specs.Outcome.{ok}
 use Rattle.model.specs.State.{State, Sizes}
-use Rattle.model.specs.Making.{makeTables}
-use Rattle.model.specs.Layout.{words, lengthFor}
+use Rattle.model.specs.Making.{make_tables}
+use Rattle.model.specs.Layout.{words, length_for}
 use Rattle.model.specs.Perform.{Call, Value, Answer, run}
 use Rattle.model.specs.CallWords.{CallWords}
 use Rattle.model.specs.Sound.{Sound}
-use Rattle.model.specs.Converting.{formerWords, Convertible, Converted, notConvertible, converted}
+use Rattle.model.specs.Converting.{former_words, Convertible, Converted, not_convertible, converted}
 use Rattle.book.specs.Book.{Book, blank}
-use Rattle.book.specs.Demand3.{noteAll}
+use Rattle.book.specs.Demand3.{note_all}
 use Rattle.book.specs.Matches.{Matches}
 use Rattle.book.specs.Theorem.{matches-made, matches-run}
 use Rattle.book.specs.Lent.{Chain, ClaimsOf, BookOf, book-of-chain, book-of-claims}
-use Rattle.converted.specs.Marked.{withAllMarks, all-marked, sound-marked, matches-marked}
+use Rattle.converted.specs.Marked.{with_all_marks, all-marked, sound-marked, matches-marked}
 use Rattle.converted.specs.Former.{former-same, marked-rebuilt, rebuilt}
 use Rattle.converted.specs.Unique.{convertible-words}
 
@@ -29,15 +29,15 @@ use Rattle.converted.specs.Unique.{convertible-words}
 -- refused for that, and left its tables, is not in cs₀.
 abbrev pub Demand3Converted : Type 0
 Demand3Converted = (z : Sizes) (s : State) (cs₀ cs : List Call) (ys : List Answer) (o t v w t₁ v₁ w₁ t₂ : List ℕ)
-    → makeTables z ≡ ok s → Each CallWords cs₀ → o ≡ formerWords (run s cs₀).1
+    → make_tables z ≡ ok s → Each CallWords cs₀ → o ≡ former_words (run s cs₀).1
     → Converted o t v w (Answer.yes Value.done) t₁ v₁ w₁ → Each CallWords cs → Chain t₁ cs ys t₂
-    → ClaimsOf (noteAll (noteAll (blank z) cs₀ (run s cs₀).0) cs ys) t₂
+    → ClaimsOf (note_all (note_all (blank z) cs₀ (run s cs₀).0) cs ys) t₂
 
 -- o are the former words of sound tables that the book matches. A chain of converters has to show only that each keeps this.
 pub record FormerBookOf (b : Book) (o : List ℕ) : Type 0 where
   pub state : State
   pub sound : Sound state
-  pub old : o ≡ formerWords state
+  pub old : o ≡ former_words state
   pub matches : Matches b state
 
 -- ---- the converter
@@ -51,10 +51,10 @@ unfolding refusal
 not_yes r e = subst refusal e tt
 
 accepted-book : (b : Book) (o t v w t₁ v₁ w₁ : List ℕ) (y : Answer) → y ≡ Answer.yes Value.done → FormerBookOf b o → Converted o t v w y t₁ v₁ w₁ → BookOf b t₁
-accepted-book b o t v w t₁ v₁ w₁ y e f (notConvertible n) = absurd (not_yes memory e)
+accepted-book b o t v w t₁ v₁ w₁ y e f (not_convertible n) = absurd (not_yes memory e)
 accepted-book b o t v w t₁ v₁ w₁ y e f (converted s c) = record {
-  state = withAllMarks f.state;
-  tables = convertible-words o t v w s c ∙ ap rebuilt (f.old ∙ sym (former-same f.state f.sound)) ∙ sym (marked-rebuilt (withAllMarks f.state) (sound-marked f.state f.sound) (all-marked f.state));
+  state = with_all_marks f.state;
+  tables = convertible-words o t v w s c ∙ ap rebuilt (f.old ∙ sym (former-same f.state f.sound)) ∙ sym (marked-rebuilt (with_all_marks f.state) (sound-marked f.state f.sound) (all-marked f.state));
   sound = sound-marked f.state f.sound;
   matches = matches-marked b f.state f.matches;
 }
@@ -65,20 +65,20 @@ book-of-converted b o t v w t₁ v₁ w₁ = accepted-book b o t v w t₁ v₁ w
 
 -- ---- before it
 
-module _ (z : Sizes) (s : State) (cs : List Call) (made : makeTables z ≡ ok s) (words : Each CallWords cs) where
-  run-former : Matches (noteAll (blank z) cs (run s cs).0) (run s cs).1 × Sound (run s cs).1
+module _ (z : Sizes) (s : State) (cs : List Call) (made : make_tables z ≡ ok s) (words : Each CallWords cs) where
+  run-former : Matches (note_all (blank z) cs (run s cs).0) (run s cs).1 × Sound (run s cs).1
   run-former = let (m, h) = matches-made z s made in matches-run (blank z) s cs words h m
 
   -- THEOREM: calls lead to it
-  pub book-of-former : (o : List ℕ) → o ≡ formerWords (run s cs).1 → FormerBookOf (noteAll (blank z) cs (run s cs).0) o
+  pub book-of-former : (o : List ℕ) → o ≡ former_words (run s cs).1 → FormerBookOf (note_all (blank z) cs (run s cs).0) o
   book-of-former o e = let (m, h) = run-former in record { state = (run s cs).1; sound = h; old = e; matches = m }
 
   -- THEOREM: and in memory of the right lengths all such tables are converted
-  pub former-convertible : (o t v w : List ℕ) → o ≡ formerWords (run s cs).1 → length t ≡ lengthFor (run s cs).1.sizes → length v ≡ lengthFor (run s cs).1.sizes → length w ≡ lengthFor (run s cs).1.sizes → Convertible o t v w (withAllMarks (run s cs).1)
+  pub former-convertible : (o t v w : List ℕ) → o ≡ former_words (run s cs).1 → length t ≡ length_for (run s cs).1.sizes → length v ≡ length_for (run s cs).1.sizes → length w ≡ length_for (run s cs).1.sizes → Convertible o t v w (with_all_marks (run s cs).1)
   former-convertible o t v w e a b c =
       let u = (run s cs).1 in
       let (m, h) = run-former in
-      record { sound = sound-marked u h; marked = all-marked u; old = e ∙ sym (former-same u h); tables = a; work = b; secondWork = c }
+      record { sound = sound-marked u h; marked = all-marked u; old = e ∙ sym (former-same u h); tables = a; work = b; second_work = c }
 
 -- THEOREM
 pub demand3-converted : Demand3Converted

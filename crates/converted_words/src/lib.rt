@@ -2,7 +2,7 @@
 ghost use Rattle.std.specs.Prelude.{◌≡◌, true};
 ghost use Rattle.tables.specs.View.{view, Sized, Left};
 ghost use Rattle.converted.specs.Former.{rebuilt};
-ghost use Rattle.converted_words.specs.Built.{marksBeside, markedAll, fitsB};
+ghost use Rattle.converted_words.specs.Built.{marks_beside, marked_all, fits_b};
 
 use tables::Update;
 
@@ -11,7 +11,7 @@ const ALL_MARKS: u64 = 31;
 
 // The marks beside an update: all five where a domain is queued, since former tables kept none (document 02, request 4).
 fn marks_beside(u: Update) -> u64
-    ensures { result ≡ marksBeside u }
+    ensures { result ≡ marks_beside u }
 {
     if u.kind == Update::PERMISSION {
         return ALL_MARKS;
@@ -22,7 +22,7 @@ fn marks_beside(u: Update) -> u64
 // Gives every place of the ring its marks.
 fn mark_all(v: &mut [u64])
     requires { Sized v.old }
-    ensures { Left v.new (markedAll (view v.old)) }
+    ensures { Left v.new (marked_all (view v.old)) }
 {
     let n = words::size(v, sizes::UPDATES) + 1;
     let mut i = 0;
@@ -35,7 +35,7 @@ fn mark_all(v: &mut [u64])
 
 // Builds the new tables in v. Whether the old ones are as many words as their sizes ask, and v as many as the new ones.
 pub fn build(old: &[u64], v: &mut [u64]) -> bool
-    ensures value { result ≡ fitsB old.now v.old }
+    ensures value { result ≡ fits_b old.now v.old }
     ensures v_after { result ≡ true → v.new ≡ rebuilt old.now }
 {
     words::store(v, 0, old);

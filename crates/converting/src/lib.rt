@@ -1,7 +1,7 @@
 // The converter (document 02, request 2): former tables, without marks, become this delivery's.
 ghost use Rattle.std.specs.Prelude.{◌≡◌, true};
 ghost use Rattle.converted.specs.Former.{rebuilt};
-ghost use Rattle.converting.specs.Exact.{convertsB};
+ghost use Rattle.converting.specs.Exact.{converts_b};
 ghost use Rattle.replies.specs.Replies.{Converts};
 
 use refusals::Refusal;
@@ -10,7 +10,7 @@ use replies::Reply;
 // Whether the old tables can be converted in memory of these lengths; v is then the new ones. Old tables are never tested:
 // the new ones are, by the one test of lent tables.
 fn converts(old: &[u64], t: &[u64], v: &mut [u64], w: &mut [u64]) -> bool
-    ensures value { result ≡ convertsB old.now t.now v.old w.old }
+    ensures value { result ≡ converts_b old.now t.now v.old w.old }
     ensures v_after { result ≡ true → v.new ≡ rebuilt old.now }
 {
     if t.len() == v.len() {

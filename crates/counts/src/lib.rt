@@ -2,7 +2,7 @@
 // hold stay within 64 bits.
 ghost use Rattle.std.specs.Prelude.{◌≡◌, ltb};
 ghost use Rattle.base.specs.Cases.{pick};
-ghost use Rattle.counts.specs.Counts.{up, down, raised, lowered, crossesB, markIf, crossingsOf, mergeableB, made};
+ghost use Rattle.counts.specs.Counts.{up, down, raised, lowered, crosses_b, mark_if, crossings_of, mergeable_b, made};
 
 use rights::Rights;
 use tables::Region;
@@ -82,7 +82,7 @@ pub fn decrease(q: Region, ops: Rights) -> Region
 
 // Whether a count left or came to 0.
 fn crosses(a: u64, b: u64) -> bool
-    ensures { result ≡ crossesB a b }
+    ensures { result ≡ crosses_b a b }
 {
     if a == 0 { b != 0 } else { b == 0 }
 }
@@ -102,14 +102,14 @@ pub const SUPER: u64 = 16;
 
 // The mark where the count went from a to b and so left or came to 0.
 fn mark_if(a: u64, b: u64, mark: u64) -> u64
-    ensures { result ≡ markIf a b mark }
+    ensures { result ≡ mark_if a b mark }
 {
     if crosses(a, b) { mark } else { 0 }
 }
 
 // The marks of the counts that left or came to 0, from p's to q's.
 pub fn crossings(p: Region, q: Region) -> u64
-    ensures { result ≡ crossingsOf p q }
+    ensures { result ≡ crossings_of p q }
 {
     let reach = mark_if(p.ref_count, q.ref_count, REACH);
     let read = mark_if(p.read_count, q.read_count, READ);
@@ -121,7 +121,7 @@ pub fn crossings(p: Region, q: Region) -> u64
 
 // Touching neighbours with six equal counts (`same_counts`).
 pub fn mergeable(q: Region, n: Region) -> bool
-    ensures { result ≡ mergeableB q n }
+    ensures { result ≡ mergeable_b q n }
 {
     let touch = q.end == n.start;
     let reach = words::both(

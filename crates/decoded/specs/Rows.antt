@@ -7,69 +7,69 @@ use Rattle.std.proofs.Math.Decide.{ℕ_discrete}
 use Rattle.std.proofs.lemmas.List.{length-map}
 use Rattle.std.proofs.Math.Seq.{set_out}
 use Rattle.base.specs.Cases.{lt, ge, cmp}
-use Rattle.model.specs.Lists.{if◌then◌else◌, Each, atSlot, countUp}
+use Rattle.model.specs.Lists.{if◌then◌else◌, Each, at_slot, count_up}
 use Rattle.laws.specs.Parts.{up-length}
 use Rattle.words.specs.Rows.{rows, flat}
 use Rattle.words.specs.Cuts.{cuts, join}
 
 -- ---- one element for each of n slots
 
-pub map-up-length : {A : Type 0} (f : ℕ → A) (n : ℕ) → length (map f (countUp 0 n)) ≡ n
-map-up-length f n = length-map (countUp 0 n) f ∙ up-length 0 n
+pub map-up-length : {A : Type 0} (f : ℕ → A) (n : ℕ) → length (map f (count_up 0 n)) ≡ n
+map-up-length f n = length-map (count_up 0 n) f ∙ up-length 0 n
 
-getD-from : {A : Type 0} (f : ℕ → A) (k n i : ℕ) (d : A) → i < n → get_or (map f (countUp k n)) i d ≡ f (k + i)
-getD-from f k zero i d h = absurd (omega arith)
-getD-from f k (suc n) zero d h = let e : k + 0 ≡ k = omega arith in rw e
-getD-from f k (suc n) (suc i) d h = let e : k + suc i ≡ suc k + i = omega arith in rw e (getD-from f (suc k) n i d (omega arith))
+get_or-from : {A : Type 0} (f : ℕ → A) (k n i : ℕ) (d : A) → i < n → get_or (map f (count_up k n)) i d ≡ f (k + i)
+get_or-from f k zero i d h = absurd (omega arith)
+get_or-from f k (suc n) zero d h = let e : k + 0 ≡ k = omega arith in rw e
+get_or-from f k (suc n) (suc i) d h = let e : k + suc i ≡ suc k + i = omega arith in rw e (get_or-from f (suc k) n i d (omega arith))
 
-pub getD-up : {A : Type 0} (f : ℕ → A) (n i : ℕ) (d : A) → i < n → get_or (map f (countUp 0 n)) i d ≡ f i
-getD-up f n i d h = getD-from f 0 n i d h ∙ ap f (omega arith)
+pub get_or-up : {A : Type 0} (f : ℕ → A) (n i : ℕ) (d : A) → i < n → get_or (map f (count_up 0 n)) i d ≡ f i
+get_or-up f n i d h = get_or-from f 0 n i d h ∙ ap f (omega arith)
 
-same_from : {A : Type 0} (f g : ℕ → A) (k n : ℕ) → ((i : ℕ) → k ≤ i → i < k + n → f i ≡ g i) → map f (countUp k n) ≡ map g (countUp k n)
+same_from : {A : Type 0} (f g : ℕ → A) (k n : ℕ) → ((i : ℕ) → k ≤ i → i < k + n → f i ≡ g i) → map f (count_up k n) ≡ map g (count_up k n)
 same_from f g k zero e = refl
 same_from f g k (suc n) e =
     let h = e k (omega arith) (omega arith) in
     let t = same_from f g (suc k) n (λ i a b. e i (omega arith) (omega arith)) in
     λ i. h i ∷ t i
 
-pub same_up : {A : Type 0} (f g : ℕ → A) (n : ℕ) → ((i : ℕ) → i < n → f i ≡ g i) → map f (countUp 0 n) ≡ map g (countUp 0 n)
+pub same_up : {A : Type 0} (f g : ℕ → A) (n : ℕ) → ((i : ℕ) → i < n → f i ≡ g i) → map f (count_up 0 n) ≡ map g (count_up 0 n)
 same_up f g n e = same_from f g 0 n (λ i a b. e i (omega arith))
 
-same-all : {A : Type 0} (x : A) (k n : ℕ) → map (λ i. x) (countUp k n) ≡ replicate n x
+same-all : {A : Type 0} (x : A) (k n : ℕ) → map (λ i. x) (count_up k n) ≡ replicate n x
 same-all x k zero = refl
 same-all x k (suc n) = ap (λ (l : List _). x ∷ l) (same-all x (suc k) n)
 
 -- all alike
-pub replicate-up : {A : Type 0} (f : ℕ → A) (x : A) (n : ℕ) → ((i : ℕ) → i < n → f i ≡ x) → map f (countUp 0 n) ≡ replicate n x
+pub replicate-up : {A : Type 0} (f : ℕ → A) (x : A) (n : ℕ) → ((i : ℕ) → i < n → f i ≡ x) → map f (count_up 0 n) ≡ replicate n x
 replicate-up f x n e = same_up f (λ i. x) n e ∙ same-all x 0 n
 
 -- element i is set, and the others are as they were
 pub set-up : {A : Type 0} (f g : ℕ → A) (n i : ℕ) (x : A) → i < n → g i ≡ x → ((j : ℕ) → j ≢ i → j < n → g j ≡ f j)
-    → set (map f (countUp 0 n)) i x ≡ map g (countUp 0 n)
+    → set (map f (count_up 0 n)) i x ≡ map g (count_up 0 n)
 set-up f g n i x h e o =
-    ext_get_or x (set (map f (countUp 0 n)) i x) (map g (countUp 0 n)) (length-set (map f (countUp 0 n)) i x ∙ map-up-length f n ∙ sym (map-up-length g n)) (λ j k. at j (omega (arith, length-set (map f (countUp 0 n)) i x, map-up-length f n)))
+    ext_get_or x (set (map f (count_up 0 n)) i x) (map g (count_up 0 n)) (length-set (map f (count_up 0 n)) i x ∙ map-up-length f n ∙ sym (map-up-length g n)) (λ j k. at j (omega (arith, length-set (map f (count_up 0 n)) i x, map-up-length f n)))
   where
-    other : (j : ℕ) → j < n → j ≢ i → get_or (set (map f (countUp 0 n)) i x) j x ≡ get_or (map g (countUp 0 n)) j x
-    other j k ne = get_or-set_other (map f (countUp 0 n)) i j x x ne ∙ getD-up f n j x k ∙ sym (o j ne k) ∙ sym (getD-up g n j x k)
+    other : (j : ℕ) → j < n → j ≢ i → get_or (set (map f (count_up 0 n)) i x) j x ≡ get_or (map g (count_up 0 n)) j x
+    other j k ne = get_or-set_other (map f (count_up 0 n)) i j x x ne ∙ get_or-up f n j x k ∙ sym (o j ne k) ∙ sym (get_or-up g n j x k)
 
-    at : (j : ℕ) → j < n → get_or (set (map f (countUp 0 n)) i x) j x ≡ get_or (map g (countUp 0 n)) j x
+    at : (j : ℕ) → j < n → get_or (set (map f (count_up 0 n)) i x) j x ≡ get_or (map g (count_up 0 n)) j x
     at j k = elim (ℕ_discrete j i) [
-      | yes p ↦ rw p (get_or-set_same (map f (countUp 0 n)) i x x (omega (arith, map-up-length f n)) ∙ sym e ∙ sym (getD-up g n i x h))
+      | yes p ↦ rw p (get_or-set_same (map f (count_up 0 n)) i x x (omega (arith, map-up-length f n)) ∙ sym e ∙ sym (get_or-up g n i x h))
       | no ne ↦ other j k ne
     ]
 
 -- a row that depends on its slot's number and on what the slot holds
 pub set-table : {A B : Type 0} (f : ℕ → Option A → B) (l : List (Option A)) (n i : ℕ) (o : Option A) → length l ≡ n → i < n
-    → map (λ j. f j (atSlot (set l i o) j)) (countUp 0 n) ≡ set (map (λ j. f j (atSlot l j)) (countUp 0 n)) i (f i o)
+    → map (λ j. f j (at_slot (set l i o) j)) (count_up 0 n) ≡ set (map (λ j. f j (at_slot l j)) (count_up 0 n)) i (f i o)
 set-table f l n i o e h =
-    sym (set-up (λ j. f j (atSlot l j)) (λ j. f j (atSlot (set l i o) j)) n i (f i o) h (ap (f i) (get_or-set_same l i o none (omega arith))) (λ j ne k. ap (f j) (get_or-set_other l i j o none ne)))
+    sym (set-up (λ j. f j (at_slot l j)) (λ j. f j (at_slot (set l i o) j)) n i (f i o) h (ap (f i) (get_or-set_same l i o none (omega arith))) (λ j ne k. ap (f j) (get_or-set_other l i j o none ne)))
 
 -- a row that stays as it was
-pub same-table : {A B : Type 0} (f : Option A → B) (l : List (Option A)) (n i : ℕ) (o : Option A) → f o ≡ f (atSlot l i)
-    → map (λ j. f (atSlot (set l i o) j)) (countUp 0 n) ≡ map (λ j. f (atSlot l j)) (countUp 0 n)
-same-table f l n i o e = same_up (λ j. f (atSlot (set l i o) j)) (λ j. f (atSlot l j)) n (λ j k. at j (ℕ_discrete j i))
+pub same-table : {A B : Type 0} (f : Option A → B) (l : List (Option A)) (n i : ℕ) (o : Option A) → f o ≡ f (at_slot l i)
+    → map (λ j. f (at_slot (set l i o) j)) (count_up 0 n) ≡ map (λ j. f (at_slot l j)) (count_up 0 n)
+same-table f l n i o e = same_up (λ j. f (at_slot (set l i o) j)) (λ j. f (at_slot l j)) n (λ j k. at j (ℕ_discrete j i))
   where
-    at : (j : ℕ) → Dec (j ≡ i) → f (atSlot (set l i o) j) ≡ f (atSlot l j)
+    at : (j : ℕ) → Dec (j ≡ i) → f (at_slot (set l i o) j) ≡ f (at_slot l j)
     at j (yes z) = elim (cmp i (length l)) [
       | lt b ↦ rw z (ap f (get_or-set_same l i o none b) ∙ e)
       | ge b ↦ rw (set_out l i o b)
@@ -78,7 +78,7 @@ same-table f l n i o e = same_up (λ j. f (atSlot (set l i o) j)) (λ j. f (atSl
 
 -- two elements are set
 pub set-two : {A : Type 0} (f g : ℕ → A) (n i j : ℕ) → i < n → j < n → ((k : ℕ) → k ≢ i → k ≢ j → g k ≡ f k)
-    → set (set (map f (countUp 0 n)) j (g j)) i (g i) ≡ map g (countUp 0 n)
+    → set (set (map f (count_up 0 n)) j (g j)) i (g i) ≡ map g (count_up 0 n)
 set-two f g n i j hi hj o =
     let m : ℕ → _ = λ k. if eqb k j then g j else f k in
     ap (λ l. set l i (g i)) (set-up f m n j (g j) hj (rw (eq-eqb j j refl)) (λ k ne l. rw (ne_eqb k j ne))) ∙ set-up m g n i (g i) hi refl rest

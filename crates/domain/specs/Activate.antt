@@ -2,60 +2,60 @@
 use Rattle.std.specs.Prelude.{Bool, true, false, ◌||◌, ℕ, eqb, get_or}
 use Rattle.base.specs.Cases.{pick}
 use Rattle.tables.specs.declared.Slot.{Slot}
-use Rattle.tables.specs.Tables.{Tables, headAt}
-use Rattle.ring.specs.Ring.{pushOf, cleanupOf}
-use Rattle.ring_search.specs.Queueing.{queueOf}
-use Rattle.stored_ring.specs.Stored.{ringOf, withRingOf}
+use Rattle.tables.specs.Tables.{Tables, head_at}
+use Rattle.ring.specs.Ring.{push_of, cleanup_of}
+use Rattle.ring_search.specs.Queueing.{queue_of}
+use Rattle.stored_ring.specs.Stored.{ring_of, with_ring_of}
 use Rattle.region.specs.declared.AccessRights.{AccessRights}
-use Rattle.tracker.specs.Walks.{addRegion, removeRegion}
+use Rattle.tracker.specs.Walks.{add_region, remove_region}
 use Rattle.answers.specs.declared.Answer.{Answer}
 use Rattle.answers.specs.declared.Answer.TheVariants.{Done, Refused}
 use Rattle.refusals.specs.declared.Refusal.{Refusal}
-use Rattle.refusals.specs.Refusals.{no_local, ringFull}
+use Rattle.refusals.specs.Refusals.{no_local, ring_full}
 use Rattle.answers.specs.Answers.{Effect, done, and_then}
 use Rattle.slot_list.specs.declared.Inserted.{Inserted}
 use Rattle.slot_list.specs.declared.Inserted.TheVariants.{At, Full}
-use Rattle.slot_list.specs.Lists.{giveSlot}
-use Rattle.stored_slots.specs.Record.{listAt}
-use Rattle.closing_set.specs.Closing.{closingB}
-use Rattle.slots.specs.Capas.{roomB, withCapacity, withCapa}
+use Rattle.slot_list.specs.Lists.{give_slot}
+use Rattle.stored_slots.specs.Record.{list_at}
+use Rattle.closing_set.specs.Closing.{closing_b}
+use Rattle.slots.specs.Capas.{room_b, with_capacity, with_capa}
 
 -- done where the test holds
-abbrev pub orRefused : Refusal → Bool → Answer
-orRefused r true = Done 0
-orRefused r false = Refused r
+abbrev pub or_refused : Refusal → Bool → Answer
+or_refused r true = Done 0
+or_refused r false = Refused r
 
--- a free slot in domain d's list, which is swept where it is full (the model's hasCapacity)
+-- a free slot in domain d's list, which is swept where it is full (the model's has_capacity)
 unfoldable pub reserve : ℕ → Tables → Effect
-reserve d s = record { answer = orRefused no_local (roomB (withCapacity s d) d); tables = withCapacity s d }
+reserve d s = record { answer = or_refused no_local (room_b (with_capacity s d) d); tables = with_capacity s d }
 
-abbrev pub insertedAnswer : Inserted → Answer
-insertedAnswer (At i) = Done i
-insertedAnswer Full = Refused no_local
+abbrev pub inserted_answer : Inserted → Answer
+inserted_answer (At i) = Done i
+inserted_answer Full = Refused no_local
 
--- a capability in the first free slot; the answer is the slot (the model's insertCapa)
+-- a capability in the first free slot; the answer is the slot (the model's insert_capa)
 unfoldable pub insert : ℕ → Slot → Tables → Effect
-insert d x s = record { answer = insertedAnswer (giveSlot (listAt s d)).at; tables = withCapa s d x }
+insert d x s = record { answer = inserted_answer (give_slot (list_at s d)).at; tables = with_capa s d x }
 
--- domain d is queued with its core map and marks m, or gathers them (the model's pushPermission)
+-- domain d is queued with its core map and marks m, or gathers them (the model's push_permission)
 unfoldable pub notify : ℕ → ℕ → Tables → Effect
 notify d m s =
-    let p = queueOf (ringOf s) d (get_or s.domainPool.gens d 0) (headAt s d).cores m in
-    record { answer = orRefused ringFull p.ok; tables = withRingOf s p.ring }
+    let p = queue_of (ring_of s) d (get_or s.domain_pool.gens d 0) (head_at s d).cores m in
+    record { answer = or_refused ring_full p.ok; tables = with_ring_of s p.ring }
 
 -- start and end are queued for cleanup (the model's push)
 unfoldable pub cleanup : ℕ → ℕ → Tables → Effect
 cleanup a b s =
-    let p = pushOf (ringOf s) (cleanupOf a b) in
-    record { answer = orRefused ringFull p.ok; tables = withRingOf s p.ring }
+    let p = push_of (ring_of s) (cleanup_of a b) in
+    record { answer = or_refused ring_full p.ok; tables = with_ring_of s p.ring }
 
 -- any mark queues domain d, unless it is closing
-abbrev pub notifyIf : ℕ → ℕ → ℕ → Tables → Effect
-notifyIf closing d m s = pick (closingB closing d || eqb m 0) (done 0 s) (notify d m s)
+abbrev pub notify_if : ℕ → ℕ → ℕ → Tables → Effect
+notify_if closing d m s = pick (closing_b closing d || eqb m 0) (done 0 s) (notify d m s)
 
 -- domain d gains, or loses, the range, while the domains in `closing` are closing (the model's activate and deactivate)
 unfoldable pub activate : ℕ → ℕ → AccessRights → Tables → Effect
-activate closing d a s = and_then (addRegion d a s) (notifyIf closing d)
+activate closing d a s = and_then (add_region d a s) (notify_if closing d)
 
 unfoldable pub deactivate : ℕ → ℕ → AccessRights → Tables → Effect
-deactivate closing d a s = and_then (removeRegion d a s) (notifyIf closing d)
+deactivate closing d a s = and_then (remove_region d a s) (notify_if closing d)

@@ -2,7 +2,7 @@
 // queues (document 01, **Tracker**, **Updates**).
 ghost use Rattle.std.specs.Prelude.{◌≡◌};
 ghost use Rattle.tables.specs.View.{view, Sized, Left};
-ghost use Rattle.domain.specs.Activate.{orRefused, reserve, insert, notify, cleanup, notifyIf, activate, deactivate};
+ghost use Rattle.domain.specs.Activate.{or_refused, reserve, insert, notify, cleanup, notify_if, activate, deactivate};
 
 use answers::Answer;
 use refusals::Refusal;
@@ -11,7 +11,7 @@ use slot_list::Inserted;
 use tables::Slot;
 
 fn or_refused(ok: bool, r: Refusal) -> Answer
-    ensures { result ≡ orRefused r ok }
+    ensures { result ≡ or_refused r ok }
 {
     if ok {
         Answer::Done(0)
@@ -68,8 +68,8 @@ pub fn cleanup(t: &mut [u64], start: u64, end: u64) -> Answer
 // Where a count left or came to 0 (`PermissionChange`). A closing domain queues nothing (document 02, request 5).
 fn notify_if(t: &mut [u64], d: usize, marks: u64, closing: u64) -> Answer
     requires { Sized t.old }
-    ensures value { result ≡ (notifyIf closing d marks (view t.old)).answer }
-    ensures left { Left t.new (notifyIf closing d marks (view t.old)).tables }
+    ensures value { result ≡ (notify_if closing d marks (view t.old)).answer }
+    ensures left { Left t.new (notify_if closing d marks (view t.old)).tables }
 {
     if closing_set::is_closing(closing, d) {
         return Answer::Done(0);

@@ -4,21 +4,21 @@ ghost use Rattle.std.proofs.Math.Option.{none, some};
 ghost use Rattle.model.specs.Perform.{Step};
 ghost use Rattle.model.specs.CallWords.{StepWords};
 ghost use Rattle.call.specs.Arguments.{handle};
-ghost use Rattle.call.specs.Steps.{stepNamed};
+ghost use Rattle.call.specs.Steps.{step_named};
 
 use call::Call;
 use tables::Handle;
 
 pub fn open(cores: u64) -> Call
-    ensures result_value { stepNamed result ≡ Step.Open none cores }
-    ensures step_words { StepWords (stepNamed result) }
+    ensures result_value { step_named result ≡ Step.Open none cores }
+    ensures step_words { StepWords (step_named result) }
 {
     Call::Open(cores)
 }
 
 pub fn open_under(manager: u64, generation: u64, cores: u64) -> Call
-    ensures result_value { stepNamed result ≡ Step.Open (some (handle manager generation)) cores }
-    ensures step_words { StepWords (stepNamed result) }
+    ensures result_value { step_named result ≡ Step.Open (some (handle manager generation)) cores }
+    ensures step_words { StepWords (step_named result) }
 {
     let manager = Handle {
         slot: manager,
@@ -28,8 +28,8 @@ pub fn open_under(manager: u64, generation: u64, cores: u64) -> Call
 }
 
 pub fn channel(domain: u64, generation: u64, to: u64, to_generation: u64) -> Call
-    ensures result_value { stepNamed result ≡ Step.Channel (handle domain generation) (handle to to_generation) }
-    ensures step_words { StepWords (stepNamed result) }
+    ensures result_value { step_named result ≡ Step.Channel (handle domain generation) (handle to to_generation) }
+    ensures step_words { StepWords (step_named result) }
 {
     let domain = Handle {
         slot: domain,
@@ -43,8 +43,8 @@ pub fn channel(domain: u64, generation: u64, to: u64, to_generation: u64) -> Cal
 }
 
 pub fn set_core_map(domain: u64, generation: u64, cores: u64) -> Call
-    ensures result_value { stepNamed result ≡ Step.SetCoreMap (handle domain generation) cores }
-    ensures step_words { StepWords (stepNamed result) }
+    ensures result_value { step_named result ≡ Step.SetCoreMap (handle domain generation) cores }
+    ensures step_words { StepWords (step_named result) }
 {
     let domain = Handle {
         slot: domain,
@@ -54,8 +54,8 @@ pub fn set_core_map(domain: u64, generation: u64, cores: u64) -> Call
 }
 
 pub fn set_interface(domain: u64, generation: u64, word: u64) -> Call
-    ensures result_value { stepNamed result ≡ Step.SetInterface (handle domain generation) word }
-    ensures step_words { StepWords (stepNamed result) }
+    ensures result_value { step_named result ≡ Step.SetInterface (handle domain generation) word }
+    ensures step_words { StepWords (step_named result) }
 {
     let domain = Handle {
         slot: domain,
@@ -65,8 +65,8 @@ pub fn set_interface(domain: u64, generation: u64, word: u64) -> Call
 }
 
 pub fn freeze_interface(domain: u64, generation: u64) -> Call
-    ensures result_value { stepNamed result ≡ Step.FreezeInterface (handle domain generation) }
-    ensures step_words { StepWords (stepNamed result) }
+    ensures result_value { step_named result ≡ Step.FreezeInterface (handle domain generation) }
+    ensures step_words { StepWords (step_named result) }
 {
     let domain = Handle {
         slot: domain,

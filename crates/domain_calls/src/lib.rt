@@ -1,7 +1,7 @@
 // Domains and channels.
 ghost use Rattle.std.specs.Prelude.{◌≡◌};
 ghost use Rattle.tables.specs.View.{view, Sized, Left};
-ghost use Rattle.domain_calls.specs.Calls.{openDomain, openUnder, openChannel, setCoreMap};
+ghost use Rattle.domain_calls.specs.Calls.{open_domain, open_under, open_channel, set_core_map};
 ghost use Rattle.domain_calls.specs.Parts.{managed};
 
 use answers::Answer;
@@ -10,8 +10,8 @@ use tables::{Handle, Slot};
 // A domain without a manager; the answer is its slot.
 pub fn open_domain(t: &mut [u64], cores: u64) -> Answer
     requires { Sized t.old }
-    ensures value { result ≡ (openDomain cores (view t.old)).answer }
-    ensures left { Left t.new (openDomain cores (view t.old)).tables }
+    ensures value { result ≡ (open_domain cores (view t.old)).answer }
+    ensures left { Left t.new (open_domain cores (view t.old)).tables }
 {
     new_domain::new_domain(t, 0, cores)
 }
@@ -44,8 +44,8 @@ fn manage(t: &mut [u64], m: usize, i: u64) -> Answer
 // A domain under a manager, which gets a Management capability.
 pub fn open_under(t: &mut [u64], h: Handle, cores: u64) -> Answer
     requires { Sized t.old }
-    ensures value { result ≡ (openUnder h cores (view t.old)).answer }
-    ensures left { Left t.new (openUnder h cores (view t.old)).tables }
+    ensures value { result ≡ (open_under h cores (view t.old)).answer }
+    ensures left { Left t.new (open_under h cores (view t.old)).tables }
 {
     match checks::live_domain(t, h) {
         Answer::Done(m) => match new_domain::new_domain(t, tables::link_to(m), cores) {
@@ -59,8 +59,8 @@ pub fn open_under(t: &mut [u64], h: Handle, cores: u64) -> Answer
 // A Channel capability to domain `to`; the answer, here and below, is the local slot.
 pub fn open_channel(t: &mut [u64], h: Handle, to: Handle) -> Answer
     requires { Sized t.old }
-    ensures value { result ≡ (openChannel h to (view t.old)).answer }
-    ensures left { Left t.new (openChannel h to (view t.old)).tables }
+    ensures value { result ≡ (open_channel h to (view t.old)).answer }
+    ensures left { Left t.new (open_channel h to (view t.old)).tables }
 {
     match checks::live_domain(t, h) {
         Answer::Done(d) => match checks::live_domain(t, to) {
@@ -82,8 +82,8 @@ pub fn open_channel(t: &mut [u64], h: Handle, to: Handle) -> Answer
 
 pub fn set_core_map(t: &mut [u64], h: Handle, cores: u64) -> Answer
     requires { Sized t.old }
-    ensures value { result ≡ (setCoreMap h cores (view t.old)).answer }
-    ensures left { Left t.new (setCoreMap h cores (view t.old)).tables }
+    ensures value { result ≡ (set_core_map h cores (view t.old)).answer }
+    ensures left { Left t.new (set_core_map h cores (view t.old)).tables }
 {
     match checks::live_domain(t, h) {
         Answer::Done(d) => {

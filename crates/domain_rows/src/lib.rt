@@ -1,16 +1,16 @@
 // Domains: the five words before the slots, loaded and stored; a slot, loaded by itself; all words of one, cleared.
 ghost use Rattle.std.specs.Prelude.{◌≡◌, length};
-ghost use Rattle.sizes.specs.Sizes.{headWidth, slotWidth};
-ghost use Rattle.tables.specs.Tables.{headAt, slot_at, with_head, withoutDomain};
-ghost use Rattle.tables.specs.View.{view, Sized, Left, headOf, slot_of};
-ghost use Rattle.tables.specs.Domains.{domainPlace, slotPlace};
+ghost use Rattle.sizes.specs.Sizes.{head_width, slot_width};
+ghost use Rattle.tables.specs.Tables.{head_at, slot_at, with_head, without_domain};
+ghost use Rattle.tables.specs.View.{view, Sized, Left, head_of, slot_of};
+ghost use Rattle.tables.specs.Domains.{domain_place, slot_place};
 
 use sizes::{HEAD_WIDTH, SLOT_WIDTH};
 use tables::{DomainHead, Handle, Slot};
 
 fn domain_at(t: &[u64], i: usize) -> usize
     requires { Sized t.now }
-    ensures { result ≡ domainPlace t.now i }
+    ensures { result ≡ domain_place t.now i }
 {
     let z = sizes::read_sizes(t);
     tables::rows::row_at(
@@ -23,8 +23,8 @@ fn domain_at(t: &[u64], i: usize) -> usize
 }
 
 pub fn head_of(p: &[u64]) -> DomainHead
-    requires { length p.now ≡ headWidth }
-    ensures { result ≡ headOf p.now }
+    requires { length p.now ≡ head_width }
+    ensures { result ≡ head_of p.now }
 {
     DomainHead {
         manager: p[0],
@@ -37,7 +37,7 @@ pub fn head_of(p: &[u64]) -> DomainHead
 
 pub fn load_head(t: &[u64], i: usize) -> DomainHead
     requires { Sized t.now }
-    ensures { result ≡ headAt (view t.now) i }
+    ensures { result ≡ head_at (view t.now) i }
 {
     let p = words::run(t, domain_at(t, i), HEAD_WIDTH);
     if p.len() == HEAD_WIDTH {
@@ -58,7 +58,7 @@ pub fn store_head(t: &mut [u64], i: usize, h: DomainHead)
 // Makes the words of domain i 0, its slots' too; nothing where there is no such domain.
 pub fn clear_domain(t: &mut [u64], i: usize)
     requires { Sized t.old }
-    ensures { Left t.new (withoutDomain (view t.old) i) }
+    ensures { Left t.new (without_domain (view t.old) i) }
 {
     let z = sizes::read_sizes(t);
     let w = sizes::domain_width(z);
@@ -73,7 +73,7 @@ pub fn clear_domain(t: &mut [u64], i: usize)
 
 fn slot_at(t: &[u64], i: usize, j: usize) -> usize
     requires { Sized t.now }
-    ensures { result ≡ slotPlace t.now i j }
+    ensures { result ≡ slot_place t.now i j }
 {
     if j < words::size(t, sizes::SLOTS) {
         domain_at(t, i) + (HEAD_WIDTH + j * SLOT_WIDTH)
@@ -83,7 +83,7 @@ fn slot_at(t: &[u64], i: usize, j: usize) -> usize
 }
 
 pub fn slot_of(p: &[u64]) -> Slot
-    requires { length p.now ≡ slotWidth }
+    requires { length p.now ≡ slot_width }
     ensures { result ≡ slot_of p.now }
 {
     let handle = Handle {

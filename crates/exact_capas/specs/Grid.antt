@@ -25,8 +25,8 @@ module _ (D S : ℕ) (g : ℕ → ℕ → ℕ) where
   at-below : (d j : ℕ) → d < D → j ≤ S → at d j < D * (S + 1)
   at-below d j b h = digits_lt {q = d} {m = D} {r = j} {c = S + 1} b (omega arith)
 
-  pub row_below : (i : ℕ) → i < D * (S + 1) → i / (S + 1) < D
-  row_below i b = elim (cmp (i / (S + 1)) D) [
+  pub row_below_lem : (i : ℕ) → i < D * (S + 1) → i / (S + 1) < D
+  row_below_lem i b = elim (cmp (i / (S + 1)) D) [
     | lt h ↦ h
     | ge h ↦ absurd (omega (arith, mul-le-mul_right (S + 1) h, div-add-mod' i (S + 1)))
   ]
@@ -55,9 +55,9 @@ module _ (D S : ℕ) (g : ℕ → ℕ → ℕ) where
 
   pub rows_fit : (m : ℕ) → Rows m → FitFrom gridded m 0 (D * (S + 1))
   rows_fit m r = record {
-    within = λ i a b. r.within (i / (S + 1)) (i % (S + 1)) (row_below i (omega arith)) (place-below i);
+    within = λ i a b. r.within (i / (S + 1)) (i % (S + 1)) (row_below_lem i (omega arith)) (place-below i);
     once = λ i j a b d p z.
-        let x = r.once (i / (S + 1)) (i % (S + 1)) (j / (S + 1)) (j % (S + 1)) (row_below i (omega arith)) (place-below i) (row_below j (omega arith)) (place-below j) p z in
+        let x = r.once (i / (S + 1)) (i % (S + 1)) (j / (S + 1)) (j % (S + 1)) (row_below_lem i (omega arith)) (place-below i) (row_below_lem j (omega arith)) (place-below j) p z in
         omega (arith, div-add-mod' i (S + 1), div-add-mod' j (S + 1), ap (λ k. k * (S + 1)) x.0, x.1);
   }
 

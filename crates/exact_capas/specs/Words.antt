@@ -5,9 +5,9 @@ use Rattle.model.specs.State.{Word}
 use Rattle.laws.specs.Lists.{word_at, zero_word}
 use Rattle.words.specs.Rows.{rows}
 use Rattle.words.specs.Cuts.{cuts}
-use Rattle.tables.specs.Tables.{Domain, noDomain}
-use Rattle.sizes.specs.Sizes.{sizesOf, stride, widths}
-use Rattle.tables.specs.View.{domainOf, ofParts, view}
+use Rattle.tables.specs.Tables.{Domain, no_domain}
+use Rattle.sizes.specs.Sizes.{sizes_of, stride, widths}
+use Rattle.tables.specs.View.{domain_of, of_parts, view}
 use Rattle.exact_capas.specs.Clauses.{Stored}
 
 take_words : (n : ℕ) (l : List ℕ) → Each Word l → Each Word (take n l)
@@ -35,12 +35,12 @@ row_words P w (suc n) f d l zero z g h = g (take w l) (take_words w l h)
 row_words P w (suc n) f d l (suc i) z g h = row_words P w n f d (drop w l) i z g (drop-words w l h)
 
 module _ (t : List ℕ) (h : Each Word t) where
-  pub section-words : (i : ℕ) → Each Word (get_or (cuts (widths (sizesOf t)) t) i [])
-  section-words i = cut-words (widths (sizesOf t)) t i h
+  pub section-words : (i : ℕ) → Each Word (get_or (cuts (widths (sizes_of t)) t) i [])
+  section-words i = cut-words (widths (sizes_of t)) t i h
 
-  core-words : (i : ℕ) → Word (get_or (view t).domains i noDomain).head.cores
-  unfolding view ofParts domainOf
-  core-words i = row_words (λ (x : Domain). Word x.head.cores) (stride (sizesOf t)) (sizesOf t).domains (domainOf (sizesOf t).slots) noDomain (get_or (cuts (widths (sizesOf t)) t) 4 []) i zero_word (λ p w. word_at (take 5 p) 1 (take_words 5 p w)) (section-words 4)
+  core-words : (i : ℕ) → Word (get_or (view t).domains i no_domain).head.cores
+  unfolding view of_parts domain_of
+  core-words i = row_words (λ (x : Domain). Word x.head.cores) (stride (sizes_of t)) (sizes_of t).domains (domain_of (sizes_of t).slots) no_domain (get_or (cuts (widths (sizes_of t)) t) 4 []) i zero_word (λ p w. word_at (take 5 p) 1 (take_words 5 p w)) (section-words 4)
 
   pub view-stored : Stored (view t)
   view-stored = record { cores = λ i b. core-words i }

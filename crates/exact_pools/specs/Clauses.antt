@@ -4,24 +4,24 @@ use Rattle.std.specs.Prelude.{◌≡◌, ℕ, ◌<◌, true, false, length}
 use Rattle.std.proofs.Math.Option.{none}
 use Rattle.model.specs.Lists.{In}
 use Rattle.model.specs.State as state
-use Rattle.model.specs.Sound.{OnceEach, slotUses, recordUses}
-use Rattle.tables.specs.Tables.{Tables, noRegion}
-use Rattle.decoded.specs.Tables.{domainFor}
+use Rattle.model.specs.Sound.{OnceEach, slot_uses, record_uses}
+use Rattle.tables.specs.Tables.{Tables, no_region}
+use Rattle.decoded.specs.Tables.{domain_for}
 use Rattle.decoded.specs.Decode.Read.{taken, state_of}
-use Rattle.decoded.specs.Canonical.WellFormed.{PoolWellFormed, DomainWellFormed, TrackersWellFormed, domainRow, regionRow}
+use Rattle.decoded.specs.Canonical.WellFormed.{PoolWellFormed, DomainWellFormed, TrackersWellFormed, domain_row, region_row}
 
 pub record PoolsClauses (v : Tables) : Type 0 where
   -- the words
-  pub domainPool : PoolWellFormed v.sizes.domains v.domainPool
-  pub regionPool : PoolWellFormed v.sizes.regions v.regionPool
-  pub domainsUsed : (i : ℕ) → i < v.sizes.domains → taken v.domainPool i ≡ true → DomainWellFormed v.sizes.slots (domainRow v i)
-  pub domainsFree : (i : ℕ) → i < v.sizes.domains → taken v.domainPool i ≡ false → domainRow v i ≡ domainFor v.sizes.slots none
-  pub regionsFree : (i : ℕ) → i < v.sizes.regions → taken v.regionPool i ≡ false → regionRow v i ≡ noRegion
+  pub domain_pool : PoolWellFormed v.sizes.domains v.domain_pool
+  pub region_pool : PoolWellFormed v.sizes.regions v.region_pool
+  pub domains_used : (i : ℕ) → i < v.sizes.domains → taken v.domain_pool i ≡ true → DomainWellFormed v.sizes.slots (domain_row v i)
+  pub domains_free : (i : ℕ) → i < v.sizes.domains → taken v.domain_pool i ≡ false → domain_row v i ≡ domain_for v.sizes.slots none
+  pub regions_free : (i : ℕ) → i < v.sizes.regions → taken v.region_pool i ≡ false → region_row v i ≡ no_region
   -- the state that is read
-  pub domainOnce : OnceEach v.sizes.domains (slotUses (state_of v).domains) (state_of v).domainPool.free
-  pub regionOnce : OnceEach v.sizes.regions (slotUses (state_of v).regions) (state_of v).regionPool.free
-  pub lists : (d : ℕ) (x : state.Domain) → In (state_of v).domains d x → (length x.locals.held ≡ v.sizes.slots) × OnceEach v.sizes.slots (slotUses x.locals.held) x.locals.free
+  pub domain_once : OnceEach v.sizes.domains (slot_uses (state_of v).domains) (state_of v).domain_pool.free
+  pub region_once : OnceEach v.sizes.regions (slot_uses (state_of v).regions) (state_of v).region_pool.free
+  pub lists : (d : ℕ) (x : state.Domain) → In (state_of v).domains d x → (length x.locals.held ≡ v.sizes.slots) × OnceEach v.sizes.slots (slot_uses x.locals.held) x.locals.free
 
 pub record RecordClauses (v : Tables) : Type 0 where
-  pub wellFormed : TrackersWellFormed v
-  pub recordOnce : OnceEach v.sizes.records (recordUses (state_of v).domains) (state_of v).recordPool.free
+  pub well_formed : TrackersWellFormed v
+  pub record_once : OnceEach v.sizes.records (record_uses (state_of v).domains) (state_of v).record_pool.free

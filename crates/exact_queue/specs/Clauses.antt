@@ -13,5 +13,5 @@ pub record Stored (v : Tables) : Type 0 where
   pub third : (k : ℕ) → k < v.sizes.updates + 1 → Word (place v k).c
 
 pub record QueueClauses (v : Tables) : Type 0 where
-  pub queue : QueueSound v.sizes.updates (state_of v).domainPool (state_of v).domains (state_of v).queue
-  pub wellFormed : QueueWellFormed v
+  pub queue : QueueSound v.sizes.updates (state_of v).domain_pool (state_of v).domains (state_of v).queue
+  pub well_formed : QueueWellFormed v

@@ -5,27 +5,27 @@ use Rattle.std.proofs.Math.Path.{ap}
 use mathlib.Core.List.{List, ◌∷◌}
 use Rattle.std.proofs.Math.ListN.{length}
 use Rattle.base.specs.Cases.{holds, fails, test, lt, ge, cmp}
-use Rattle.model.specs.Lists.{countIf}
+use Rattle.model.specs.Lists.{count_if}
 use Rattle.laws.specs.Tree.Sum.{sum, sum_same, sum-swap}
 use Rattle.laws.specs.Stack.{stack-length}
 use Rattle.tables.specs.declared.RegionCapa.{RegionCapa}
-use Rattle.decoded.specs.Decode.Read.{chainFrom}
+use Rattle.decoded.specs.Decode.Read.{chain_from}
 use Rattle.decoded.specs.Decode.Walks.{chain-none}
-use Rattle.decoded.specs.Canonical.Ends.{chainEnd, end_none}
-use Rattle.sound_tree.specs.Tree.{oneIf, tallyFrom, no_run, walked, listsFrom, isChild, childCount}
+use Rattle.decoded.specs.Canonical.Ends.{chain_end, end_none}
+use Rattle.sound_tree.specs.Tree.{one_if, tally_from, no_run, walked, lists_from, is_child, child_count}
 use Rattle.exact_tree.specs.Walks.{next_of, FitAll, walk-facts, facts-walk}
 
 -- ---- a chain that ends within n steps is the same chain for more steps
 
-pub chain_more : (f : ℕ → ℕ) (n m l : ℕ) → n ≤ m → chainEnd f n l ≡ 0 → (chainEnd f m l ≡ 0) × (chainFrom f m l ≡ chainFrom f n l)
-chain_more f zero m l h e = (ap (chainEnd f m) e ∙ end_none f m, ap (chainFrom f m) e ∙ chain-none f m)
+pub chain_more : (f : ℕ → ℕ) (n m l : ℕ) → n ≤ m → chain_end f n l ≡ 0 → (chain_end f m l ≡ 0) × (chain_from f m l ≡ chain_from f n l)
+chain_more f zero m l h e = (ap (chain_end f m) e ∙ end_none f m, ap (chain_from f m) e ∙ chain-none f m)
 chain_more f (suc n) zero l h e = absurd (omega arith)
 chain_more f (suc n) (suc m) zero h e = (refl, refl)
 chain_more f (suc n) (suc m) (suc i) h e = let r = chain_more f n m (f i) (omega arith) e in (r.0, ap (λ k. i ∷ k) r.1)
 
 -- and for as many steps as it is long
-pub chain-less : (f : ℕ → ℕ) (n m l : ℕ) → chainEnd f m l ≡ 0 → length (chainFrom f m l) ≤ n → (chainEnd f n l ≡ 0) × (chainFrom f n l ≡ chainFrom f m l)
-chain-less f n zero l e h = (ap (chainEnd f n) e ∙ end_none f n, ap (chainFrom f n) e ∙ chain-none f n)
+pub chain-less : (f : ℕ → ℕ) (n m l : ℕ) → chain_end f m l ≡ 0 → length (chain_from f m l) ≤ n → (chain_end f n l ≡ 0) × (chain_from f n l ≡ chain_from f m l)
+chain-less f n zero l e h = (ap (chain_end f n) e ∙ end_none f n, ap (chain_from f n) e ∙ chain-none f n)
 chain-less f zero (suc m) zero e h = (refl, refl)
 chain-less f zero (suc m) (suc i) e h = absurd (omega arith)
 chain-less f (suc n) (suc m) zero e h = (refl, refl)
@@ -42,14 +42,14 @@ sum_mono w k (suc n) h = elim (cmp n k) [
 
 module _ (row : ℕ → RegionCapa) (n : ℕ) where
   abbrev pub kids : ℕ → List ℕ
-  kids k = chainFrom (next_of row) n (row k).child
+  kids k = chain_from (next_of row) n (row k).child
 
   abbrev pub many : ℕ → ℕ
   many k = length (kids k)
 
   -- the list of region k
   pub record Listed (k : ℕ) : Type 0 where
-    pub ends : chainEnd (next_of row) n (row k).child ≡ 0
+    pub ends : chain_end (next_of row) n (row k).child ≡ 0
     pub fits : FitAll row (k + 1) no_run (kids k)
 
   list-facts : (left k x : ℕ) → left ≤ n → walked row left k ≡ suc x → Listed k × (many k + x ≡ left)
@@ -73,8 +73,8 @@ module _ (row : ℕ → RegionCapa) (n : ℕ) where
   lists-end : (k left total : ℕ) → eqb left 0 ≡ true → left + sum many k ≡ total → k ≡ n → AllFacts k total
   lists-end k left total e s b = (ap (sum many) (sym b) ∙ omega (arith, eqb-true left 0 e), λ j h u. absurd (omega arith))
 
-  lists-step : (m k left total : ℕ) → left ≤ n → listsFrom row left (suc m) k ≡ true → left + sum many k ≡ total
-      → ((x : ℕ) → x ≤ n → listsFrom row x m (suc k) ≡ true → x + sum many (suc k) ≡ total → AllFacts (suc k) total) → AllFacts k total
+  lists-step : (m k left total : ℕ) → left ≤ n → lists_from row left (suc m) k ≡ true → left + sum many k ≡ total
+      → ((x : ℕ) → x ≤ n → lists_from row x m (suc k) ≡ true → x + sum many (suc k) ≡ total → AllFacts (suc k) total) → AllFacts k total
   lists-step m k left total h e s ih = elim (test (ltb 0 (walked row left k))) [
     | fails t ↦ let z : ◌≡◌ {A = Bool} false true = rw t at e in let o : ◌≡◌ {A = ℕ} 0 1 = cc in absurd (omega arith)
     | holds t ↦
@@ -89,11 +89,11 @@ module _ (row : ℕ → RegionCapa) (n : ℕ) where
         )
   ]
 
-  pub lists-facts : (m k left total : ℕ) → left ≤ n → listsFrom row left m k ≡ true → left + sum many k ≡ total → k + m ≡ n → AllFacts k total
+  pub lists-facts : (m k left total : ℕ) → left ≤ n → lists_from row left m k ≡ true → left + sum many k ≡ total → k + m ≡ n → AllFacts k total
   lists-facts zero k left total h e s b = lists-end k left total e s (omega arith)
   lists-facts (suc m) k left total h e s b = lists-step m k left total h e s (λ x u f g. lists-facts m (suc k) x total u f g (omega arith))
 
-  pub facts-lists : (m k left : ℕ) → ((j : ℕ) → j < n → Listed j) → left + sum many k ≡ sum many n → k + m ≡ n → listsFrom row left m k ≡ true
+  pub facts-lists : (m k left : ℕ) → ((j : ℕ) → j < n → Listed j) → left + sum many k ≡ sum many n → k + m ≡ n → lists_from row left m k ≡ true
   facts-lists zero k left h s b = let z : k ≡ n = omega arith in eq-eqb left 0 (omega (arith, ap (sum many) z))
   facts-lists (suc m) k left h s b =
       let c : many k ≤ left = omega (arith, sum_mono many (suc k) n (omega arith)) in
@@ -104,30 +104,30 @@ module _ (row : ℕ → RegionCapa) (n : ℕ) where
   -- ---- members counted by the child: in how many lists it is
 
   abbrev pub uses : ℕ → ℕ
-  uses i = sum (λ k. countIf (eqb i) (kids k)) n
+  uses i = sum (λ k. count_if (eqb i) (kids k)) n
 
-  pub many-uses : ((k : ℕ) → k < n → (i : ℕ) → n ≤ i → countIf (eqb i) (kids k) ≡ 0) → sum many n ≡ sum uses n
+  pub many-uses : ((k : ℕ) → k < n → (i : ℕ) → n ≤ i → count_if (eqb i) (kids k) ≡ 0) → sum many n ≡ sum uses n
   many-uses h =
-      sum_same many (λ k. sum (λ i. countIf (eqb i) (kids k)) n) n (λ k b. sym (stack-length n (kids k) (h k b)))
-      ∙ sum-swap (λ k i. countIf (eqb i) (kids k)) n n
+      sum_same many (λ k. sum (λ i. count_if (eqb i) (kids k)) n) n (λ k b. sym (stack-length n (kids k) (h k b)))
+      ∙ sum-swap (λ k i. count_if (eqb i) (kids k)) n n
 
 -- ---- the number of children
 
 abbrev pub tells : (ℕ → Bool) → ℕ → ℕ
-tells f i = oneIf (f i)
+tells f i = one_if (f i)
 
-tally-sum : (f : ℕ → Bool) (m k : ℕ) → tallyFrom f m k + sum (tells f) k ≡ sum (tells f) (k + m)
+tally-sum : (f : ℕ → Bool) (m k : ℕ) → tally_from f m k + sum (tells f) k ≡ sum (tells f) (k + m)
 tally-sum f zero k = let z : k + 0 ≡ k = omega arith in rw z (omega arith)
 tally-sum f (suc m) k = let z : k + suc m ≡ suc k + m = omega arith in rw z (omega (arith, tally-sum f m (suc k)))
 
-pub child-sum : (row : ℕ → RegionCapa) (n : ℕ) → childCount row n ≡ sum (tells (isChild row)) n
-unfolding childCount
-child-sum row n = let z : 0 + n ≡ n = omega arith in omega (arith, tally-sum (isChild row) n 0, ap (sum (tells (isChild row))) z)
+pub child-sum : (row : ℕ → RegionCapa) (n : ℕ) → child_count row n ≡ sum (tells (is_child row)) n
+unfolding child_count
+child-sum row n = let z : 0 + n ≡ n = omega arith in omega (arith, tally-sum (is_child row) n 0, ap (sum (tells (is_child row))) z)
 
-pub one-t : (b : Bool) → b ≡ true → oneIf b ≡ 1
-unfolding oneIf
+pub one-t : (b : Bool) → b ≡ true → one_if b ≡ 1
+unfolding one_if
 one-t b e = rw e
 
-pub one-f : (b : Bool) → b ≡ false → oneIf b ≡ 0
-unfolding oneIf
+pub one-f : (b : Bool) → b ≡ false → one_if b ≡ 0
+unfolding one_if
 one-f b e = rw e

@@ -6,14 +6,14 @@ use Rattle.std.proofs.Common.{sym, ◌∙◌, arith, eqb→eq}
 use borrow.Author.Tests.{eqb-true, leb-true, eq-eqb, le-leb, lt-ltb, le-ltb, ne_eqb}
 use Rattle.base.specs.Cases.{holds, fails, test, lt, ge, cmp}
 use Rattle.base.specs.Tests.{true-is, both_true}
-use Rattle.model.specs.Lists.{oneIf, countIf, Each}
+use Rattle.model.specs.Lists.{one_if, count_if, Each}
 use Rattle.model.specs.Sound.{Ordered}
 use Rattle.laws.specs.Tree.Slots.{each_in, in-each}
 use Rattle.tables.specs.declared.RegionCapa.{RegionCapa}
-use Rattle.decoded.specs.Decode.Read.{chainFrom}
-use Rattle.decoded.specs.Canonical.Ends.{chainEnd}
+use Rattle.decoded.specs.Decode.Read.{chain_from}
+use Rattle.decoded.specs.Canonical.Ends.{chain_end}
 use Rattle.sound_tree.specs.declared.Run.{Run}
-use Rattle.sound_tree.specs.Tree.{larger, after, floorOf, childFits, walkFrom}
+use Rattle.sound_tree.specs.Tree.{larger, after, floor_of, child_fits, walk_from}
 
 pub each_map : (P Q : ℕ → Type 0) (l : List ℕ) → ((x : ℕ) → P x → Q x) → Each P l → Each Q l
 each_map P Q [] f h = tt
@@ -31,12 +31,12 @@ larger-le : (a b x : ℕ) → a ≤ x → b ≤ x → larger a b ≤ x
 larger-le a b x h k = elim (cmp a b) [ lt u ↦ rw (lt-ltb a b u) k | ge u ↦ rw (le-ltb a b u) h ]
 
 module _ (s : Run) (r : RegionCapa) where
-  floor-carve : eqb r.kind 3 ≡ true → floorOf s r ≡ s.far
-  unfolding floorOf
+  floor-carve : eqb r.kind 3 ≡ true → floor_of s r ≡ s.far
+  unfolding floor_of
   floor-carve e = rw e
 
-  floor-other : eqb r.kind 3 ≡ false → floorOf s r ≡ s.carved
-  unfolding floorOf
+  floor-other : eqb r.kind 3 ≡ false → floor_of s r ≡ s.carved
+  unfolding floor_of
   floor-other e = rw e
 
   carved-carve : eqb r.kind 3 ≡ true → (after s r).carved ≡ larger s.carved r.end
@@ -55,15 +55,15 @@ module _ (s : Run) (r : RegionCapa) where
   unfolding after
   after_last = refl
 
-  fit-split : (own : ℕ) → childFits own s r ≡ true → (r.parent ≡ own) × (s.last ≤ r.start) × (floorOf s r ≤ r.start)
-  unfolding childFits
+  fit-split : (own : ℕ) → child_fits own s r ≡ true → (r.parent ≡ own) × (s.last ≤ r.start) × (floor_of s r ≤ r.start)
+  unfolding child_fits
   fit-split own h =
       let a = both_true (eqb r.parent own) _ h in
       let b = both_true _ _ a.1 in
       (eqb-true _ _ a.0, leb-true _ _ b.0, leb-true _ _ b.1)
 
-  split-fit : (own : ℕ) → r.parent ≡ own → s.last ≤ r.start → floorOf s r ≤ r.start → childFits own s r ≡ true
-  unfolding childFits
+  split-fit : (own : ℕ) → r.parent ≡ own → s.last ≤ r.start → floor_of s r ≤ r.start → child_fits own s r ≡ true
+  unfolding child_fits
   split-fit own p a b = rw (eq-eqb _ _ p, le-leb _ _ a, le-leb _ _ b)
 
 module _ (row : ℕ → RegionCapa) where
@@ -74,27 +74,27 @@ module _ (row : ℕ → RegionCapa) where
 
   abbrev pub FitAll : ℕ → Run → List ℕ → Type 0
   FitAll own s [] = Unit {0}
-  FitAll own s (c ∷ l) = (childFits own s (row c) ≡ true) × FitAll own (after s (row c)) l
+  FitAll own s (c ∷ l) = (child_fits own s (row c) ≡ true) × FitAll own (after s (row c)) l
 
   -- m children are left behind the list
   pub record Walk (own n l : ℕ) (s : Run) (m : ℕ) : Type 0 where
-    pub ends : chainEnd next_of n l ≡ 0
-    pub long : length (chainFrom next_of n l) + m ≡ n
-    pub fits : FitAll own s (chainFrom next_of n l)
+    pub ends : chain_end next_of n l ≡ 0
+    pub long : length (chain_from next_of n l) + m ≡ n
+    pub fits : FitAll own s (chain_from next_of n l)
 
-  walk_step : (own n c : ℕ) (s : Run) (m : ℕ) → walkFrom row own (suc n) (suc c) s ≡ suc m → (walkFrom row own n (row c).next (after s (row c)) ≡ suc m → Walk own n (row c).next (after s (row c)) m) → Walk own (suc n) (suc c) s m
-  walk_step own n c s m e ih = elim (test (childFits own s (row c))) [
+  walk_step : (own n c : ℕ) (s : Run) (m : ℕ) → walk_from row own (suc n) (suc c) s ≡ suc m → (walk_from row own n (row c).next (after s (row c)) ≡ suc m → Walk own n (row c).next (after s (row c)) m) → Walk own (suc n) (suc c) s m
+  walk_step own n c s m e ih = elim (test (child_fits own s (row c))) [
     | holds t ↦ let w = ih (rw t at e) in record { ends = w.ends; long = omega (arith, w.long); fits = (t, w.fits) }
     | fails t ↦ let z : 0 ≡ suc m = rw t at e in absurd (omega arith)
   ]
 
-  pub walk-facts : (own n l : ℕ) (s : Run) (m : ℕ) → walkFrom row own n l s ≡ suc m → Walk own n l s m
+  pub walk-facts : (own n l : ℕ) (s : Run) (m : ℕ) → walk_from row own n l s ≡ suc m → Walk own n l s m
   walk-facts own zero zero s m e = record { ends = refl; long = omega arith; fits = tt }
   walk-facts own zero (suc c) s m e = absurd (omega arith)
   walk-facts own (suc n) zero s m e = record { ends = refl; long = omega arith; fits = tt }
   walk-facts own (suc n) (suc c) s m e = walk_step own n c s m e (walk-facts own n (row c).next (after s (row c)) m)
 
-  pub facts-walk : (own n l : ℕ) (s : Run) (m : ℕ) → chainEnd next_of n l ≡ 0 → length (chainFrom next_of n l) + m ≡ n → FitAll own s (chainFrom next_of n l) → walkFrom row own n l s ≡ suc m
+  pub facts-walk : (own n l : ℕ) (s : Run) (m : ℕ) → chain_end next_of n l ≡ 0 → length (chain_from next_of n l) + m ≡ n → FitAll own s (chain_from next_of n l) → walk_from row own n l s ≡ suc m
   facts-walk own zero zero s m e h f = omega arith
   facts-walk own zero (suc c) s m e h f = absurd (omega arith)
   facts-walk own (suc n) zero s m e h f = omega arith
@@ -105,24 +105,24 @@ module _ (row : ℕ → RegionCapa) where
   -- child d behind the run s
   pub record Behind (s : Run) (d : ℕ) : Type 0 where
     pub last : s.last ≤ (row d).start
-    pub floor : floorOf s (row d) ≤ (row d).start
+    pub floor : floor_of s (row d) ≤ (row d).start
 
   -- child c before child d
   pub record Sorted (c d : ℕ) : Type 0 where
     pub starts : (row c).start ≤ (row d).start
-    pub fromCarve : (row c).kind ≡ 3 → (row c).end ≤ (row d).start
-    pub toCarve : (row d).kind ≡ 3 → (row c).end ≤ (row d).start
+    pub from_carve : (row c).kind ≡ 3 → (row c).end ≤ (row d).start
+    pub to_carve : (row d).kind ≡ 3 → (row c).end ≤ (row d).start
 
   abbrev pub Pairs : List ℕ → Type 0
   Pairs [] = Unit {0}
   Pairs (c ∷ l) = Each (Sorted c) l × Pairs l
 
   module _ (s : Run) (c d : ℕ) where
-    floor-more : Behind s d → Sorted c d → floorOf (after s (row c)) (row d) ≤ (row d).start
+    floor-more : Behind s d → Sorted c d → floor_of (after s (row c)) (row d) ≤ (row d).start
     floor-more b h = elim (test (eqb (row d).kind 3)) [
-      | holds e ↦ omega (arith, floor-carve (after s (row c)) (row d) e, floor-carve s (row d) e, after-far s (row c), b.floor, larger-le s.far (row c).end (row d).start (omega (arith, floor-carve s (row d) e, b.floor)) (h.toCarve (eqb-true _ _ e)))
+      | holds e ↦ omega (arith, floor-carve (after s (row c)) (row d) e, floor-carve s (row d) e, after-far s (row c), b.floor, larger-le s.far (row c).end (row d).start (omega (arith, floor-carve s (row d) e, b.floor)) (h.to_carve (eqb-true _ _ e)))
       | fails e ↦ elim (test (eqb (row c).kind 3)) [
-        | holds f ↦ omega (arith, floor-other (after s (row c)) (row d) e, carved-carve s (row c) f, larger-le s.carved (row c).end (row d).start (omega (arith, floor-other s (row d) e, b.floor)) (h.fromCarve (eqb-true _ _ f)))
+        | holds f ↦ omega (arith, floor-other (after s (row c)) (row d) e, carved-carve s (row c) f, larger-le s.carved (row c).end (row d).start (omega (arith, floor-other s (row d) e, b.floor)) (h.from_carve (eqb-true _ _ f)))
         | fails f ↦ omega (arith, floor-other (after s (row c)) (row d) e, carved-other s (row c) f, floor-other s (row d) e, b.floor)
       ]
     ]
@@ -131,7 +131,7 @@ module _ (row : ℕ → RegionCapa) where
     behind_more b h = record { last = omega (arith, after_last s (row c), h.starts); floor = floor-more b h }
 
     -- and back
-    floor-less : floorOf (after s (row c)) (row d) ≤ (row d).start → floorOf s (row d) ≤ (row d).start
+    floor-less : floor_of (after s (row c)) (row d) ≤ (row d).start → floor_of s (row d) ≤ (row d).start
     floor-less b = elim (test (eqb (row d).kind 3)) [
       | holds e ↦ omega (arith, floor-carve (after s (row c)) (row d) e, floor-carve s (row d) e, after-far s (row c), larger-l s.far (row c).end)
       | fails e ↦ elim (test (eqb (row c).kind 3)) [
@@ -140,10 +140,10 @@ module _ (row : ℕ → RegionCapa) where
       ]
     ]
 
-    to-carve : floorOf (after s (row c)) (row d) ≤ (row d).start → (row d).kind ≡ 3 → (row c).end ≤ (row d).start
+    to-carve : floor_of (after s (row c)) (row d) ≤ (row d).start → (row d).kind ≡ 3 → (row c).end ≤ (row d).start
     to-carve b k = let e = eq-eqb (row d).kind 3 k in omega (arith, floor-carve (after s (row c)) (row d) e, after-far s (row c), larger-r s.far (row c).end)
 
-    from-carve : floorOf (after s (row c)) (row d) ≤ (row d).start → (row c).kind ≡ 3 → (row c).end ≤ (row d).start
+    from-carve : floor_of (after s (row c)) (row d) ≤ (row d).start → (row c).kind ≡ 3 → (row c).end ≤ (row d).start
     from-carve b k = elim (test (eqb (row d).kind 3)) [
       | holds e ↦ to-carve b (eqb-true _ _ e)
       | fails e ↦ omega (arith, floor-other (after s (row c)) (row d) e, carved-carve s (row c) (eq-eqb (row c).kind 3 k), larger-r s.carved (row c).end)
@@ -153,7 +153,7 @@ module _ (row : ℕ → RegionCapa) where
     behind-less b h = record { last = omega (arith, after_last s (row c), b.last, h.last); floor = floor-less b.floor }
 
     behind-sorted : Behind (after s (row c)) d → Sorted c d
-    behind-sorted b = record { starts = omega (arith, after_last s (row c), b.last); fromCarve = from-carve b.floor; toCarve = to-carve b.floor }
+    behind-sorted b = record { starts = omega (arith, after_last s (row c), b.last); from_carve = from-carve b.floor; to_carve = to-carve b.floor }
 
   pub fits-behind : (own : ℕ) (s : Run) (l : List ℕ) → FitAll own s l → Each (Behind s) l
   fits-behind own s [] f = tt
@@ -182,7 +182,7 @@ module _ (row : ℕ → RegionCapa) where
 
   -- ---- pairs of members
 
-  pub pairs-find : {X : Type 0} (l : List ℕ) (c d : ℕ) → Pairs l → 0 < countIf (eqb c) l → 0 < countIf (eqb d) l → c ≢ d → (Sorted c d → X) → (Sorted d c → X) → X
+  pub pairs-find : {X : Type 0} (l : List ℕ) (c d : ℕ) → Pairs l → 0 < count_if (eqb c) l → 0 < count_if (eqb d) l → c ≢ d → (Sorted c d → X) → (Sorted d c → X) → X
   pairs-find [] c d p h k ne f g = absurd (omega arith)
   pairs-find (x ∷ l) c d p h k ne f g = elim (test (eqb c x)) [
     | holds t ↦
@@ -205,20 +205,20 @@ module _ (row : ℕ → RegionCapa) where
       starts [] h = tt
       starts (d ∷ l) h = (h.0.starts, starts l h.1)
 
-  pub pairs_of : (l : List ℕ) → Ordered (map (λ c. (row c).start) l) → ((i : ℕ) → countIf (eqb i) l ≤ 1) → ((c d : ℕ) → 0 < countIf (eqb c) l → 0 < countIf (eqb d) l → c ≢ d → (row c).start ≤ (row d).start → Sorted c d) → Pairs l
+  pub pairs_of : (l : List ℕ) → Ordered (map (λ c. (row c).start) l) → ((i : ℕ) → count_if (eqb i) l ≤ 1) → ((c d : ℕ) → 0 < count_if (eqb c) l → 0 < count_if (eqb d) l → c ≢ d → (row c).start ≤ (row d).start → Sorted c d) → Pairs l
   pairs_of [] o u f = tt
   pairs_of (c ∷ l) o u f = (
     in-each (Sorted c) l (λ d h. f c d (omega (arith, self c)) (omega arith) (λ e. omega (arith, u d, one_of d c (sym e))) (start l o.0 d h)),
     pairs_of l o.1 (λ i. omega (arith, u i)) (λ a b h k. f a b (omega arith) (omega arith)),
   )
     where
-      self : (c : ℕ) → oneIf (eqb c c) ≡ 1
+      self : (c : ℕ) → one_if (eqb c c) ≡ 1
       self c = rw (eq-eqb c c refl)
 
-      one_of : (d c : ℕ) → d ≡ c → oneIf (eqb d c) ≡ 1
+      one_of : (d c : ℕ) → d ≡ c → one_if (eqb d c) ≡ 1
       one_of d c e = rw (eq-eqb d c e)
 
-      start : (l : List ℕ) → Each (λ y. (row c).start ≤ y) (map (λ d. (row d).start) l) → (d : ℕ) → 0 < countIf (eqb d) l → (row c).start ≤ (row d).start
+      start : (l : List ℕ) → Each (λ y. (row c).start ≤ y) (map (λ d. (row d).start) l) → (d : ℕ) → 0 < count_if (eqb d) l → (row c).start ≤ (row d).start
       start [] h d k = absurd (omega arith)
       start (x ∷ l) h d k = elim (test (eqb d x)) [
         | holds t ↦ rw (eqb→eq d x (true-is t)) h.0

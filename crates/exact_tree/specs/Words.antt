@@ -8,12 +8,12 @@ use Rattle.laws.specs.Lists.{zero_word, word_at}
 use Rattle.words.specs.Runs.{part_at, fetched, fetched-in, fetched-out}
 use Rattle.tables.specs.declared.RegionCapa.{RegionCapa}
 use Rattle.tables.specs.declared.RegionHash.{RegionHash}
-use Rattle.tables.specs.Tables.{regionAt, hashAt}
+use Rattle.tables.specs.Tables.{region_at, hash_at}
 use Rattle.tables.specs.View.{view, Sized}
-use Rattle.tables.specs.Accessors.{regionPlace, region-loaded, hashPlace, hash-loaded}
-use Rattle.decoded.specs.Decode.Read.{hashBy, hashFrom}
+use Rattle.tables.specs.Accessors.{region_place, region-loaded, hash_place, hash-loaded}
+use Rattle.decoded.specs.Decode.Read.{hash_by, hash_from}
 use Rattle.decoded.specs.Canonical.Words.{view-shaped}
-use Rattle.sound_tree.specs.Tree.{treeHolds}
+use Rattle.sound_tree.specs.Tree.{tree_holds}
 use Rattle.exact_tree.specs.Rows.{PoolClauses, RegionWords}
 use Rattle.exact_tree.specs.Law.{TreeClauses, tree-holds}
 
@@ -23,24 +23,24 @@ fetched-word t h a n k b = elim (cmp (length t) (a + n)) [
   | ge o ↦ rw (fetched-in t a n o, part_at t a n k b) (word_at t (a + k) h)
 ]
 
-hash-words : (n : ℕ) (x : Hash) → Word x.word0 → Word x.word1 → Word x.word2 → Word x.word3 → HashWords (hashBy n x)
+hash-words : (n : ℕ) (x : Hash) → Word x.word0 → Word x.word1 → Word x.word2 → Word x.word3 → HashWords (hash_by n x)
 hash-words zero x a b c d = tt
 hash-words (suc n) x a b c d = (a, b, c, d)
 
-row_words : (t : List ℕ) → Sized t → Each Word t → (i : ℕ) → HashWords (hashFrom (hashAt (view t) i))
+row_words : (t : List ℕ) → Sized t → Each Word t → (i : ℕ) → HashWords (hash_from (hash_at (view t) i))
 row_words t s h i =
-    let e = hash-loaded t s i (hashPlace t i) (fetched t (hashPlace t i) 5) refl refl in
-    let word : (k : ℕ) → k < 5 → Word (get_or (fetched t (hashPlace t i) 5) k 0) = fetched-word t h (hashPlace t i) 5 in
-    subst (λ (x : RegionHash). HashWords (hashFrom x)) e (hash-words (get_or (fetched t (hashPlace t i) 5) 0 0) _ (word 1 (omega arith)) (word 2 (omega arith)) (word 3 (omega arith)) (word 4 (omega arith)))
+    let e = hash-loaded t s i (hash_place t i) (fetched t (hash_place t i) 5) refl refl in
+    let word : (k : ℕ) → k < 5 → Word (get_or (fetched t (hash_place t i) 5) k 0) = fetched-word t h (hash_place t i) 5 in
+    subst (λ (x : RegionHash). HashWords (hash_from x)) e (hash-words (get_or (fetched t (hash_place t i) 5) 0 0) _ (word 1 (omega arith)) (word 2 (omega arith)) (word 3 (omega arith)) (word 4 (omega arith)))
 
 pub region-words : (t : List ℕ) → Sized t → Each Word t → RegionWords (view t)
-unfolding regionAt hashAt
+unfolding region_at hash_at
 region-words t s h i =
-    let e = region-loaded t s i (regionPlace t i) (fetched t (regionPlace t i) 8) refl refl in (
-      subst (λ (r : RegionCapa). Word r.start) e (fetched-word t h (regionPlace t i) 8 3 (omega arith)),
-      subst (λ (r : RegionCapa). Word r.end) e (fetched-word t h (regionPlace t i) 8 4 (omega arith)),
+    let e = region-loaded t s i (region_place t i) (fetched t (region_place t i) 8) refl refl in (
+      subst (λ (r : RegionCapa). Word r.start) e (fetched-word t h (region_place t i) 8 3 (omega arith)),
+      subst (λ (r : RegionCapa). Word r.end) e (fetched-word t h (region_place t i) 8 4 (omega arith)),
       row_words t s h i,
     )
 
-pub words-tree : (t : List ℕ) → Sized t → Each Word t → PoolClauses (view t) → treeHolds (view t) ≡ true → TreeClauses (view t)
+pub words-tree : (t : List ℕ) → Sized t → Each Word t → PoolClauses (view t) → tree_holds (view t) ≡ true → TreeClauses (view t)
 words-tree t s h p e = tree-holds (view t) (view-shaped t s) p e (region-words t s h)

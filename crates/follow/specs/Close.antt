@@ -4,10 +4,10 @@ use Rattle.std.proofs.Common.{sym, subst, get_or-set_other, ne_eqb}
 use Rattle.std.specs.Prelude.{◌≢◌, ℕ, zero, suc, ◌≤◌, Bool, true, false, not, ◌||◌, List, [], ◌∷◌, T, eqb, get_or, set}
 use Rattle.std.proofs.Math.Option
 use Rattle.std.proofs.Math.Option.{Option, none}
-use Rattle.model.specs.Lists.{is_some, exists, atSlot}
-use Rattle.model.specs.State.{State, Domain, noneDomain}
-use Rattle.model.specs.Regions.{revokeRegion, liveCount}
-use Rattle.model.specs.Closing.{freeDomain, closeDomain, liveDomains}
+use Rattle.model.specs.Lists.{is_some, exists, at_slot}
+use Rattle.model.specs.State.{State, Domain, none_domain}
+use Rattle.model.specs.Regions.{revoke_region, live_count}
+use Rattle.model.specs.Closing.{free_domain, close_domain, live_domains}
 use Rattle.model.specs.Sound.{Sound}
 use Rattle.laws.specs.Accepted.{All, weaken, all-ok}
 use Rattle.laws.specs.Tracker.Form.{Form}
@@ -42,7 +42,7 @@ stays-left closing d s k (l, o) = (l, λ n. rw (ne_eqb k d n) o)
 
 -- ---- a domain is freed
 
-no_own : {A : Type 0} (l : List (Option A)) (d : ℕ) → T (is_some (atSlot (set l d none) d)) → ⊥
+no_own : {A : Type 0} (l : List (Option A)) (d : ℕ) → T (is_some (at_slot (set l d none) d)) → ⊥
 no_own [] d t = t
 no_own (y ∷ l) zero t = t
 no_own (y ∷ l) (suc d) t = no_own l d t
@@ -50,22 +50,22 @@ no_own (y ∷ l) (suc d) t = no_own l d t
 module _ (closing : List ℕ) (v : Seen) (s : State) (h : Tracking closing v s) (d : ℕ) where
   freed-tracks : Tracks (Left closing d (freed d s)) v (freed d s)
   freed-tracks = record {
-    form = λ k. set_reads (λ o. Form (Option.get_or o noneDomain).tracker) s.domains d k none (h.form k) (λ e. empty-form);
+    form = λ k. set_reads (λ o. Form (Option.get_or o none_domain).tracker) s.domains d k none (h.form k) (λ e. empty-form);
     ranges = h.ranges;
-    queuedOrExact = λ k (l, o) x.
-        let n : k ≢ d = λ e. no_own s.domains d (subst (λ m. T (is_some (atSlot (set s.domains d none) m))) e l) in
+    queued_or_exact = λ k (l, o) x.
+        let n : k ≢ d = λ e. no_own s.domains d (subst (λ m. T (is_some (at_slot (set s.domains d none) m))) e l) in
         let same = get_or-set_other s.domains d k none none n in
-        rw (same, get_or-set_other s.domainPool.gens d k (suc (get_or s.domainPool.gens d 0)) 0 n) (h.queuedOrExact k (rw same at l, o n) x);
+        rw (same, get_or-set_other s.domain_pool.gens d k (suc (get_or s.domain_pool.gens d 0)) 0 n) (h.queued_or_exact k (rw same at l, o n) x);
   }
 
-  free-tracks : Sound s → (x : Domain) → Idle s d x → All (λ t. Tracks (Left closing d t) v t) (freeDomain d s)
+  free-tracks : Sound s → (x : Domain) → Idle s d x → All (λ t. Tracks (Left closing d t) v t) (free_domain d s)
   free-tracks sound x i = weaken (free-domain-sound s sound d x i) (λ t (z, e, g). subst (λ u. Tracks (Left closing d u) v u) (sym e) freed-tracks)
 
 -- ---- the close
 
 module _ (v : Seen) where
   abbrev AfterClose : OfClose
-  AfterClose n closing s d x = Tracking closing v s → All (Tracking closing v) (closeDomain n closing d s)
+  AfterClose n closing s d x = Tracking closing v s → All (Tracking closing v) (close_domain n closing d s)
 
   abbrev AfterRest : OfRest
   AfterRest n closing s d x u k cs = Tracking closing v u → All (λ t. Tracks (Left closing d t) v t) (rest_of n closing d cs u)
@@ -79,11 +79,11 @@ module _ (v : Seen) where
         let sound = w.between.sound in
         let one = region-follows closing v u (sound-agree u sound, sound-base u sound) h i.slot p g e m in
         subst (All (λ t. Tracks (Left closing d t) v t)) (sym (rest-revokes n closing d i c cs u q l))
-        (bind-on (revokeRegion closing (liveCount u) i.slot u) (λ t o. r t o (all-ok (λ t. Tracking closing v t × SameDomains u t) _ t one o).0));
+        (bind-on (revoke_region closing (live_count u) i.slot u) (λ t o. r t o (all-ok (λ t. Tracking closing v t × SameDomains u t) _ t one o).0));
     closes = λ n closing s d x u k i cs w l z b m closed one r h. subst (All (λ t. Tracks (Left closing d t) v t)) (sym (rest-closes n closing d i cs u l))
-        (bind-on (closeDomain n closing i.slot u) (λ t o. r t o (all-ok (Tracking closing v) _ t (one h) o)));
+        (bind-on (close_domain n closing i.slot u) (λ t o. r t o (all-ok (Tracking closing v) _ t (one h) o)));
     frees = λ n closing s d x u k w y i h. subst (All (λ t. Tracks (Left closing d t) v t)) (sym (rest-free n closing d u)) (free-tracks closing v u h d w.between.sound y i);
   }
 
-  pub close-tracks : (s : State) (d : ℕ) (x : Domain) → Turn s d x → (n : ℕ) → liveDomains s ≤ n → Tracking [] v s → All (Tracking [] v) (closeDomain n [] d s)
+  pub close-tracks : (s : State) (d : ℕ) (x : Domain) → Turn s d x → (n : ℕ) → live_domains s ≤ n → Tracking [] v s → All (Tracking [] v) (close_domain n [] d s)
   close-tracks s d x b n enough = close-all AfterClose AfterRest steps n [] s d x b enough

@@ -3,16 +3,16 @@
 use Rattle.std.specs.Prelude.{◌≡◌, refl, ℕ, ◌<◌, Bool, T, eqb, ltb}
 use Rattle.std.proofs.Common.{ap, arith}
 use Rattle.std.proofs.Math.Option.{Option, none, some}
-use Rattle.model.specs.Lists.{oneIf, is_some, countIf, atSlot}
+use Rattle.model.specs.Lists.{one_if, is_some, count_if, at_slot}
 use Rattle.model.specs.State.{State, Sizes, Handle, Pool, Update}
 use Rattle.model.specs.Fields.{Field}
-use Rattle.model.specs.Calls.{setInterface, freezeInterface}
-use Rattle.model.specs.Perform.{Step, Call, popped, performStep, perform}
+use Rattle.model.specs.Calls.{set_interface, freeze_interface}
+use Rattle.model.specs.Perform.{Step, Call, popped, perform_step, perform}
 use Rattle.model.specs.CallWords.{CallWords}
 use Rattle.model.specs.Sound.{Sound}
 use Rattle.laws.specs.Accepted.{All, accepted, bind, bind-any, and_then, weaken, both}
 use Rattle.laws.specs.Interfaces.{Keeps₁, InterfaceCase, interface-case}
-use Rattle.laws.specs.Tree.Slots.{is_live}
+use Rattle.laws.specs.Tree.Slots.{is_live_lem}
 use Rattle.laws.specs.Keep.BaseSteps.{Live}
 use Rattle.laws.specs.Keep.Checks.{domain-live}
 use Rattle.laws.specs.SoundKept.{sound-kept}
@@ -25,22 +25,22 @@ use Rattle.follow.specs.Revoke.{revoke-call}
 
 -- ---- where the domain pool stays
 
-used : {A : Type 0} (o : Option A) → 0 < oneIf (is_some o) → T (is_some o)
+used : {A : Type 0} (o : Option A) → 0 < one_if (is_some o) → T (is_some o)
 used none i = absurd (omega arith)
 used (some x) i = tt
 
-uses : {A : Type 0} (o : Option A) → T (is_some o) → oneIf (is_some o) ≡ 1
+uses : {A : Type 0} (o : Option A) → T (is_some o) → one_if (is_some o) ≡ 1
 uses none t = absurd t
 uses (some x) t = refl
 
-same-pool : (s t : State) → Sound s → Sound t → t.sizes ≡ s.sizes → t.domainPool ≡ s.domainPool → (d : ℕ) → Live t d → Live s d
-same-pool s t h k z p d live = used (atSlot s.domains d) (omega (
+same-pool : (s t : State) → Sound s → Sound t → t.sizes ≡ s.sizes → t.domain_pool ≡ s.domain_pool → (d : ℕ) → Live t d → Live s d
+same-pool s t h k z p d live = used (at_slot s.domains d) (omega (
   arith,
-  h.outside.domainPool.once d,
-  k.outside.domainPool.once d,
-  ap (λ (q : Pool). countIf (eqb d) q.free) p,
-  ap (λ (w : Sizes). oneIf (ltb d w.domains)) z,
-  uses (atSlot t.domains d) live,
+  h.outside.domain_pool.once d,
+  k.outside.domain_pool.once d,
+  ap (λ (q : Pool). count_if (eqb d) q.free) p,
+  ap (λ (w : Sizes). one_if (ltb d w.domains)) z,
+  uses (at_slot t.domains d) live,
 ))
 
 -- the calls with no law of their own for interfaces
@@ -75,18 +75,18 @@ module _ (more : Field → Bool) (v : Seen) (s : State) (sound : Sound s) (h : T
 
   plain : (c : Call) → CallWords c → Plain c → All (λ x. Tracks (Live s) (accepts more v c x.0 x.1) x.1) (perform s c) → After c
   plain c w p k = weaken (both k (both (sound-kept s c sound w) (plain-keeps s c (interface-case s c) p))) (λ x (g, (z, q)).
-      tracks-fewer (Live s) (Live x.1) (accepts more v c x.0 x.1) x.1 (same-pool s x.1 sound z q.sizes q.domainPool) g)
+      tracks-fewer (Live s) (Live x.1) (accepts more v c x.0 x.1) x.1 (same-pool s x.1 sound z q.sizes q.domain_pool) g)
 
-  interface-call : (k : Handle) (n : ℕ) → All (λ t. Tracks (Live t) v t) (setInterface k n s)
-  unfolding setInterface
-  interface-call k n = bind (domain-live s k) (λ d (x, e). and_then _ (accepted (tracks-fewer (Live s) _ v _ (put-live s d _ (is_live (atSlot s.domains d) x e)) (domain-tracks v s h d _ refl))))
+  interface-call : (k : Handle) (n : ℕ) → All (λ t. Tracks (Live t) v t) (set_interface k n s)
+  unfolding set_interface
+  interface-call k n = bind (domain-live s k) (λ d (x, e). and_then _ (accepted (tracks-fewer (Live s) _ v _ (put-live s d _ (is_live_lem (at_slot s.domains d) x e)) (domain-tracks v s h d _ refl))))
 
-  freeze-call : (k : Handle) → All (λ t. Tracks (Live t) v t) (freezeInterface k s)
-  unfolding freezeInterface
-  freeze-call k = bind (domain-live s k) (λ d (x, e). accepted (tracks-fewer (Live s) _ v _ (put-live s d _ (is_live (atSlot s.domains d) x e)) (domain-tracks v s h d _ refl)))
+  freeze-call : (k : Handle) → All (λ t. Tracks (Live t) v t) (freeze_interface k s)
+  unfolding freeze_interface
+  freeze-call k = bind (domain-live s k) (λ d (x, e). accepted (tracks-fewer (Live s) _ v _ (put-live s d _ (is_live_lem (at_slot s.domains d) x e)) (domain-tracks v s h d _ refl)))
 
   pub perform-tracks : (c : Call) → CallWords c → After c
-  unfolding perform performStep
+  unfolding perform perform_step
   perform-tracks (Call.Make z) w = bind (make-in-tracks _ _ z) (λ t k. accepted k)
   perform-tracks (Call.Do (Step.Open m c)) w = bind (open-call v s h m c) (λ x k. accepted k)
   perform-tracks (Call.Do (Step.Channel k to)) w = plain (Call.Do (Step.Channel k to)) w tt (bind (channel-call v s h k to) (λ x g. accepted g))

@@ -6,11 +6,11 @@ use Rattle.base.specs.Tests.{or_l, or_r}
 use Rattle.rights.specs.Rights.{union}
 use Rattle.model.specs.Lists.{if◌then◌else◌, exists}
 use Rattle.model.specs.State.{Handle, Update, permission, cleanup}
-use Rattle.model.specs.Fields.{Field, isMarked}
-use Rattle.model.specs.Pool.{sameHandle}
-use Rattle.model.specs.Updates.{isPermissionOf, gather}
+use Rattle.model.specs.Fields.{Field, is_marked}
+use Rattle.model.specs.Pool.{same_handle}
+use Rattle.model.specs.Updates.{is_permission_of, gather}
 use Rattle.laws.specs.Tracker.Marks.{marked-union}
-use Rattle.follow.specs.Writer.{isPermissionWith}
+use Rattle.follow.specs.Writer.{is_permission_with}
 
 -- ---- one of a list passes a test
 
@@ -39,36 +39,36 @@ any_last : {A : Type 0} (p : A → Bool) (l : List A) (u : A) → T (p u) → T 
 any_last p [] u t = or_l (p u) false t
 any_last p (x ∷ l) u t = or_r (p x) (exists p (l ++ (u ∷ []))) (any_last p l u t)
 
-same_self : (h : Handle) → T (sameHandle h h)
+same_self : (h : Handle) → T (same_handle h h)
 same_self h = and_i (eqb h.slot h.slot) (eqb h.generation h.generation) (eqb_refl h.slot) (eqb_refl h.generation)
 
 module _ (f : Field) (h : Handle) (m : ℕ) where
   -- the new one has its own marks
-  pub pushed-with : (cores : ℕ) (us : List Update) → T (isMarked f m) → T (exists (isPermissionWith f h) (us ++ (permission h cores m ∷ [])))
-  pushed-with cores us t = any_last (isPermissionWith f h) us (permission h cores m) (and_i (sameHandle h h) (isMarked f m) (same_self h) t)
+  pub pushed-with : (cores : ℕ) (us : List Update) → T (is_marked f m) → T (exists (is_permission_with f h) (us ++ (permission h cores m ∷ [])))
+  pushed-with cores us t = any_last (is_permission_with f h) us (permission h cores m) (and_i (same_handle h h) (is_marked f m) (same_self h) t)
 
   -- ---- marks are gathered
 
   -- an update keeps the marks that it had
-  gather-keeps : (k : Handle) (u : Update) → T (isPermissionWith f k u) → T (isPermissionWith f k (gather h m u))
-  gather-keeps k (permission j cores n) t = and_i (sameHandle k j) _ (and_l (sameHandle k j) (isMarked f n) t) (kept (sameHandle h j) (and_r (sameHandle k j) (isMarked f n) t))
+  gather-keeps : (k : Handle) (u : Update) → T (is_permission_with f k u) → T (is_permission_with f k (gather h m u))
+  gather-keeps k (permission j cores n) t = and_i (same_handle k j) _ (and_l (same_handle k j) (is_marked f n) t) (kept (same_handle h j) (and_r (same_handle k j) (is_marked f n) t))
     where
-      kept : (b : Bool) → T (isMarked f n) → T (isMarked f (if b then union n m else n))
-      kept true s = rw (marked-union f n m) (or_l (isMarked f n) (isMarked f m) s)
+      kept : (b : Bool) → T (is_marked f n) → T (is_marked f (if b then union n m else n))
+      kept true s = rw (marked-union f n m) (or_l (is_marked f n) (is_marked f m) s)
       kept false s = s
   gather-keeps k (cleanup a b) t = t
 
   -- the domain's own gets those of the change
-  gather-adds : T (isMarked f m) → (u : Update) → T (isPermissionOf h u) → T (isPermissionWith f h (gather h m u))
-  gather-adds t (permission j cores n) s = adds (sameHandle h j) s
+  gather-adds : T (is_marked f m) → (u : Update) → T (is_permission_of h u) → T (is_permission_with f h (gather h m u))
+  gather-adds t (permission j cores n) s = adds (same_handle h j) s
     where
-      adds : (b : Bool) → T b → T (b && isMarked f (if b then union n m else n))
-      adds true s = rw (marked-union f n m) (or_r (isMarked f n) (isMarked f m) t)
+      adds : (b : Bool) → T b → T (b && is_marked f (if b then union n m else n))
+      adds true s = rw (marked-union f n m) (or_r (is_marked f n) (is_marked f m) t)
       adds false s = absurd s
   gather-adds t (cleanup a b) s = s
 
-  pub gathered-keeps : (k : Handle) (us : List Update) → T (exists (isPermissionWith f k) us) → T (exists (isPermissionWith f k) (map (gather h m) us))
-  gathered-keeps k us = any-map (isPermissionWith f k) (isPermissionWith f k) (gather h m) us (gather-keeps k)
+  pub gathered-keeps : (k : Handle) (us : List Update) → T (exists (is_permission_with f k) us) → T (exists (is_permission_with f k) (map (gather h m) us))
+  gathered-keeps k us = any-map (is_permission_with f k) (is_permission_with f k) (gather h m) us (gather-keeps k)
 
-  pub gathered-with : (us : List Update) → T (isMarked f m) → T (exists (isPermissionOf h) us) → T (exists (isPermissionWith f h) (map (gather h m) us))
-  gathered-with us t = any-map (isPermissionOf h) (isPermissionWith f h) (gather h m) us (gather-adds t)
+  pub gathered-with : (us : List Update) → T (is_marked f m) → T (exists (is_permission_of h) us) → T (exists (is_permission_with f h) (map (gather h m) us))
+  gathered-with us t = any-map (is_permission_of h) (is_permission_with f h) (gather h m) us (gather-adds t)

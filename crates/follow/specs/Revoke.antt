@@ -3,16 +3,16 @@
 use Rattle.std.proofs.Common.{sym, ap, subst, ◌∙◌, arith}
 use Rattle.std.specs.Prelude.{ℕ, not}
 use mathlib.Core.List.{[]}
-use Rattle.model.specs.Lists.{atSlot, In}
-use Rattle.model.specs.State.{State, Handle, Domain, Region, Capa, noCapa, region, regionRevoke, management, channel, regionAt}
-use Rattle.model.specs.Pool.{isLive}
-use Rattle.model.specs.Tree.{isRootKind}
-use Rattle.model.specs.Locals.{emptyCapa}
+use Rattle.model.specs.Lists.{at_slot, In}
+use Rattle.model.specs.State.{State, Handle, Domain, Region, Capa, no_capa, region, region_revoke, management, channel, region_at}
+use Rattle.model.specs.Pool.{is_live}
+use Rattle.model.specs.Tree.{is_root_kind}
+use Rattle.model.specs.Locals.{empty_capa}
 use Rattle.model.specs.Sound.{Sound}
-use Rattle.model.specs.Closing.{closesRoot, liveDomains}
-use Rattle.model.specs.Calls.{revokeUnlessRoot, closeManaged, revokeCapa, revoke}
+use Rattle.model.specs.Closing.{closes_root, live_domains}
+use Rattle.model.specs.Calls.{revoke_unless_root, close_managed, revoke_capa, revoke}
 use Rattle.laws.specs.Accepted.{All, accepted, bind, and_then, weaken, both, branch-on, checked}
-use Rattle.laws.specs.Tree.Slots.{is_live}
+use Rattle.laws.specs.Tree.Slots.{is_live_lem}
 use Rattle.laws.specs.Tree.Facts.{not_root}
 use Rattle.laws.specs.Tree.Steps.{region-at, domain-at}
 use Rattle.laws.specs.Capas.Checks.{capa-at}
@@ -37,35 +37,35 @@ module _ (v : Seen) (s : State) (sound : Sound s) (h : Tracking [] v s) (c : ℕ
   Left t = Tracking [] v t × Live t c
 
   live : Live s c
-  live = is_live (atSlot s.domains c) x e
+  live = is_live_lem (at_slot s.domains c) x e
 
-  unless-follows : (i : ℕ) (g : Region) → In s.regions i g → All Left (revokeUnlessRoot i s)
-  unfolding revokeUnlessRoot
-  unless-follows i g m = checked (not (isRootKind (regionAt s i).kind)) _ (λ t.
+  unless-follows : (i : ℕ) (g : Region) → In s.regions i g → All Left (revoke_unless_root i s)
+  unfolding revoke_unless_root
+  unless-follows i g m = checked (not (is_root_kind (region_at s i).kind)) _ (λ t.
       let (p, n) = not_root g.kind (rw (region-at s i g m) at t) in
       weaken (region-follows [] v s (sound-agree s sound, sound-base s sound) h i p g m n) (λ u (k, b). (k, same-domains-live b c live)))
 
-  managed-tracks : (k : Handle) → All (Tracking [] v) (closeManaged k s)
-  unfolding closeManaged
-  managed-tracks k = bind (domain-live s k) (λ d (z, f). checked (not (closesRoot s d)) _ (λ u. and_then _ (close-tracks v s d z (first-turn s sound d z f u) (liveDomains s) (omega arith) h)))
+  managed-tracks : (k : Handle) → All (Tracking [] v) (close_managed k s)
+  unfolding close_managed
+  managed-tracks k = bind (domain-live s k) (λ d (z, f). checked (not (closes_root s d)) _ (λ u. and_then _ (close-tracks v s d z (first-turn s sound d z f u) (live_domains s) (omega arith) h)))
 
-  managed-follows : (k : Handle) → In x.locals.held l (management k) → All Left (closeManaged k s)
+  managed-follows : (k : Handle) → In x.locals.held l (management k) → All Left (close_managed k s)
   managed-follows k at = weaken (both (managed-tracks k) (managed-closes s sound k)) (λ t (g, (i, w)).
-      let (y, f, q) = domain-was (atSlot s.domains c) (atSlot t.domains c) x (sym (w.kept c (caller-stays s sound c l x e k at i))) e in
-      (g, is_live (atSlot t.domains c) y f))
+      let (y, f, q) = domain-was (at_slot s.domains c) (at_slot t.domains c) x (sym (w.kept c (caller-stays s sound c l x e k at i))) e in
+      (g, is_live_lem (at_slot t.domains c) y f))
 
-  revoke-capa : (a : Capa) → In x.locals.held l a → All Left (revokeCapa a s)
-  unfolding revokeCapa
-  revoke-capa noCapa at = accepted (h, live)
-  revoke-capa (region k) at = bind (region-live s k) (λ i (n, t). let (g, m) = live-slot s k t in unless-follows i g (ap (atSlot s.regions) n ∙ m))
-  revoke-capa (regionRevoke k) at = branch-on (isLive s.regionPool s.regions k) (λ t. let (g, m) = live-slot s k t in unless-follows k.slot g m) (λ t. accepted (h, live))
+  revoke-capa : (a : Capa) → In x.locals.held l a → All Left (revoke_capa a s)
+  unfolding revoke_capa
+  revoke-capa no_capa at = accepted (h, live)
+  revoke-capa (region k) at = bind (region-live s k) (λ i (n, t). let (g, m) = live-slot s k t in unless-follows i g (ap (at_slot s.regions) n ∙ m))
+  revoke-capa (region_revoke k) at = branch-on (is_live s.region_pool s.regions k) (λ t. let (g, m) = live-slot s k t in unless-follows k.slot g m) (λ t. accepted (h, live))
   revoke-capa (management k) at = managed-follows k at
   revoke-capa (channel k) at = accepted (h, live)
 
 -- ---- the call
 
-empty-tracks : (v : Seen) (d l : ℕ) (s : State) → Live s d → Tracking [] v s → Tracks (Live (emptyCapa d l s)) v (emptyCapa d l s)
-unfolding emptyCapa
+empty-tracks : (v : Seen) (d l : ℕ) (s : State) → Live s d → Tracking [] v s → Tracks (Live (empty_capa d l s)) v (empty_capa d l s)
+unfolding empty_capa
 empty-tracks v d l s live h = tracks-fewer (Stays [] s) _ v _ (λ k t. (put-live s d _ live k t, tt)) (emptied-tracks v d l s h)
 
 pub revoke-call : (v : Seen) (s : State) → Sound s → Tracks (Live s) v s → (k : Handle) (l : ℕ) → All (λ t. Tracks (Live t) v t) (revoke k l s)

@@ -9,30 +9,30 @@ use Rattle.std.proofs.Math.Decide.{ℕ_discrete}
 use Rattle.std.specs.Float.Ieee.Fits.{and_l, and_r, and_i}
 use Rattle.base.specs.Cases.{holds, fails, test}
 use Rattle.base.specs.Tests.{true-is, false-is}
-use Rattle.model.specs.Lists.{if◌then◌else◌, is_some, exists, atSlot}
+use Rattle.model.specs.Lists.{if◌then◌else◌, is_some, exists, at_slot}
 use Rattle.refusals.specs.declared.Refusal.{Refusal}
-use Rattle.model.specs.State.{State, Sizes, Handle, Pool, Domain, LocalList, Record, Update, permission, cleanup, noneDomain, noneRegion, domainAt, putDomain, withLocals, withQueue, withDomains}
-use Rattle.model.specs.Fields.{Field, isMarked}
-use Rattle.model.specs.Pool.{allocate, handle_of, sameHandle, isLive}
+use Rattle.model.specs.State.{State, Sizes, Handle, Pool, Domain, LocalList, Record, Update, permission, cleanup, none_domain, none_region, domain_at, put_domain, with_locals, with_queue, with_domains}
+use Rattle.model.specs.Fields.{Field, is_marked}
+use Rattle.model.specs.Pool.{allocate, handle_of, same_handle, is_live}
 use Rattle.model.specs.Updates.{pop}
-use Rattle.model.specs.Tracker.{noCounts}
-use Rattle.model.specs.Counts.{storedCounts}
-use Rattle.model.specs.Making.{makeTables, makeIn}
-use Rattle.model.specs.Calls.{newDomain, openDomain}
+use Rattle.model.specs.Tracker.{no_counts}
+use Rattle.model.specs.Counts.{stored_counts}
+use Rattle.model.specs.Making.{make_tables, make_in}
+use Rattle.model.specs.Calls.{new_domain, open_domain}
 use Rattle.model.specs.Perform.{popped}
 use Rattle.laws.specs.Accepted.{All, accepted, refused, bind, weaken, and_then}
 use Rattle.laws.specs.Tracker.Form.{Form}
-use Rattle.laws.specs.Tree.Slots.{is_live}
+use Rattle.laws.specs.Tree.Slots.{is_live_lem}
 use Rattle.laws.specs.Keep.BaseSteps.{Live}
 use Rattle.laws.specs.Keep.Checks.{domain-live}
 use Rattle.laws.specs.Keep.Locals.{insert_all, capacity-all}
-use Rattle.follow.specs.Writer.{Seen, nothing, reads, voids, notices, isPermissionWith, isQueuedWith}
+use Rattle.follow.specs.Writer.{Seen, nothing, reads, voids, notices, is_permission_with, is_queued_with}
 use Rattle.follow.specs.Quiet.{Count, count, teller, count_none}
 use Rattle.follow.specs.Steps.{seen, Fits, QueuedOrExact, Proper, Tracks, tracks-fewer, domain-tracks}
 
 -- ---- an empty tracker, and nothing seen
 
-above-none : (x : Count) → ltb 0 (count x noCounts) ≡ false
+above-none : (x : Count) → ltb 0 (count x no_counts) ≡ false
 above-none x = rw (count_none x)
 
 nothing_seen : (d : ℕ) (x : Count) → Fits nothing d x []
@@ -49,24 +49,24 @@ empty-form = record { rising = tt; merged = tt; reached = tt; uncacheable = tt }
 
 -- ---- making
 
-replicate-reads : {A : Type 0} (P : Option A → Type 0) (n d : ℕ) → P none → P (atSlot (replicate n none) d)
+replicate-reads : {A : Type 0} (P : Option A → Type 0) (n d : ℕ) → P none → P (at_slot (replicate n none) d)
 replicate-reads P zero d h = h
 replicate-reads P (suc n) zero h = h
 replicate-reads P (suc n) (suc d) h = replicate-reads P n d h
 
-make-every : (z : Sizes) → All (Tracks (λ d. Unit {0}) nothing) (makeTables z)
-unfolding makeTables
+make-every : (z : Sizes) → All (Tracks (λ d. Unit {0}) nothing) (make_tables z)
+unfolding make_tables
 make-every z = and_then _ (accepted (record {
-  form = λ d. replicate-reads (λ o. Form (Option.get_or o noneDomain).tracker) z.domains d empty-form;
-  ranges = λ i. replicate-reads (λ o. Proper (Option.get_or o noneRegion)) z.regions i (λ w. absurd (omega arith), λ w. absurd w);
-  queuedOrExact = λ d c x. replicate-reads (λ o. QueuedOrExact nothing d x (λ f. false) (Option.get_or o noneDomain).tracker) z.domains d (inr (nothing_seen d x));
+  form = λ d. replicate-reads (λ o. Form (Option.get_or o none_domain).tracker) z.domains d empty-form;
+  ranges = λ i. replicate-reads (λ o. Proper (Option.get_or o none_region)) z.regions i (λ w. absurd (omega arith), λ w. absurd w);
+  queued_or_exact = λ d c x. replicate-reads (λ o. QueuedOrExact nothing d x (λ f. false) (Option.get_or o none_domain).tracker) z.domains d (inr (nothing_seen d x));
 }))
 
-pub make-tracks : (z : Sizes) → All (λ t. Tracks (Live t) nothing t) (makeTables z)
+pub make-tracks : (z : Sizes) → All (λ t. Tracks (Live t) nothing t) (make_tables z)
 make-tracks z = weaken (make-every z) (λ t h. tracks-fewer (λ d. Unit {0}) (Live t) nothing t (λ d l. tt) h)
 
-pub make-in-tracks : (n m : ℕ) (z : Sizes) → All (λ t. Tracks (Live t) nothing t) (makeIn n m z)
-unfolding makeIn
+pub make-in-tracks : (n m : ℕ) (z : Sizes) → All (λ t. Tracks (Live t) nothing t) (make_in n m z)
+unfolding make_in
 make-in-tracks n m z = bind (make-tracks z) (λ t h. and_then _ (accepted h))
 
 -- ---- opening
@@ -82,7 +82,7 @@ voids-other : (v : Seen) (d k : ℕ) (x : Count) (q : Field → Bool) (l : List 
 voids-other v d k x q l n h = seen_as v (voids d v) k x q l (λ a. rw (seen-voids v d k x a, ne_eqb k d n)) h
 
 -- slot i of a table after it was written holds that, or the table has no such slot
-set_own : {A : Type 0} (P : Option A → Type 0) (l : List (Option A)) (i : ℕ) (x : Option A) → P none → P x → P (atSlot (set l i x) i)
+set_own : {A : Type 0} (P : Option A → Type 0) (l : List (Option A)) (i : ℕ) (x : Option A) → P none → P x → P (at_slot (set l i x) i)
 set_own P [] i x h k = h
 set_own P (y ∷ l) zero x h k = k
 set_own P (y ∷ l) (suc i) x h k = set_own P l i x h k
@@ -104,20 +104,20 @@ module _ (v : Seen) (s : State) (h : Tracks (Live s) v s) where
   own-or-other i k n (inl e) = absurd (n e)
   own-or-other i k n (inr t) = t
 
-  opened-tracks : (i : ℕ) (fs : List ℕ) (y : Domain) → y.tracker ≡ [] → Tracks (Opened s i) (voids i v) (withDomains (record { gens = s.domainPool.gens; free = fs }) (set s.domains i (some y)) s)
+  opened-tracks : (i : ℕ) (fs : List ℕ) (y : Domain) → y.tracker ≡ [] → Tracks (Opened s i) (voids i v) (with_domains (record { gens = s.domain_pool.gens; free = fs }) (set s.domains i (some y)) s)
   opened-tracks i fs y e = record {
     form = λ k. elim (ℕ_discrete k i) [
-      | yes m ↦ rw m (set_own (λ o. Form (Option.get_or o noneDomain).tracker) s.domains i (some y) empty-form (rw e empty-form))
+      | yes m ↦ rw m (set_own (λ o. Form (Option.get_or o none_domain).tracker) s.domains i (some y) empty-form (rw e empty-form))
       | no m ↦ rw (get_or-set_other s.domains i k (some y) none m) (h.form k)
     ];
     ranges = h.ranges;
-    queuedOrExact = λ k c x. elim (ℕ_discrete k i) [
-      | yes m ↦ rw m (set_own (λ o. QueuedOrExact (voids i v) i x (λ f. isQueuedWith f s i) (Option.get_or o noneDomain).tracker) s.domains i (some y) (inr (voids-own v i x)) (rw e (inr (voids-own v i x))))
-      | no m ↦ rw (get_or-set_other s.domains i k (some y) none m) (voids-other v i k x (λ f. isQueuedWith f s k) (domainAt s k).tracker m (h.queuedOrExact k (own-or-other i k m c) x))
+    queued_or_exact = λ k c x. elim (ℕ_discrete k i) [
+      | yes m ↦ rw m (set_own (λ o. QueuedOrExact (voids i v) i x (λ f. is_queued_with f s i) (Option.get_or o none_domain).tracker) s.domains i (some y) (inr (voids-own v i x)) (rw e (inr (voids-own v i x))))
+      | no m ↦ rw (get_or-set_other s.domains i k (some y) none m) (voids-other v i k x (λ f. is_queued_with f s k) (domain_at s k).tracker m (h.queued_or_exact k (own-or-other i k m c) x))
     ];
   }
 
-  opened-only : (i : ℕ) (p : Pool) (y : Domain) → Only s i (withDomains p (set s.domains i (some y)) s)
+  opened-only : (i : ℕ) (p : Pool) (y : Domain) → Only s i (with_domains p (set s.domains i (some y)) s)
   opened-only i p y k t = elim (ℕ_discrete k i) [
     | yes m ↦ inl m
     | no m ↦ inr (rw (get_or-set_other s.domains i k (some y) none m) at t)
@@ -127,35 +127,35 @@ module _ (v : Seen) (s : State) (h : Tracks (Live s) v s) where
   After i t = Tracks (Opened s i) (voids i v) t × Only s i t
 
   -- a live domain is put back with another list
-  listed-after : (i m : ℕ) (l : LocalList) (t : State) → Live s m → After i t → After i (putDomain m (withLocals l (domainAt t m)) t)
+  listed-after : (i m : ℕ) (l : LocalList) (t : State) → Live s m → After i t → After i (put_domain m (with_locals l (domain_at t m)) t)
   listed-after i m l t live (g, o) = (
     domain-tracks (voids i v) t g m _ refl,
     λ k u. elim (ℕ_discrete k m) [
       | yes e ↦ inr (subst (Live s) (sym e) live)
-      | no e ↦ o k (rw (get_or-set_other t.domains m k (some (withLocals l (domainAt t m))) none e) at u)
+      | no e ↦ o k (rw (get_or-set_other t.domains m k (some (with_locals l (domain_at t m))) none e) at u)
     ],
   )
 
-  domain-new : (m : Option ℕ) (c : ℕ) → All (λ (x : ℕ × State). After x.0 x.1) (newDomain m c s)
-  unfolding newDomain
-  domain-new m c = bind (allocate-all _ s.domainPool.gens s.domainPool.free (λ x. (y : Domain) → y.tracker ≡ [] → After x.0 (withDomains x.1 (set s.domains x.0 (some y)) s)) (λ i is y e. (opened-tracks i is y e, opened-only i (record { gens = s.domainPool.gens; free = is }) y))) (λ (i, p) k. accepted (k _ refl))
+  domain-new : (m : Option ℕ) (c : ℕ) → All (λ (x : ℕ × State). After x.0 x.1) (new_domain m c s)
+  unfolding new_domain
+  domain-new m c = bind (allocate-all _ s.domain_pool.gens s.domain_pool.free (λ x. (y : Domain) → y.tracker ≡ [] → After x.0 (with_domains x.1 (set s.domains x.0 (some y)) s)) (λ i is y e. (opened-tracks i is y e, opened-only i (record { gens = s.domain_pool.gens; free = is }) y))) (λ (i, p) k. accepted (k _ refl))
 
   opened : (i : ℕ) (t : State) → After i t → Tracks (Live t) (voids i v) t
   opened i t (g, o) = tracks-fewer (Opened s i) (Live t) (voids i v) t o g
 
-  pub open-call : (m : Option Handle) (c : ℕ) → All (λ (x : Handle × State). Tracks (Live x.1) (voids x.0.slot v) x.1) (openDomain m c s)
-  unfolding openDomain
+  pub open-call : (m : Option Handle) (c : ℕ) → All (λ (x : Handle × State). Tracks (Live x.1) (voids x.0.slot v) x.1) (open_domain m c s)
+  unfolding open_domain
   open-call none c = bind (domain-new none c) (λ (i, s₁) h₁. accepted (opened i s₁ h₁))
   open-call (some k) c =
       bind (domain-live s k) (λ m (x, e).
-      let live = is_live (atSlot s.domains m) x e in
+      let live = is_live_lem (at_slot s.domains m) x e in
       bind (domain-new (some m) c) (λ (i, s₁) h₁.
       bind (capacity-all m s₁ (After i) (λ l. listed-after i m l s₁ live h₁)) (λ s₂ h₂.
       bind (insert_all m s₂ _ (λ y. After i y.1) (λ n l. listed-after i m l s₂ live h₂)) (λ (l, s₃) h₃. accepted (opened i s₃ h₃)))))
 
 -- ---- pop
 
-seen-reads : (v : Seen) (d : ℕ) (read : Field → Bool) (t : State) (k : ℕ) (x : Count) (a : ℕ) → seen x (reads d read t v) k a ≡ (if eqb k d && read (teller x) then ltb 0 (count x (storedCounts t k a)) else seen x v k a)
+seen-reads : (v : Seen) (d : ℕ) (read : Field → Bool) (t : State) (k : ℕ) (x : Count) (a : ℕ) → seen x (reads d read t v) k a ≡ (if eqb k d && read (teller x) then ltb 0 (count x (stored_counts t k a)) else seen x v k a)
 seen-reads v d read t k (Count.Of f) a = refl
 seen-reads v d read t k Count.Uncacheable a = refl
 
@@ -171,41 +171,41 @@ another true true false more others e t = t
 another true true true more others e t = absurd (false-is e tt)
 
 -- the handle of a live domain is live
-same_live : (t : State) (d : ℕ) (k : Handle) → Live t d → T (sameHandle (handle_of t.domainPool d) k) → T (isLive t.domainPool t.domains k)
+same_live : (t : State) (d : ℕ) (k : Handle) → Live t d → T (same_handle (handle_of t.domain_pool d) k) → T (is_live t.domain_pool t.domains k)
 same_live t d k live q =
     let e : d ≡ k.slot = eqb→eq d k.slot (and_l (eqb d k.slot) _ q) in
-    let g : T (eqb (get_or t.domainPool.gens d 0) k.generation) = and_r (eqb d k.slot) _ q in
-    and_i (is_some (atSlot t.domains k.slot)) (eqb (get_or t.domainPool.gens k.slot 0) k.generation) (subst (Live t) e live) (subst (λ n. T (eqb (get_or t.domainPool.gens n 0) k.generation)) e g)
+    let g : T (eqb (get_or t.domain_pool.gens d 0) k.generation) = and_r (eqb d k.slot) _ q in
+    and_i (is_some (at_slot t.domains k.slot)) (eqb (get_or t.domain_pool.gens k.slot 0) k.generation) (subst (Live t) e live) (subst (λ n. T (eqb (get_or t.domain_pool.gens n 0) k.generation)) e g)
 
 module _ (more : Field → Bool) where
   -- the update at the head leaves, and its marks are read
-  head_read : (v : Seen) (d : ℕ) (x : Count) (k : Handle) (c m : ℕ) (p : Pool) (us : List Update) (t : State) → QueuedOrExact v d x (λ f. exists (isPermissionWith f (handle_of p d)) (permission k c m ∷ us)) (domainAt t d).tracker → QueuedOrExact (reads k.slot (λ f. isMarked f m || more f) t v) d x (λ f. exists (isPermissionWith f (handle_of p d)) us) (domainAt t d).tracker
+  head_read : (v : Seen) (d : ℕ) (x : Count) (k : Handle) (c m : ℕ) (p : Pool) (us : List Update) (t : State) → QueuedOrExact v d x (λ f. exists (is_permission_with f (handle_of p d)) (permission k c m ∷ us)) (domain_at t d).tracker → QueuedOrExact (reads k.slot (λ f. is_marked f m || more f) t v) d x (λ f. exists (is_permission_with f (handle_of p d)) us) (domain_at t d).tracker
   head_read v d x k c m p us t h =
-      let w = reads k.slot (λ f. isMarked f m || more f) t v in
-      let now = seen-reads v k.slot (λ f. isMarked f m || more f) t d x in
-      elim (test (eqb d k.slot && (isMarked (teller x) m || more (teller x)))) [
+      let w = reads k.slot (λ f. is_marked f m || more f) t v in
+      let now = seen-reads v k.slot (λ f. is_marked f m || more f) t d x in
+      elim (test (eqb d k.slot && (is_marked (teller x) m || more (teller x)))) [
         | holds e ↦ inr (λ a. sym (now a ∙ rw e))
-        | fails e ↦ seen_as v w d x (λ f. exists (isPermissionWith f (handle_of p d)) us) (domainAt t d).tracker (λ a. now a ∙ rw e) (behind e h)
+        | fails e ↦ seen_as v w d x (λ f. exists (is_permission_with f (handle_of p d)) us) (domain_at t d).tracker (λ a. now a ∙ rw e) (behind e h)
       ]
     where
-      behind : (eqb d k.slot && (isMarked (teller x) m || more (teller x))) ≡ false → QueuedOrExact v d x (λ f. exists (isPermissionWith f (handle_of p d)) (permission k c m ∷ us)) (domainAt t d).tracker → QueuedOrExact v d x (λ f. exists (isPermissionWith f (handle_of p d)) us) (domainAt t d).tracker
-      behind e (inl q) = inl (another (eqb d k.slot) (eqb (handle_of p d).generation k.generation) (isMarked (teller x) m) (more (teller x)) (exists (isPermissionWith (teller x) (handle_of p d)) us) e q)
+      behind : (eqb d k.slot && (is_marked (teller x) m || more (teller x))) ≡ false → QueuedOrExact v d x (λ f. exists (is_permission_with f (handle_of p d)) (permission k c m ∷ us)) (domain_at t d).tracker → QueuedOrExact v d x (λ f. exists (is_permission_with f (handle_of p d)) us) (domain_at t d).tracker
+      behind e (inl q) = inl (another (eqb d k.slot) (eqb (handle_of p d).generation k.generation) (is_marked (teller x) m) (more (teller x)) (exists (is_permission_with (teller x) (handle_of p d)) us) e q)
       behind e (inr q) = inr q
 
   -- an update of a dead handle leaves, and nothing is read: it was no update of a live domain
-  dead-leaves : (v : Seen) (d : ℕ) (x : Count) (k : Handle) (c m : ℕ) (us : List Update) (t : State) → Live t d → T (not (isLive t.domainPool t.domains k)) → QueuedOrExact v d x (λ f. exists (isPermissionWith f (handle_of t.domainPool d)) (permission k c m ∷ us)) (domainAt t d).tracker → QueuedOrExact v d x (λ f. exists (isPermissionWith f (handle_of t.domainPool d)) us) (domainAt t d).tracker
-  dead-leaves v d x k c m us t live dead (inl q) = inl (elim (test (sameHandle (handle_of t.domainPool d) k)) [
-    | holds e ↦ absurd (T_not (isLive t.domainPool t.domains k) dead (same_live t d k live (true-is e)))
+  dead-leaves : (v : Seen) (d : ℕ) (x : Count) (k : Handle) (c m : ℕ) (us : List Update) (t : State) → Live t d → T (not (is_live t.domain_pool t.domains k)) → QueuedOrExact v d x (λ f. exists (is_permission_with f (handle_of t.domain_pool d)) (permission k c m ∷ us)) (domain_at t d).tracker → QueuedOrExact v d x (λ f. exists (is_permission_with f (handle_of t.domain_pool d)) us) (domain_at t d).tracker
+  dead-leaves v d x k c m us t live dead (inl q) = inl (elim (test (same_handle (handle_of t.domain_pool d) k)) [
+    | holds e ↦ absurd (T_not (is_live t.domain_pool t.domains k) dead (same_live t d k live (true-is e)))
     | fails e ↦ rw e at q
   ])
   dead-leaves v d x k c m us t live dead (inr q) = inr q
 
-  pub pop-go : (v : Seen) (s : State) (f : ℕ) (us : List Update) → Tracks (Live s) v (withQueue (record { read_place = f; items = us }) s) → let x = pop (withQueue (record { read_place = f; items = us }) s) in Tracks (Live x.1) (notices more v (popped x.0) x.1) x.1
+  pub pop-go : (v : Seen) (s : State) (f : ℕ) (us : List Update) → Tracks (Live s) v (with_queue (record { read_place = f; items = us }) s) → let x = pop (with_queue (record { read_place = f; items = us }) s) in Tracks (Live x.1) (notices more v (popped x.0) x.1) x.1
   unfolding pop
   pop-go v s f [] h = h
   pop-go v s f (permission k c m ∷ us) h =
-      let t = withQueue (record { read_place = (f + 1) % (s.sizes.updates + 1); items = us }) s in
-      by-test (isLive s.domainPool s.domains k) (λ w. Tracks (Live s) w t)
-      (λ live. record { form = h.form; ranges = h.ranges; queuedOrExact = λ d e x. head_read v d x k c m s.domainPool us t (h.queuedOrExact d e x) })
-      (λ dead. record { form = h.form; ranges = h.ranges; queuedOrExact = λ d e x. dead-leaves v d x k c m us t e dead (h.queuedOrExact d e x) })
-  pop-go v s f (cleanup a b ∷ us) h = record { form = h.form; ranges = h.ranges; queuedOrExact = h.queuedOrExact }
+      let t = with_queue (record { read_place = (f + 1) % (s.sizes.updates + 1); items = us }) s in
+      by-test (is_live s.domain_pool s.domains k) (λ w. Tracks (Live s) w t)
+      (λ live. record { form = h.form; ranges = h.ranges; queued_or_exact = λ d e x. head_read v d x k c m s.domain_pool us t (h.queued_or_exact d e x) })
+      (λ dead. record { form = h.form; ranges = h.ranges; queued_or_exact = λ d e x. dead-leaves v d x k c m us t e dead (h.queued_or_exact d e x) })
+  pop-go v s f (cleanup a b ∷ us) h = record { form = h.form; ranges = h.ranges; queued_or_exact = h.queued_or_exact }

@@ -11,13 +11,13 @@ use Rattle.model.specs.Memory.{zeroed}
 use Rattle.words.specs.Copies.{copied}
 use Rattle.answers.specs.declared.Answer.{Answer}
 use Rattle.answers.specs.declared.Answer.TheVariants.{Done, Refused}
-use Rattle.sound.specs.Test.{isSound}
+use Rattle.sound.specs.Test.{is_sound}
 use Rattle.replies.specs.declared.Reply.{Reply}
 use Rattle.replies.specs.declared.DomainReply.{DomainReply}
 use Rattle.tables.specs.Tables.{Tables}
 
 unfoldable pub admitted : List ℕ → List ℕ → Bool
-admitted t w = pick (eqb (length w) (length t)) (isSound t) false
+admitted t w = pick (eqb (length w) (length t)) (is_sound t) false
 
 -- the work area behind the test: a copy of the tables, or all zero
 unfoldable pub kept : List ℕ → List ℕ → List ℕ
@@ -29,13 +29,13 @@ finished (Done v) t w = t
 finished (Refused r) t w = copied w t
 
 -- the reply to an opening: the slot with its generation in the tables v
-unfoldable pub openedFor : Tables → Reply → DomainReply
-openedFor v r = pick (eqb r.refusal 0) (record { refusal = 0; slot = r.value; generation = get_or v.domainPool.gens r.value 0 }) (record { refusal = r.refusal; slot = 0; generation = 0 })
+unfoldable pub opened_for : Tables → Reply → DomainReply
+opened_for v r = pick (eqb r.refusal 0) (record { refusal = 0; slot = r.value; generation = get_or v.domain_pool.gens r.value 0 }) (record { refusal = r.refusal; slot = 0; generation = 0 })
 
 -- ---- laws
 
 module _ (t w : List ℕ) where
-  pub admits-same : length w ≡ length t → isSound t ≡ admitted t w
+  pub admits-same : length w ≡ length t → is_sound t ≡ admitted t w
   unfolding admitted
   admits-same e = rw (eq-eqb (length w) (length t) e)
 

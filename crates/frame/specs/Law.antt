@@ -12,9 +12,9 @@ use Rattle.model.specs.Perform.{Call, Answer, step}
 use Rattle.model.specs.Layout.{words}
 use Rattle.model.specs.Memory.{Lent, NotMake, After, zeroed}
 use Rattle.tables.specs.View.{Sized}
-use Rattle.sizes.specs.Tests.{sizedB}
+use Rattle.sizes.specs.Tests.{sized_b}
 use Rattle.tables.specs.Tests.{sized-true}
-use Rattle.sound.specs.Test.{isSound}
+use Rattle.sound.specs.Test.{is_sound}
 use Rattle.exact.specs.Law.{sound-words, words-sound}
 use Rattle.replies.specs.Replies.{Returns}
 use Rattle.frame.specs.Finish.{admitted, kept, kept-clear}
@@ -28,9 +28,9 @@ module _ (t w : List ℕ) where
 
   -- "1 Memory, either length wrong or tables not sound"
   pub not-admitted : (c : Call) → NotMake c → admitted t w ≡ false → After t w c (Answer.no memory) t (zeroed w)
-  not-admitted c n e = After.notSound c n (λ s l. false-is e (true-is (lent-admitted s l)))
+  not-admitted c n e = After.not_sound c n (λ s l. false-is e (true-is (lent-admitted s l)))
 
-  parts : admitted t w ≡ true → (length w ≡ length t) × (isSound t ≡ true)
+  parts : admitted t w ≡ true → (length w ≡ length t) × (is_sound t ≡ true)
   unfolding admitted
   parts h = elim (test (eqb (length w) (length t))) [
     | holds p ↦ (eqb-true (length w) (length t) p, rw p at h)
@@ -53,8 +53,8 @@ step-returns f t w c q s l r t₂ w₂ er et ew = record {
 
 -- the tables that a call may run on are as long as their sizes ask
 pub admitted-sized : (t w : List ℕ) → (b : Bool) → b ≡ admitted t w → b ≡ true → Sized t
-unfolding isSound
-admitted-sized t w b e h = sized-true t (both_true (sizedB t) _ (parts t w (sym e ∙ h)).1).0
+unfolding is_sound
+admitted-sized t w b e h = sized-true t (both_true (sized_b t) _ (parts t w (sym e ∙ h)).1).0
 
 -- and the work area as long as they
 pub admitted-long : (t w : List ℕ) → (b : Bool) → b ≡ admitted t w → b ≡ true → length w ≡ length t

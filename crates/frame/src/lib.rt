@@ -2,7 +2,7 @@
 ghost use Rattle.std.specs.Prelude.{◌≡◌};
 ghost use Rattle.model.specs.Memory.{zeroed};
 ghost use Rattle.frame.specs.Finish.{admitted, kept, finished};
-ghost use Rattle.replies.specs.ReplyFor.{replyFor};
+ghost use Rattle.replies.specs.ReplyFor.{reply_for};
 
 use answers::Answer;
 use replies::Reply;
@@ -31,7 +31,7 @@ pub fn begin(t: &[u64], w: &mut [u64]) -> bool
 
 // Puts the copy back where the call is refused, and clears the work area.
 pub fn finish(t: &mut [u64], w: &mut [u64], a: Answer) -> Reply
-    ensures { (result ≡ replyFor a) × (t.new ≡ finished a t.old w.old) × (w.new ≡ zeroed w.old) }
+    ensures { (result ≡ reply_for a) × (t.new ≡ finished a t.old w.old) × (w.new ≡ zeroed w.old) }
 {
     match a {
         Answer::Done(value) => {

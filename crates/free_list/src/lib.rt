@@ -1,9 +1,9 @@
 // The free list of a pool (free_list.rs, gen_arena.rs; document 01, "Arenas"): the slot at its head is given, a freed one comes to its front with the
 // next generation. The words by their meaning are crate `arena`'s.
 ghost use Rattle.std.specs.Prelude.{◌≡◌, length};
-ghost use Rattle.tables.specs.View.{arenaOf};
-ghost use Rattle.sizes.specs.Sizes.{poolWidth};
-ghost use Rattle.arena.specs.Arena.{headLink, given, allocated, heldB, answerTo, freed, newArena};
+ghost use Rattle.tables.specs.View.{arena_of};
+ghost use Rattle.sizes.specs.Sizes.{pool_width};
+ghost use Rattle.arena.specs.Arena.{head_link, given, allocated, held_b, answer_to, freed, new_arena};
 
 use arena::{Freed, Given};
 use tables::Handle;
@@ -12,8 +12,8 @@ use tables::Handle;
 
 // The link of the slot that is given next; 0 where none is free.
 fn head_link(p: &[u64], n: usize) -> u64
-    requires { length p.now ≡ poolWidth n }
-    ensures { result ≡ headLink (arenaOf n p.now) }
+    requires { length p.now ≡ pool_width n }
+    ensures { result ≡ head_link (arena_of n p.now) }
 {
     if words::size(p, 1) < n {
         arena::link(p, n, words::size(p, 0))
@@ -24,9 +24,9 @@ fn head_link(p: &[u64], n: usize) -> u64
 
 // Takes the slot at the head of the free list.
 pub fn allocate(p: &mut [u64], n: usize) -> Given
-    requires { length p.old ≡ poolWidth n }
-    ensures value { result ≡ given (arenaOf n p.old) }
-    ensures p_after { arenaOf n p.new ≡ allocated (arenaOf n p.old) }
+    requires { length p.old ≡ pool_width n }
+    ensures value { result ≡ given (arena_of n p.old) }
+    ensures p_after { arena_of n p.new ≡ allocated (arena_of n p.old) }
 {
     let link = head_link(p, n);
     if 0 < link {
@@ -43,8 +43,8 @@ pub fn allocate(p: &mut [u64], n: usize) -> Given
 
 // Whether slot i is in use, and the head and the count are such that it can be freed.
 fn is_held(p: &[u64], n: usize, i: usize) -> bool
-    requires { length p.now ≡ poolWidth n }
-    ensures { result ≡ heldB (arenaOf n p.now) i }
+    requires { length p.now ≡ pool_width n }
+    ensures { result ≡ held_b (arena_of n p.now) i }
 {
     let inside = words::both(i < n, words::size(p, 0) < n);
     let used = words::both(0 < words::size(p, 1), arena::link(p, n, i) == 0);
@@ -53,9 +53,9 @@ fn is_held(p: &[u64], n: usize, i: usize) -> bool
 
 // Puts slot i at the front of the free list, with the next generation.
 pub fn free(p: &mut [u64], n: usize, i: usize) -> Freed
-    requires { length p.old ≡ poolWidth n }
-    ensures value { result ≡ answerTo (arenaOf n p.old) i }
-    ensures p_after { arenaOf n p.new ≡ freed (arenaOf n p.old) i }
+    requires { length p.old ≡ pool_width n }
+    ensures value { result ≡ answer_to (arena_of n p.old) i }
+    ensures p_after { arena_of n p.new ≡ freed (arena_of n p.old) i }
 {
     if is_held(p, n, i) {
         let generation = arena::generation(p, n, i);
@@ -76,8 +76,8 @@ pub fn free(p: &mut [u64], n: usize, i: usize) -> Freed
 
 // Every slot free, in the order 0, 1, 2, at generation 0, as `FreeList::new` and `GenArena::new` have it.
 pub fn fresh(p: &mut [u64], n: usize)
-    requires { length p.old ≡ poolWidth n }
-    ensures { arenaOf n p.new ≡ newArena n }
+    requires { length p.old ≡ pool_width n }
+    ensures { arena_of n p.new ≡ new_arena n }
 {
     arena::set_top(p, n, 0, 0);
     let mut i = 0;

@@ -1,24 +1,24 @@
 // The hashes of regions.
 ghost use Rattle.std.specs.Prelude.{◌≡◌, length};
-ghost use Rattle.sizes.specs.Sizes.{hashWidth};
-ghost use Rattle.tables.specs.Tables.{hashAt, withHash};
-ghost use Rattle.tables.specs.View.{view, Sized, Left, hashOf};
-ghost use Rattle.tables.specs.Accessors.{hashPlace};
+ghost use Rattle.sizes.specs.Sizes.{hash_width};
+ghost use Rattle.tables.specs.Tables.{hash_at, with_hash};
+ghost use Rattle.tables.specs.View.{view, Sized, Left, hash_of};
+ghost use Rattle.tables.specs.Accessors.{hash_place};
 
 use sizes::HASH_WIDTH;
 use tables::RegionHash;
 
 fn hash_at(t: &[u64], i: usize) -> usize
     requires { Sized t.now }
-    ensures { result ≡ hashPlace t.now i }
+    ensures { result ≡ hash_place t.now i }
 {
     let z = sizes::read_sizes(t);
     tables::rows::row_at(t, sizes::hashes_at(z), z.regions, HASH_WIDTH, i)
 }
 
 pub fn hash_of(p: &[u64]) -> RegionHash
-    requires { length p.now ≡ hashWidth }
-    ensures { result ≡ hashOf p.now }
+    requires { length p.now ≡ hash_width }
+    ensures { result ≡ hash_of p.now }
 {
     RegionHash {
         given: p[0],
@@ -31,7 +31,7 @@ pub fn hash_of(p: &[u64]) -> RegionHash
 
 pub fn load_hash(t: &[u64], i: usize) -> RegionHash
     requires { Sized t.now }
-    ensures { result ≡ hashAt (view t.now) i }
+    ensures { result ≡ hash_at (view t.now) i }
 {
     let p = words::run(t, hash_at(t, i), HASH_WIDTH);
     if p.len() == HASH_WIDTH {
@@ -43,7 +43,7 @@ pub fn load_hash(t: &[u64], i: usize) -> RegionHash
 
 pub fn store_hash(t: &mut [u64], i: usize, h: RegionHash)
     requires { Sized t.old }
-    ensures { Left t.new (withHash (view t.old) i h) }
+    ensures { Left t.new (with_hash (view t.old) i h) }
 {
     let a = hash_at(t, i);
     words::store(t, a, &[h.given, h.word0, h.word1, h.word2, h.word3]);

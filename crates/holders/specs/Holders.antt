@@ -3,18 +3,18 @@ use Rattle.std.specs.Prelude.{Bool, not, List, [], ◌∷◌, ℕ, zero, suc, �
 use Rattle.base.specs.Cases.{pick}
 use Rattle.base.specs.Tests.{both}
 use Rattle.tables.specs.Tables.{Tables}
-use Rattle.arena.specs.Arena.{isFreeB}
-use Rattle.readings.specs.Readings.{recordsOf, largestReach}
+use Rattle.arena.specs.Arena.{is_free_b}
+use Rattle.readings.specs.Readings.{records_of, largest_reach}
 
--- "live domains with reach above 0 there" (isHolder)
-unfoldable pub isHolder : Tables → ℕ → ℕ → Bool
-isHolder s a d = both (not (isFreeB s.domainPool d)) (ltb 0 (largestReach a (a + 1) (recordsOf s d)))
+-- "live domains with reach above 0 there" (is_holder)
+unfoldable pub is_holder : Tables → ℕ → ℕ → Bool
+is_holder s a d = both (not (is_free_b s.domain_pool d)) (ltb 0 (largest_reach a (a + 1) (records_of s d)))
 
--- n domains from slot d on (holdersFrom)
-unfoldable pub holdersFrom : ℕ → Tables → ℕ → ℕ → List ℕ
-holdersFrom zero s a d = []
-holdersFrom (suc n) s a d = pick (isHolder s a d) (d ∷ holdersFrom n s a (suc d)) (holdersFrom n s a (suc d))
+-- n domains from slot d on (holders_from)
+unfoldable pub holders_from : ℕ → Tables → ℕ → ℕ → List ℕ
+holders_from zero s a d = []
+holders_from (suc n) s a d = pick (is_holder s a d) (d ∷ holders_from n s a (suc d)) (holders_from n s a (suc d))
 
 -- all, rising (holders)
-unfoldable pub holdersOf : Tables → ℕ → List ℕ
-holdersOf s a = holdersFrom s.sizes.domains s a 0
+unfoldable pub holders_of : Tables → ℕ → List ℕ
+holders_of s a = holders_from s.sizes.domains s a 0

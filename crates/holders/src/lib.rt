@@ -1,13 +1,13 @@
 // The holders of an address (document 01, **Reading**): the domains with reach above 0 there, domain slot rising, each once (document 02, request 6).
 ghost use Rattle.std.specs.Prelude.{◌≡◌, length};
 ghost use Rattle.tables.specs.View.{view, Sized};
-ghost use Rattle.readings.specs.Readings.{fillRun};
-ghost use Rattle.holders.specs.Holders.{isHolder, holdersOf};
+ghost use Rattle.readings.specs.Readings.{fill_run};
+ghost use Rattle.holders.specs.Holders.{is_holder, holders_of};
 
 // Whether domain d is in use and has reach above 0 at a.
 fn is_holder(t: &[u64], d: usize, a: u64) -> bool
     requires { Sized t.now }
-    ensures { result ≡ isHolder (view t.now) a d }
+    ensures { result ≡ is_holder (view t.now) a d }
 {
     words::both(
         !pools::domain_is_free(t, d),
@@ -18,8 +18,8 @@ fn is_holder(t: &[u64], d: usize, a: u64) -> bool
 // The slots of the domains with reach above 0 at a into a lent run, rising; the answer is their number.
 pub fn holders(t: &[u64], a: u64, run: &mut [u64]) -> u64
     requires { Sized t.now }
-    ensures value { result ≡ length (holdersOf (view t.now) a) }
-    ensures run_after { run.new ≡ fillRun (holdersOf (view t.now) a) run.old }
+    ensures value { result ≡ length (holders_of (view t.now) a) }
+    ensures run_after { run.new ≡ fill_run (holders_of (view t.now) a) run.old }
 {
     let mut left = words::size(t, sizes::DOMAINS);
     let mut n: usize = 0;

@@ -7,7 +7,7 @@ use libc::STDIN_FILENO;
 
 // The bytes at hand are those from `at` up to `end`. `more`: the input had not ended behind them, and no read failed there; `failed`: one did, so
 // that nobody knows whether the input had ended.
-#[derive(Drop)]
+#[derive(Clone, Copy)]
 pub struct Buffered {
     pub at: usize,
     pub end: usize,

@@ -2,9 +2,9 @@
 -- list's alias left no slot for.
 use Rattle.std.specs.Prelude.{◌≡◌, refl, ℕ, List, [], ◌∷◌, ◌++◌, drop}
 use Rattle.std.proofs.Math.Option.{none}
-use Rattle.refusals.specs.Refusals.{no_local, notAllowed}
+use Rattle.refusals.specs.Refusals.{no_local, not_allowed}
 use Rattle.model.specs.State.{Sizes}
-use Rattle.model.specs.Making.{emptyTables}
+use Rattle.model.specs.Making.{empty_tables}
 use Rattle.model.specs.Perform.{Step, Call, Value, Answer, run}
 use Rattle.model.specs.Checked.Compute.{computing}
 use Rattle.model.specs.Checked.Script.{dom, access}
@@ -22,8 +22,8 @@ abbrev begun : ℕ → List Call
 begun word = Call.Do (Step.Open none 1) ∷ Call.Do (Step.SetInterface (dom 0) word) ∷ Call.Do (Step.Root (dom 0) (access 0 16 3)) ∷ []
 
 abbrev answers : ℕ → List Answer
-answers word = drop 3 (run (emptyTables sizes) (begun word ++ calls)).0
+answers word = drop 3 (run (empty_tables sizes) (begun word ++ calls)).0
 
-pub fewer-bits-not-of-lists : (answers 26 ≡ Answer.yes (Value.local 1) ∷ Answer.no no_local ∷ []) × (answers 18 ≡ Answer.no notAllowed ∷ Answer.yes (Value.local 1) ∷ [])
+pub fewer-bits-not-of-lists : (answers 26 ≡ Answer.yes (Value.local 1) ∷ Answer.no no_local ∷ []) × (answers 18 ≡ Answer.no not_allowed ∷ Answer.yes (Value.local 1) ∷ [])
 unfolding computing
 fewer-bits-not-of-lists = (refl, refl)

@@ -9,14 +9,14 @@ use Rattle.std.proofs.Math.Dec.{T}
 use Rattle.std.specs.Float.Ieee.Fits.{and_r}
 use Rattle.base.specs.Tests.{or_l, or_r}
 use Rattle.base.specs.Options.{none-some}
-use Rattle.refusals.specs.Refusals.{noDomainRoom}
-use Rattle.model.specs.Lists.{exists, Each, atSlot, In}
+use Rattle.refusals.specs.Refusals.{no_domain_room}
+use Rattle.model.specs.Lists.{exists, Each, at_slot, In}
 use Rattle.model.specs.Outcome.{Outcome, ok, refuse}
-use Rattle.model.specs.State.{State, Handle, Pool, Interface, Domain, domainAt, putDomain}
+use Rattle.model.specs.State.{State, Handle, Pool, Interface, Domain, domain_at, put_domain}
 use Rattle.model.specs.Pool.{handle_of}
-use Rattle.model.specs.Locals.{emptyCapa}
-use Rattle.model.specs.Calls.{newDomain, openDomain, setInterface, freezeInterface, revoke}
-use Rattle.model.specs.Perform.{Call, Value, performStep, perform, after, step, run}
+use Rattle.model.specs.Locals.{empty_capa}
+use Rattle.model.specs.Calls.{new_domain, open_domain, set_interface, freeze_interface, revoke}
+use Rattle.model.specs.Perform.{Call, Value, perform_step, perform, after, step, run}
 use Rattle.model.specs.CallWords.{CallWords}
 use Rattle.model.specs.Sound.{Sound}
 use Rattle.model.specs.Memory.{NotMake}
@@ -27,32 +27,32 @@ use Rattle.laws.specs.Interfaces.{Keeps, kept_self, put_same, read-interface, ca
 use Rattle.laws.specs.Close.Call.{revoke-leaves}
 use Rattle.laws.specs.Close.Interfaces.{StaysOrCloses, stays, closes, revoke-interfaces}
 use Rattle.laws.specs.SoundKept.{step-sound}
-use Rattle.interface.specs.Frozen.{Stays, Gone, isRevoke, FreezeHolds, FreezeHoldsRun, FreezeHoldsLive}
+use Rattle.interface.specs.Frozen.{Stays, Gone, is_revoke, FreezeHolds, FreezeHoldsRun, FreezeHoldsLive}
 
 abbrev Stays₁ : {A : Type 0} → ℕ → Domain → State → A × State → Type 0
 Stays₁ d x s r = Stays d x s r.1
 
 -- after a call that keeps interfaces
 then-kept : (d : ℕ) (x : Domain) (s t u : State) → Stays d x s t → Keeps t u → Stays d x s u
-then-kept d x s t u (y, i, e, h) k = let (z, j, f) = k.interfaces d y i in (z, j, f ∙ e, ap (λ (p : Pool). handle_of p d) k.domainPool ∙ h)
+then-kept d x s t u (y, i, e, h) k = let (z, j, f) = k.interfaces d y i in (z, j, f ∙ e, ap (λ (p : Pool). handle_of p d) k.domain_pool ∙ h)
 
 module _ (s : State) (d : ℕ) (x : Domain) (i : In s.domains d x) where
   stays-now : Stays d x s s
   stays-now = (x, i, refl, refl)
 
-  put : (e : ℕ) (y : Domain) → (d ≡ e → y.interface ≡ x.interface) → Stays d x s (putDomain e y s)
+  put : (e : ℕ) (y : Domain) → (d ≡ e → y.interface ≡ x.interface) → Stays d x s (put_domain e y s)
   put e y k = let (z, j, f) = put_same s.domains e y d x i k in (z, j, f, refl)
 
   -- an opening takes a slot that was free
-  new-domain-stays : Sound s → (m : Option ℕ) (cores : ℕ) → All (Stays₁ d x s) (newDomain m cores s)
-  unfolding newDomain
+  new-domain-stays : Sound s → (m : Option ℕ) (cores : ℕ) → All (Stays₁ d x s) (new_domain m cores s)
+  unfolding new_domain
   new-domain-stays k m cores =
-      bind (both (allocate-free s.domains s.sizes.domains s.domainPool k.outside.domainsLength k.outside.domainPool noDomainRoom) (taken noDomainRoom s.domainPool)) (λ (n, p) ((l, vacant), t).
-      let (y, j, f) = put_same s.domains n _ d x i (λ e. absurd (none-some (atSlot s.domains n) x vacant (ap (atSlot s.domains) (sym e) ∙ i))) in
+      bind (both (allocate-free s.domains s.sizes.domains s.domain_pool k.outside.domains_length k.outside.domain_pool no_domain_room) (taken no_domain_room s.domain_pool)) (λ (n, p) ((l, vacant), t).
+      let (y, j, f) = put_same s.domains n _ d x i (λ e. absurd (none-some (at_slot s.domains n) x vacant (ap (at_slot s.domains) (sym e) ∙ i))) in
       accepted (y, j, f, ap (λ (q : Pool). handle_of q d) t.is))
 
-  open_stays : Sound s → (m : Option Handle) (cores : ℕ) → All (Stays₁ d x s) (openDomain m cores s)
-  unfolding openDomain
+  open_stays : Sound s → (m : Option Handle) (cores : ℕ) → All (Stays₁ d x s) (open_domain m cores s)
+  unfolding open_domain
   open_stays k none cores = bind (new-domain-stays k none cores) (λ (n, s₁) w. accepted w)
   open_stays k (some h) cores =
       bind-any _ (λ m.
@@ -61,13 +61,13 @@ module _ (s : State) (d : ℕ) (x : Domain) (i : In s.domains d x) where
       bind (insert-kept s₁ m _ s₂ k₂) (λ (l, s₃) k₃. accepted (then-kept d x s s₁ s₃ w k₃)))))
 
   -- 21 for the frozen domain itself
-  set-stays : x.interface.frozen ≡ true → (h : Handle) (word : ℕ) → All (Stays d x s) (setInterface h word s)
-  unfolding setInterface
-  set-stays z h word = bind-any _ (λ e. checked (not (domainAt s e).interface.frozen) _ (λ t. accepted (put e _ (λ m. absurd (subst (λ b. T (not b)) (ap (λ (f : Interface). f.frozen) (read-interface s d x i e m) ∙ z) t)))))
+  set-stays : x.interface.frozen ≡ true → (h : Handle) (word : ℕ) → All (Stays d x s) (set_interface h word s)
+  unfolding set_interface
+  set-stays z h word = bind-any _ (λ e. checked (not (domain_at s e).interface.frozen) _ (λ t. accepted (put e _ (λ m. absurd (subst (λ b. T (not b)) (ap (λ (f : Interface). f.frozen) (read-interface s d x i e m) ∙ z) t)))))
 
   -- "Freezing twice is accepted", and changes nothing
-  freeze-stays : x.interface.frozen ≡ true → (h : Handle) → All (Stays d x s) (freezeInterface h s)
-  unfolding freezeInterface
+  freeze-stays : x.interface.frozen ≡ true → (h : Handle) → All (Stays d x s) (freeze_interface h s)
+  unfolding freeze_interface
   freeze-stays z h = bind-any _ (λ e. accepted (put e _ (λ m. let p = read-interface s d x i e m in λ j. record { word = (p j).word; frozen = sym z j })))
 
   -- a revoke may close it
@@ -82,14 +82,14 @@ module _ (s : State) (d : ℕ) (x : Domain) (i : In s.domains d x) where
 
   -- after a call: the domain as it was, or gone by a revoke
   abbrev Ends : Call → State → Type 0
-  Ends c t = Stays d x s t ⊎ (T (isRevoke c) × Gone d s t)
+  Ends c t = Stays d x s t ⊎ (T (is_revoke c) × Gone d s t)
 
   by-revoke : (t : State) → Stays d x s t ⊎ Gone d s t → Stays d x s t ⊎ (Unit {0} × Gone d s t)
   by-revoke t (inl v) = inl v
   by-revoke t (inr g) = inr (tt, g)
 
   perform-stays : Sound s → x.interface.frozen ≡ true → (c : Call) → NotMake c → InterfaceCase s c → All (λ y. Ends c y.1) (perform s c)
-  unfolding perform performStep
+  unfolding perform perform_step
   perform-stays k z c q (making n) = absurd q
   perform-stays k z c q (opening m cores) = bind (open_stays k m cores) (λ y v. accepted (inl v))
   perform-stays k z c q (setting h word) = bind (set-stays z h word) (λ y v. accepted (inl v))
@@ -106,45 +106,45 @@ module _ (s : State) (d : ℕ) (x : Domain) (i : In s.domains d x) where
 
 -- no generation falls
 abbrev Rises : State → State → Type 0
-Rises s t = (i : ℕ) → get_or s.domainPool.gens i 0 ≤ get_or t.domainPool.gens i 0
+Rises s t = (i : ℕ) → get_or s.domain_pool.gens i 0 ≤ get_or t.domain_pool.gens i 0
 
-same-rises : (s t : State) → t.domainPool.gens ≡ s.domainPool.gens → Rises s t
+same-rises : (s t : State) → t.domain_pool.gens ≡ s.domain_pool.gens → Rises s t
 same-rises s t e i = omega (arith, ap (λ g. get_or g i 0) e)
 
 module _ (s : State) where
-  new-domain-rises : (m : Option ℕ) (cores : ℕ) → All (λ y. y.1.domainPool.gens ≡ s.domainPool.gens) (newDomain m cores s)
-  unfolding newDomain
-  new-domain-rises m cores = bind (taken noDomainRoom s.domainPool) (λ (n, p) t. accepted (ap (λ (q : Pool). q.gens) t.is))
+  new-domain-rises : (m : Option ℕ) (cores : ℕ) → All (λ y. y.1.domain_pool.gens ≡ s.domain_pool.gens) (new_domain m cores s)
+  unfolding new_domain
+  new-domain-rises m cores = bind (taken no_domain_room s.domain_pool) (λ (n, p) t. accepted (ap (λ (q : Pool). q.gens) t.is))
 
-  open-rises : (m : Option Handle) (cores : ℕ) → All (λ y. Rises s y.1) (openDomain m cores s)
-  unfolding openDomain
+  open-rises : (m : Option Handle) (cores : ℕ) → All (λ y. Rises s y.1) (open_domain m cores s)
+  unfolding open_domain
   open-rises none cores = bind (new-domain-rises none cores) (λ (n, s₁) e. accepted (same-rises s s₁ e))
   open-rises (some h) cores =
       bind-any _ (λ m.
       bind (new-domain-rises (some m) cores) (λ (n, s₁) e.
       bind (capacity-kept s₁ m s₁ (kept_self s₁)) (λ s₂ k₂.
-      bind (insert-kept s₁ m _ s₂ k₂) (λ (l, s₃) k₃. accepted (same-rises s s₃ (ap (λ (q : Pool). q.gens) k₃.domainPool ∙ e))))))
+      bind (insert-kept s₁ m _ s₂ k₂) (λ (l, s₃) k₃. accepted (same-rises s s₃ (ap (λ (q : Pool). q.gens) k₃.domain_pool ∙ e))))))
 
-  set-rises : (h : Handle) (word : ℕ) → All (Rises s) (setInterface h word s)
-  unfolding setInterface
+  set-rises : (h : Handle) (word : ℕ) → All (Rises s) (set_interface h word s)
+  unfolding set_interface
   set-rises h word = bind-any _ (λ e. and_then _ (accepted (same-rises s s refl)))
 
-  freeze-rises : (h : Handle) → All (Rises s) (freezeInterface h s)
-  unfolding freezeInterface
+  freeze-rises : (h : Handle) → All (Rises s) (freeze_interface h s)
+  unfolding freeze_interface
   freeze-rises h = bind-any _ (λ e. accepted (same-rises s s refl))
 
   revoke-rises : Sound s → (h : Handle) (l : ℕ) → All (Rises s) (revoke h l s)
-  unfolding emptyCapa
-  revoke-rises k h l = weaken (revoke-leaves h l s k) (λ t v. subst (Rises s) (sym v.is) v.less.domainGens)
+  unfolding empty_capa
+  revoke-rises k h l = weaken (revoke-leaves h l s k) (λ t v. subst (Rises s) (sym v.is) v.less.domain_gens)
 
   perform-rises : Sound s → (c : Call) → NotMake c → InterfaceCase s c → All (λ y. Rises s y.1) (perform s c)
-  unfolding perform performStep
+  unfolding perform perform_step
   perform-rises k c q (making n) = absurd q
   perform-rises k c q (opening m cores) = bind (open-rises m cores) (λ y v. accepted v)
   perform-rises k c q (setting h word) = bind (set-rises h word) (λ y v. accepted v)
   perform-rises k c q (freezing h) = bind (freeze-rises h) (λ y v. accepted v)
   perform-rises k c q (revoking h l) = bind (revoke-rises k h l) (λ y v. accepted v)
-  perform-rises k c q (keeping b l) = weaken l (λ y v. same-rises s y.1 (ap (λ (p : Pool). p.gens) v.domainPool))
+  perform-rises k c q (keeping b l) = weaken l (λ y v. same-rises s y.1 (ap (λ (p : Pool). p.gens) v.domain_pool))
 
   after-rises : (m : Outcome (Value × State)) → All (λ y. Rises s y.1) m → Rises s (after s m).1
   after-rises (ok y) (accepted v) = v
@@ -178,18 +178,18 @@ freeze-holds-run s (c ∷ cs) k u q d x e z = first (freeze-holds s c k q.0 d x 
     sound : Sound t
     sound = step-sound s c k u.0
 
-    then : (y : Domain) → y.interface ≡ x.interface → handle_of t.domainPool d ≡ handle_of s.domainPool d → Stays d y t (run t cs).1 ⊎ (T (exists isRevoke cs) × Gone d t (run t cs).1) → Stays d x s (run t cs).1 ⊎ (T (exists isRevoke (c ∷ cs)) × Gone d s (run t cs).1)
+    then : (y : Domain) → y.interface ≡ x.interface → handle_of t.domain_pool d ≡ handle_of s.domain_pool d → Stays d y t (run t cs).1 ⊎ (T (exists is_revoke cs) × Gone d t (run t cs).1) → Stays d x s (run t cs).1 ⊎ (T (exists is_revoke (c ∷ cs)) × Gone d s (run t cs).1)
     then y f h (inl (v, j, g, l)) = inl (v, j, g ∙ f, l ∙ h)
-    then y f h (inr (r, g)) = inr (or_r (isRevoke c) (exists isRevoke cs) r, omega (arith, g, ap (λ (m : Handle). m.generation) h))
+    then y f h (inr (r, g)) = inr (or_r (is_revoke c) (exists is_revoke cs) r, omega (arith, g, ap (λ (m : Handle). m.generation) h))
 
-    first : Stays d x s t ⊎ (T (isRevoke c) × Gone d s t) → ((y : Domain) → In t.domains d y → y.interface.frozen ≡ true → Stays d y t (run t cs).1 ⊎ (T (exists isRevoke cs) × Gone d t (run t cs).1)) → Stays d x s (run t cs).1 ⊎ (T (exists isRevoke (c ∷ cs)) × Gone d s (run t cs).1)
+    first : Stays d x s t ⊎ (T (is_revoke c) × Gone d s t) → ((y : Domain) → In t.domains d y → y.interface.frozen ≡ true → Stays d y t (run t cs).1 ⊎ (T (exists is_revoke cs) × Gone d t (run t cs).1)) → Stays d x s (run t cs).1 ⊎ (T (exists is_revoke (c ∷ cs)) × Gone d s (run t cs).1)
     first (inl (y, i, f, h)) on = then y f h (on y i (ap (λ (w : Interface). w.frozen) f ∙ z))
-    first (inr (r, g)) on = inr (or_l (isRevoke c) (exists isRevoke cs) r, omega (arith, g, run-rises t cs sound u.1 q.1 d))
+    first (inr (r, g)) on = inr (or_l (is_revoke c) (exists is_revoke cs) r, omega (arith, g, run-rises t cs sound u.1 q.1 d))
 
 -- as long as the domain lives
 pub freeze-holds-live : FreezeHoldsLive
 freeze-holds-live s cs k u q d x e z l = go (freeze-holds-run s cs k u q d x e z)
   where
-    go : Stays d x s (run s cs).1 ⊎ (T (exists isRevoke cs) × Gone d s (run s cs).1) → Stays d x s (run s cs).1
+    go : Stays d x s (run s cs).1 ⊎ (T (exists is_revoke cs) × Gone d s (run s cs).1) → Stays d x s (run s cs).1
     go (inl v) = v
-    go (inr (r, g)) = let m = eqb→eq (get_or (run s cs).1.domainPool.gens d 0) (get_or s.domainPool.gens d 0) (search and_r) in absurd (omega (arith, g, m))
+    go (inr (r, g)) = let m = eqb→eq (get_or (run s cs).1.domain_pool.gens d 0) (get_or s.domain_pool.gens d 0) (search and_r) in absurd (omega (arith, g, m))

@@ -5,164 +5,164 @@ use Rattle.std.proofs.Common.{sym, ap, subst, ◌∙◌, le_refl, arith, length-
 use Rattle.std.proofs.Math.Option.{Option, none, some}
 use mathlib.Core.List.{List, [], ◌∷◌, ◌++◌, flat_map}
 use Rattle.base.specs.Options.{none-some}
-use Rattle.model.specs.Lists.{oneIf, is_some, countIf, atSlot, In, countUp}
-use Rattle.model.specs.State.{Word, State, Handle, Record, Domain, withDomains, withInterface}
-use Rattle.model.specs.Pool.{isLive, handle_of}
-use Rattle.model.specs.Layout.{headerWords, poolWords, domainWords, regionWords, recordSlotWords, trackerWords, placeWords, hashWords, interfaceWords, at_place, markWords, words}
-use Rattle.model.specs.Sound.{ListSound, TrackerSound, recordUses, names, isRegionOf, isManagementOf, Sound}
+use Rattle.model.specs.Lists.{one_if, is_some, count_if, at_slot, In, count_up}
+use Rattle.model.specs.State.{Word, State, Handle, Record, Domain, with_domains, with_interface}
+use Rattle.model.specs.Pool.{is_live, handle_of}
+use Rattle.model.specs.Layout.{header_words, pool_words, domain_words, region_words, record_slot_words, tracker_words, place_words, hash_words, interface_words, at_place, mark_words, words}
+use Rattle.model.specs.Sound.{ListSound, TrackerSound, record_uses, names, is_region_of, is_management_of, Sound}
 use Rattle.laws.specs.Parts.{rows-length}
 use Rattle.laws.specs.Capas.Live.{live-onward, live-fits, fits-onward, list-onward, queue-onward}
 use Rattle.laws.specs.Capas.Domain.{SameManagers, managed-onward}
 use Rattle.laws.specs.Words.Length.{interface-width, mark-width, words-length}
-use Rattle.interface.specs.FewerTables.{interfacesAt}
+use Rattle.interface.specs.FewerTables.{interfaces_at}
 
-abbrev pub rewordOf : ℕ → Domain → Domain
-rewordOf word x = withInterface (record { word = word; frozen = x.interface.frozen }) x
+abbrev pub reword_of : ℕ → Domain → Domain
+reword_of word x = with_interface (record { word = word; frozen = x.interface.frozen }) x
 
-abbrev pub rewordIn : ℕ → Option Domain → Option Domain
-rewordIn word none = none
-rewordIn word (some x) = some (rewordOf word x)
+abbrev pub reword_in : ℕ → Option Domain → Option Domain
+reword_in word none = none
+reword_in word (some x) = some (reword_of word x)
 
-abbrev pub rewordAll : (ℕ → ℕ) → List (Option Domain) → List (Option Domain)
-rewordAll g [] = []
-rewordAll g (o ∷ l) = rewordIn (g 0) o ∷ rewordAll (λ d. g (suc d)) l
+abbrev pub reword_all : (ℕ → ℕ) → List (Option Domain) → List (Option Domain)
+reword_all g [] = []
+reword_all g (o ∷ l) = reword_in (g 0) o ∷ reword_all (λ d. g (suc d)) l
 
 abbrev pub reword : (ℕ → ℕ) → State → State
-reword g s = withDomains s.domainPool (rewordAll g s.domains) s
+reword g s = with_domains s.domain_pool (reword_all g s.domains) s
 
 -- ---- slot by slot
 
-pub reword-at : (g : ℕ → ℕ) (l : List (Option Domain)) (d : ℕ) → atSlot (rewordAll g l) d ≡ rewordIn (g d) (atSlot l d)
+pub reword-at : (g : ℕ → ℕ) (l : List (Option Domain)) (d : ℕ) → at_slot (reword_all g l) d ≡ reword_in (g d) (at_slot l d)
 reword-at g [] d = refl
 reword-at g (o ∷ l) zero = refl
 reword-at g (o ∷ l) (suc d) = reword-at (λ i. g (suc i)) l d
 
-pub reword-length : (g : ℕ → ℕ) (l : List (Option Domain)) → length (rewordAll g l) ≡ length l
+pub reword-length : (g : ℕ → ℕ) (l : List (Option Domain)) → length (reword_all g l) ≡ length l
 reword-length g [] = refl
 reword-length g (o ∷ l) = ap suc (reword-length (λ i. g (suc i)) l)
 
-some-reword : (word : ℕ) (o : Option Domain) → is_some (rewordIn word o) ≡ is_some o
+some-reword : (word : ℕ) (o : Option Domain) → is_some (reword_in word o) ≡ is_some o
 some-reword word none = refl
 some-reword word (some x) = refl
 
-was : (word : ℕ) (o : Option Domain) (y : Domain) → rewordIn word o ≡ some y → (x : Domain) × (o ≡ some x) × (y ≡ rewordOf word x)
+was : (word : ℕ) (o : Option Domain) (y : Domain) → reword_in word o ≡ some y → (x : Domain) × (o ≡ some x) × (y ≡ reword_of word x)
 was word none y e = absurd (none-some none y refl e)
 was word (some x) y e = (x, refl, cc)
 
-uses-reword : (g : ℕ → ℕ) (l : List (Option Domain)) (i : ℕ) → recordUses (rewordAll g l) i ≡ recordUses l i
+uses-reword : (g : ℕ → ℕ) (l : List (Option Domain)) (i : ℕ) → record_uses (reword_all g l) i ≡ record_uses l i
 uses-reword g [] i = refl
 uses-reword g (none ∷ l) i = uses-reword (λ d. g (suc d)) l i
-uses-reword g (some x ∷ l) i = ap (λ n. countIf (λ (q : Record). eqb i q.slot) x.tracker + n) (uses-reword (λ d. g (suc d)) l i)
+uses-reword g (some x ∷ l) i = ap (λ n. count_if (λ (q : Record). eqb i q.slot) x.tracker + n) (uses-reword (λ d. g (suc d)) l i)
 
 -- ---- soundness
 
 module _ (g : ℕ → ℕ) (s : State) (k : Sound s) where
   abbrev ds : List (Option Domain)
-  ds = rewordAll g s.domains
+  ds = reword_all g s.domains
 
-  alive : (d : ℕ) → is_some (atSlot ds d) ≡ is_some (atSlot s.domains d)
-  alive d = ap is_some (reword-at g s.domains d) ∙ some-reword (g d) (atSlot s.domains d)
+  alive : (d : ℕ) → is_some (at_slot ds d) ≡ is_some (at_slot s.domains d)
+  alive d = ap is_some (reword-at g s.domains d) ∙ some-reword (g d) (at_slot s.domains d)
 
-  alive-on : (d : ℕ) → T (is_some (atSlot s.domains d)) → T (is_some (atSlot ds d))
+  alive-on : (d : ℕ) → T (is_some (at_slot s.domains d)) → T (is_some (at_slot ds d))
   alive-on d t = subst T (sym (alive d)) t
 
-  live_on : (h : Handle) → T (isLive s.domainPool s.domains h) → T (isLive s.domainPool ds h)
-  live_on h t = live-onward s.domainPool s.domains ds alive-on h t
+  live_on : (h : Handle) → T (is_live s.domain_pool s.domains h) → T (is_live s.domain_pool ds h)
+  live_on h t = live-onward s.domain_pool s.domains ds alive-on h t
 
-  back : (d : ℕ) (y : Domain) → In ds d y → (x : Domain) × In s.domains d x × (y ≡ rewordOf (g d) x)
-  back d y e = was (g d) (atSlot s.domains d) y (sym (reword-at g s.domains d) ∙ e)
+  back : (d : ℕ) (y : Domain) → In ds d y → (x : Domain) × In s.domains d x × (y ≡ reword_of (g d) x)
+  back d y e = was (g d) (at_slot s.domains d) y (sym (reword-at g s.domains d) ∙ e)
 
   forth : SameManagers s.domains ds
-  forth d x e = (rewordOf (g d) x, reword-at g s.domains d ∙ ap (rewordIn (g d)) e, refl)
+  forth d x e = (reword_of (g d) x, reword-at g s.domains d ∙ ap (reword_in (g d)) e, refl)
 
-  list_on : (l : _) → ListSound s.sizes.slots s.regionPool s.regions s.domainPool s.domains l → ListSound s.sizes.slots s.regionPool s.regions s.domainPool ds l
-  list_on l h = list-onward s.regionPool s.regionPool s.regions s.regions s.domainPool s.domainPool s.domains ds (λ h t. t) (λ h t u. u) (fits-onward s.domainPool s.domainPool s.domains ds (λ h t. live-fits s.domainPool ds h (live_on h t)) (λ i. le_refl _)) s.sizes.slots l h
+  list_on : (l : _) → ListSound s.sizes.slots s.region_pool s.regions s.domain_pool s.domains l → ListSound s.sizes.slots s.region_pool s.regions s.domain_pool ds l
+  list_on l h = list-onward s.region_pool s.region_pool s.regions s.regions s.domain_pool s.domain_pool s.domains ds (λ h t. t) (λ h t u. u) (fits-onward s.domain_pool s.domain_pool s.domains ds (λ h t. live-fits s.domain_pool ds h (live_on h t)) (λ i. le_refl _)) s.sizes.slots l h
 
   pub reword-sound : ((d : ℕ) (x : Domain) → In s.domains d x → Word (g d)) → Sound (reword g s)
   reword-sound w = record {
     outside = record {
-      sizesGood = k.outside.sizesGood;
-      domainsLength = reword-length g s.domains ∙ k.outside.domainsLength;
-      regionsLength = k.outside.regionsLength;
-      domainPool = record {
-        gensLength = k.outside.domainPool.gensLength;
-        gensWords = k.outside.domainPool.gensWords;
-        once = λ i. ap (λ b. oneIf b + countIf (eqb i) s.domainPool.free) (alive i) ∙ k.outside.domainPool.once i;
+      sizes_good = k.outside.sizes_good;
+      domains_length = reword-length g s.domains ∙ k.outside.domains_length;
+      regions_length = k.outside.regions_length;
+      domain_pool = record {
+        gens_length = k.outside.domain_pool.gens_length;
+        gens_words = k.outside.domain_pool.gens_words;
+        once = λ i. ap (λ b. one_if b + count_if (eqb i) s.domain_pool.free) (alive i) ∙ k.outside.domain_pool.once i;
       };
-      regionPool = k.outside.regionPool;
+      region_pool = k.outside.region_pool;
       regions = k.outside.regions;
       owners = λ i r e. let o = k.outside.owners i r e in record {
-        ownerLive = alive-on r.owner o.ownerLive;
-        oneSlot = λ d y f. let (x, n, q) = back d y f in ap (λ (z : Domain). countIf (isRegionOf (handle_of s.regionPool i)) z.locals.held) q ∙ o.oneSlot d x n;
+        owner_live = alive-on r.owner o.owner_live;
+        one_slot = λ d y f. let (x, n, q) = back d y f in ap (λ (z : Domain). count_if (is_region_of (handle_of s.region_pool i)) z.locals.held) q ∙ o.one_slot d x n;
       };
       managers = λ d y e. let (x, n, q) = back d y e in let o = k.outside.managers d x n in record {
-        managerLive = λ m p. alive-on m (o.managerLive m (sym (ap (λ (z : Domain). z.manager) q) ∙ p));
-        oneManagement = λ j v f. let (u, a, b) = back j v f in ap (λ (z : Domain). countIf (isManagementOf (handle_of s.domainPool d)) z.locals.held) b ∙ o.oneManagement j u a ∙ ap (λ (z : Domain). oneIf (names z.manager j)) (sym q);
+        manager_live = λ m p. alive-on m (o.manager_live m (sym (ap (λ (z : Domain). z.manager) q) ∙ p));
+        one_management = λ j v f. let (u, a, b) = back j v f in ap (λ (z : Domain). count_if (is_management_of (handle_of s.domain_pool d)) z.locals.held) b ∙ o.one_management j u a ∙ ap (λ (z : Domain). one_if (names z.manager j)) (sym q);
         managed = managed-onward s.domains ds forth d o.managed;
       };
-      lists = λ d y e. let (x, n, q) = back d y e in subst (λ (z : Domain). ListSound s.sizes.slots s.regionPool s.regions s.domainPool ds z.locals) (sym q) (list_on x.locals (k.outside.lists d x n));
-      coresWords = λ d y e. let (x, n, q) = back d y e in subst (λ (z : Domain). Word z.cores) (sym q) (k.outside.coresWords d x n);
-      interfaceWords = λ d y e. let (x, n, q) = back d y e in subst (λ (z : Domain). Word z.interface.word) (sym q) (w d x n);
+      lists = λ d y e. let (x, n, q) = back d y e in subst (λ (z : Domain). ListSound s.sizes.slots s.region_pool s.regions s.domain_pool ds z.locals) (sym q) (list_on x.locals (k.outside.lists d x n));
+      cores_words = λ d y e. let (x, n, q) = back d y e in subst (λ (z : Domain). Word z.cores) (sym q) (k.outside.cores_words d x n);
+      interface_words = λ d y e. let (x, n, q) = back d y e in subst (λ (z : Domain). Word z.interface.word) (sym q) (w d x n);
     };
     tracked = record {
-      recordPool = record {
-        gensLength = k.tracked.recordPool.gensLength;
-        gensWords = k.tracked.recordPool.gensWords;
-        once = λ i. ap (λ n. n + countIf (eqb i) s.recordPool.free) (uses-reword g s.domains i) ∙ k.tracked.recordPool.once i;
+      record_pool = record {
+        gens_length = k.tracked.record_pool.gens_length;
+        gens_words = k.tracked.record_pool.gens_words;
+        once = λ i. ap (λ n. n + count_if (eqb i) s.record_pool.free) (uses-reword g s.domains i) ∙ k.tracked.record_pool.once i;
       };
       trackers = λ d y e. let (x, n, q) = back d y e in subst (λ (z : Domain). TrackerSound s.regions d z.tracker) (sym q) (k.tracked.trackers d x n);
     };
-    queue = queue-onward s.sizes.updates s.domainPool s.domainPool s.domains ds (fits-onward s.domainPool s.domainPool s.domains ds (λ n t. live-fits s.domainPool ds n (live_on n t)) (λ i. le_refl _)) s.queue k.queue;
+    queue = queue-onward s.sizes.updates s.domain_pool s.domain_pool s.domains ds (fits-onward s.domain_pool s.domain_pool s.domains ds (λ n t. live-fits s.domain_pool ds n (live_on n t)) (λ i. le_refl _)) s.queue k.queue;
   }
 
 -- ---- the words of the tables
 
 -- the interfaces' section; used only in proofs
-abbrev pub interfaceRows : State → List ℕ
-interfaceRows s = flat_map (λ i. interfaceWords (atSlot s.domains i)) (countUp 0 s.sizes.domains)
+abbrev pub interface_rows : State → List ℕ
+interface_rows s = flat_map (λ i. interface_words (at_slot s.domains i)) (count_up 0 s.sizes.domains)
 
 -- the marks behind it; used only in proofs
-abbrev pub markRows : State → List ℕ
-markRows s = flat_map (λ k. markWords (at_place s.sizes.updates s.queue k)) (countUp 0 (s.sizes.updates + 1))
+abbrev pub mark_rows : State → List ℕ
+mark_rows s = flat_map (λ k. mark_words (at_place s.sizes.updates s.queue k)) (count_up 0 (s.sizes.updates + 1))
 
 -- all before it, with these rows for the domains and for the records; used only in proofs
 abbrev pub front : State → (ℕ → List ℕ) → (ℕ → List ℕ) → List ℕ
 front s f g =
-    headerWords s
-    ++ poolWords s.sizes.domains s.domainPool
-    ++ poolWords s.sizes.regions s.regionPool
-    ++ poolWords s.sizes.records s.recordPool
-    ++ flat_map f (countUp 0 s.sizes.domains)
-    ++ flat_map (regionWords s.regions) (countUp 0 s.sizes.regions)
-    ++ flat_map g (countUp 0 s.sizes.records)
-    ++ flat_map (placeWords s.sizes.updates s.queue) (countUp 0 (s.sizes.updates + 1))
-    ++ flat_map (λ i. hashWords (atSlot s.regions i)) (countUp 0 s.sizes.regions)
+    header_words s
+    ++ pool_words s.sizes.domains s.domain_pool
+    ++ pool_words s.sizes.regions s.region_pool
+    ++ pool_words s.sizes.records s.record_pool
+    ++ flat_map f (count_up 0 s.sizes.domains)
+    ++ flat_map (region_words s.regions) (count_up 0 s.sizes.regions)
+    ++ flat_map g (count_up 0 s.sizes.records)
+    ++ flat_map (place_words s.sizes.updates s.queue) (count_up 0 (s.sizes.updates + 1))
+    ++ flat_map (λ i. hash_words (at_slot s.regions i)) (count_up 0 s.sizes.regions)
 
-abbrev pub frontWords : State → List ℕ
-frontWords s = front s (λ i. domainWords s.sizes.slots (atSlot s.domains i)) (recordSlotWords s.domains)
+abbrev pub front_words : State → List ℕ
+front_words s = front s (λ i. domain_words s.sizes.slots (at_slot s.domains i)) (record_slot_words s.domains)
 
-pub words-split : (s : State) → words s ≡ frontWords s ++ interfaceRows s ++ markRows s
+pub words-split : (s : State) → words s ≡ front_words s ++ interface_rows s ++ mark_rows s
 unfolding words
 words-split s = refl
 
-pub rows_long : (s : State) → length (interfaceRows s) ≡ s.sizes.domains * 2
-rows_long s = rows-length 2 (λ i. interfaceWords (atSlot s.domains i)) (interface-width s.domains) 0 s.sizes.domains
+pub rows_long : (s : State) → length (interface_rows s) ≡ s.sizes.domains * 2
+rows_long s = rows-length 2 (λ i. interface_words (at_slot s.domains i)) (interface-width s.domains) 0 s.sizes.domains
 
-pub front_length : (s : State) → Sound s → length (frontWords s) ≡ interfacesAt s.sizes
+pub front_length : (s : State) → Sound s → length (front_words s) ≡ interfaces_at s.sizes
 front_length s k =
-    let m = rows-length 1 (λ i. markWords (at_place s.sizes.updates s.queue i)) (mark-width s.sizes.updates s.queue) 0 (s.sizes.updates + 1) in
-    omega (arith, length-append (frontWords s) (interfaceRows s), length-append (frontWords s ++ interfaceRows s) (markRows s), ap length (words-split s), words-length s k, rows_long s, m)
+    let m = rows-length 1 (λ i. mark_words (at_place s.sizes.updates s.queue i)) (mark-width s.sizes.updates s.queue) 0 (s.sizes.updates + 1) in
+    omega (arith, length-append (front_words s) (interface_rows s), length-append (front_words s ++ interface_rows s) (mark_rows s), ap length (words-split s), words-length s k, rows_long s, m)
 
-domain-row : (n word : ℕ) (o : Option Domain) → domainWords n (rewordIn word o) ≡ domainWords n o
+domain-row : (n word : ℕ) (o : Option Domain) → domain_words n (reword_in word o) ≡ domain_words n o
 domain-row n word none = refl
 domain-row n word (some x) = refl
 
-record-row : (g : ℕ → ℕ) (l : List (Option Domain)) (i : ℕ) → recordSlotWords (rewordAll g l) i ≡ recordSlotWords l i
+record-row : (g : ℕ → ℕ) (l : List (Option Domain)) (i : ℕ) → record_slot_words (reword_all g l) i ≡ record_slot_words l i
 record-row g [] i = refl
 record-row g (none ∷ l) i = record-row (λ d. g (suc d)) l i
-record-row g (some x ∷ l) i = ap (trackerWords i x.tracker) (record-row (λ d. g (suc d)) l i)
+record-row g (some x ∷ l) i = ap (tracker_words i x.tracker) (record-row (λ d. g (suc d)) l i)
 
-pub reword-front : (g : ℕ → ℕ) (s : State) → frontWords (reword g s) ≡ frontWords s
+pub reword-front : (g : ℕ → ℕ) (s : State) → front_words (reword g s) ≡ front_words s
 reword-front g s =
-    let domain : (i : ℕ) → domainWords s.sizes.slots (atSlot (rewordAll g s.domains) i) ≡ domainWords s.sizes.slots (atSlot s.domains i) = λ i. ap (domainWords s.sizes.slots) (reword-at g s.domains i) ∙ domain-row s.sizes.slots (g i) (atSlot s.domains i) in
+    let domain : (i : ℕ) → domain_words s.sizes.slots (at_slot (reword_all g s.domains) i) ≡ domain_words s.sizes.slots (at_slot s.domains i) = λ i. ap (domain_words s.sizes.slots) (reword-at g s.domains i) ∙ domain-row s.sizes.slots (g i) (at_slot s.domains i) in
     λ j. front s (λ i. domain i j) (λ i. record-row g s.domains i j)

@@ -1,7 +1,7 @@
 // Interfaces of domains (document 02, request 2): the word set, and frozen.
 ghost use Rattle.std.specs.Prelude.{◌≡◌};
 ghost use Rattle.tables.specs.View.{view, Sized, Left};
-ghost use Rattle.interface_calls.specs.Calls.{setInterface, freezeInterface};
+ghost use Rattle.interface_calls.specs.Calls.{set_interface, freeze_interface};
 
 use answers::Answer;
 use refusals::Refusal;
@@ -10,8 +10,8 @@ use tables::{Handle, Interface};
 // 3, 21: any word, where it is not frozen.
 pub fn set_interface(t: &mut [u64], h: Handle, word: u64) -> Answer
     requires { Sized t.old }
-    ensures value { result ≡ (setInterface h word (view t.old)).answer }
-    ensures left { Left t.new (setInterface h word (view t.old)).tables }
+    ensures value { result ≡ (set_interface h word (view t.old)).answer }
+    ensures left { Left t.new (set_interface h word (view t.old)).tables }
 {
     match checks::live_domain(t, h) {
         Answer::Done(d) => {
@@ -29,8 +29,8 @@ pub fn set_interface(t: &mut [u64], h: Handle, word: u64) -> Answer
 // 3: the word stays. One that is frozen is frozen again.
 pub fn freeze_interface(t: &mut [u64], h: Handle) -> Answer
     requires { Sized t.old }
-    ensures value { result ≡ (freezeInterface h (view t.old)).answer }
-    ensures left { Left t.new (freezeInterface h (view t.old)).tables }
+    ensures value { result ≡ (freeze_interface h (view t.old)).answer }
+    ensures left { Left t.new (freeze_interface h (view t.old)).tables }
 {
     match checks::live_domain(t, h) {
         Answer::Done(d) => {

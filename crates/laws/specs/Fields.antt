@@ -4,7 +4,7 @@ use Rattle.std.specs.Float.Ieee.Fits.{and_l, and_r}
 use Rattle.model.specs.Lists.{every}
 use Rattle.model.specs.State.{Counts}
 use Rattle.model.specs.Fields.{Field, fields, get, counter, each}
-use Rattle.model.specs.Tracker.{newCounts, raise, lower, noCounts}
+use Rattle.model.specs.Tracker.{new_counts, raise, lower, no_counts}
 
 -- ---- counts made field by field
 
@@ -17,10 +17,10 @@ get-each Field.Super n u = refl
 
 -- no counts, those of a new record, and after a gain and a loss
 module _ (f : Field) where
-  pub get_none : get f noCounts ≡ 0
+  pub get_none : get f no_counts ≡ 0
   get_none = get-each f (λ g. 0) 0
 
-  pub get-new : (r : ℕ) → get f (newCounts r) ≡ counter f r
+  pub get-new : (r : ℕ) → get f (new_counts r) ≡ counter f r
   get-new r = get-each f (λ g. counter g r) _
 
   pub get-raise : (r : ℕ) (k : Counts) → get f (raise r k) ≡ get f k + counter f r

@@ -2,7 +2,7 @@
 use Rattle.std.specs.Prelude.{◌≡◌, refl, ℕ, zero, suc, ◌+◌, ◌<◌, Bool, true, false, List, [], ◌∷◌, ◌++◌, map, get_or, take, drop}
 use Rattle.std.proofs.Common.{subst, arith}
 use Rattle.std.proofs.Math.Option.{Option, none, some}
-use Rattle.model.specs.Lists.{oneIf, countIf, Each, is_some}
+use Rattle.model.specs.Lists.{one_if, count_if, Each, is_some}
 use Rattle.model.specs.State.{Word}
 
 -- ---- each member
@@ -35,20 +35,20 @@ word_at (x ∷ l) (suc i) h = word_at l i h.1
 
 -- ---- members that pass
 
-pub one-true : (b : Bool) → 0 < oneIf b → b ≡ true
+pub one-true : (b : Bool) → 0 < one_if b → b ≡ true
 one-true true h = refl
 one-true false h = absurd (omega arith)
 
 -- where none is counted none passes
-pub none_pass : {A : Type 0} (p : A → Bool) (l : List A) → countIf p l ≡ 0 → Each (λ x. p x ≡ false) l
+pub none_pass : {A : Type 0} (p : A → Bool) (l : List A) → count_if p l ≡ 0 → Each (λ x. p x ≡ false) l
 none_pass p [] h = tt
 none_pass p (x ∷ l) h = (zero-false (p x) (omega arith), none_pass p l (omega arith))
   where
-    zero-false : (b : Bool) → oneIf b ≡ 0 → b ≡ false
+    zero-false : (b : Bool) → one_if b ≡ 0 → b ≡ false
     zero-false true k = absurd (omega arith)
     zero-false false k = refl
 
-pub count-end : {A : Type 0} (p : A → Bool) (l : List A) (a : A) → countIf p (l ++ (a ∷ [])) ≡ countIf p l + oneIf (p a)
+pub count-end : {A : Type 0} (p : A → Bool) (l : List A) (a : A) → count_if p (l ++ (a ∷ [])) ≡ count_if p l + one_if (p a)
 count-end p [] a = omega arith
 count-end p (x ∷ l) a = omega (arith, count-end p l a)
 
@@ -81,6 +81,6 @@ take_all P (suc k) (x ∷ l) e h = (h.0, take_all P k l e h.1)
 
 -- ---- slots
 
-pub not-used : {A : Type 0} (x : Option A) → oneIf (is_some x) ≡ 0 → x ≡ none
+pub not-used : {A : Type 0} (x : Option A) → one_if (is_some x) ≡ 0 → x ≡ none
 not-used none h = refl
 not-used (some a) h = absurd (omega arith)

@@ -3,7 +3,7 @@ use Rattle.std.specs.Prelude.{◌≡◌, refl, ℕ, zero, suc, ◌+◌, ◌*◌,
 use Rattle.std.proofs.Common.{sym, ap, ◌∙◌, arith, zero-mul, suc-mul, length-append}
 use mathlib.Core.List.{List, [], ◌∷◌, ◌++◌, map, flat_map, append_assoc, append-nil}
 use Rattle.base.specs.Cases.{lt, ge, cmp}
-use Rattle.model.specs.Lists.{countUp}
+use Rattle.model.specs.Lists.{count_up}
 
 -- all the parts, one after the other; used only in proofs
 abbrev pub join : List (List ℕ) → List ℕ
@@ -45,7 +45,7 @@ join-length (a ∷ l) = omega (arith, length-append a (join l), join-length l)
 -- ---- rows for the slots k, k + 1, ..
 
 -- the same for each slot
-pub same_map : {A : Type 0} (f g : ℕ → A) (k n : ℕ) → map f (countUp k n) ≡ map g (countUp k n) → (i : ℕ) → k ≤ i → i < k + n → f i ≡ g i
+pub same_map : {A : Type 0} (f g : ℕ → A) (k n : ℕ) → map f (count_up k n) ≡ map g (count_up k n) → (i : ℕ) → k ≤ i → i < k + n → f i ≡ g i
 same_map f g k zero e i h j = absurd (omega arith)
 same_map f g k (suc n) e i h j = elim (cmp k i) [
   | lt l ↦ same_map f g (suc k) n (cc) i l (omega arith)
@@ -63,17 +63,17 @@ same-widths w f h [] = refl
 same-widths w f h (i ∷ l) = let p = h i in let q = same-widths w f h l in cc
 
 -- rows of one width w
-pub same_rows : (w : ℕ) (f g : ℕ → List ℕ) → ((i : ℕ) → length (f i) ≡ w) → ((i : ℕ) → length (g i) ≡ w) → (n : ℕ) → flat_map f (countUp 0 n) ≡ flat_map g (countUp 0 n) → (i : ℕ) → i < n → f i ≡ g i
+pub same_rows : (w : ℕ) (f g : ℕ → List ℕ) → ((i : ℕ) → length (f i) ≡ w) → ((i : ℕ) → length (g i) ≡ w) → (n : ℕ) → flat_map f (count_up 0 n) ≡ flat_map g (count_up 0 n) → (i : ℕ) → i < n → f i ≡ g i
 same_rows w f g hf hg n e i h =
-    let l = countUp 0 n in
+    let l = count_up 0 n in
     let p = same_parts (map f l) (map g l) (same-widths w f hf l ∙ sym (same-widths w g hg l)) (sym (flat-join f l) ∙ e ∙ flat-join g l) in
     same_map f g 0 n p i (omega arith) (omega arith)
 
-pub up-length : (k n : ℕ) → length (countUp k n) ≡ n
+pub up-length : (k n : ℕ) → length (count_up k n) ≡ n
 up-length k zero = refl
 up-length k (suc n) = ap suc (up-length (suc k) n)
 
-pub rows-length : (w : ℕ) (f : ℕ → List ℕ) → ((i : ℕ) → length (f i) ≡ w) → (k n : ℕ) → length (flat_map f (countUp k n)) ≡ n * w
+pub rows-length : (w : ℕ) (f : ℕ → List ℕ) → ((i : ℕ) → length (f i) ≡ w) → (k n : ℕ) → length (flat_map f (count_up k n)) ≡ n * w
 unfolding flat_map
 rows-length w f h k zero = sym (zero-mul w)
-rows-length w f h k (suc n) = omega (arith, length-append (f k) (flat_map f (countUp (suc k) n)), h k, rows-length w f h (suc k) n, suc-mul n w)
+rows-length w f h k (suc n) = omega (arith, length-append (f k) (flat_map f (count_up (suc k) n)), h k, rows-length w f h (suc k) n, suc-mul n w)

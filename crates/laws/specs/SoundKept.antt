@@ -16,7 +16,7 @@ use Rattle.laws.specs.Keep.Perform.{perform-keeps}
 pub sound-kept : (s : State) (c : Call) → Sound s → CallWords c → All (λ x. Sound x.1) (perform s c)
 sound-kept s c h w = perform-sound s c h w (weaken (perform-keeps s h c w) (λ (a, t) (agree, base). record {
   regions = agree.regions;
-  tracked = record { recordPool = agree.tracked.pool; trackers = counts-agree-tracker t agree.tracked };
+  tracked = record { record_pool = agree.tracked.pool; trackers = counts-agree-tracker t agree.tracked };
 }))
 
 -- a refused call leaves the state

@@ -2,7 +2,7 @@
 // its slot is freed. `closing` has the domains that are closing (document 02, request 5): they queue nothing.
 ghost use Rattle.std.specs.Prelude.{◌≡◌};
 ghost use Rattle.tables.specs.View.{view, Sized, Left};
-ghost use Rattle.leaf_revocation.specs.Leaf.{leaveParent, cleanupIf, freeLeaf, revokeLeaf};
+ghost use Rattle.leaf_revocation.specs.Leaf.{leave_parent, cleanup_if, free_leaf, revoke_leaf};
 
 use answers::Answer;
 use rights::Rights;
@@ -11,7 +11,7 @@ use tables::RegionCapa;
 // A root is in no list.
 fn leave_parent(t: &mut [u64], i: usize)
     requires { Sized t.old }
-    ensures { Left t.new (leaveParent i (view t.old)) }
+    ensures { Left t.new (leave_parent i (view t.old)) }
 {
     let g = region_rows::load_region(t, i);
     if g.kind == RegionCapa::ROOT {
@@ -22,8 +22,8 @@ fn leave_parent(t: &mut [u64], i: usize)
 
 fn cleanup_if(t: &mut [u64], g: RegionCapa) -> Answer
     requires { Sized t.old }
-    ensures value { result ≡ (cleanupIf g (view t.old)).answer }
-    ensures left { Left t.new (cleanupIf g (view t.old)).tables }
+    ensures value { result ≡ (cleanup_if g (view t.old)).answer }
+    ensures left { Left t.new (cleanup_if g (view t.old)).tables }
 {
     let ops = children::rights_of(g.rights);
     if ops.contains(Rights::CLEANUP) {
@@ -35,8 +35,8 @@ fn cleanup_if(t: &mut [u64], g: RegionCapa) -> Answer
 // A region that has left its parent's list and its domain's tracker. Cleanup is queued last, after the tracker's updates.
 fn free_leaf(t: &mut [u64], i: usize, g: RegionCapa, closing: u64) -> Answer
     requires { Sized t.old }
-    ensures value { result ≡ (freeLeaf closing i g (view t.old)).answer }
-    ensures left { Left t.new (freeLeaf closing i g (view t.old)).tables }
+    ensures value { result ≡ (free_leaf closing i g (view t.old)).answer }
+    ensures left { Left t.new (free_leaf closing i g (view t.old)).tables }
 {
     match giving_back::give_back(t, g, closing) {
         Answer::Done(v) => match segment::free_region(t, i) {
@@ -50,8 +50,8 @@ fn free_leaf(t: &mut [u64], i: usize, g: RegionCapa, closing: u64) -> Answer
 // A region without children.
 pub fn revoke_leaf(t: &mut [u64], i: usize, closing: u64) -> Answer
     requires { Sized t.old }
-    ensures value { result ≡ (revokeLeaf closing i (view t.old)).answer }
-    ensures left { Left t.new (revokeLeaf closing i (view t.old)).tables }
+    ensures value { result ≡ (revoke_leaf closing i (view t.old)).answer }
+    ensures left { Left t.new (revoke_leaf closing i (view t.old)).tables }
 {
     let g = region_rows::load_region(t, i);
     let a = segment::access(g.start, g.end, g.rights);

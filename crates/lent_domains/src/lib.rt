@@ -4,15 +4,15 @@ ghost use Rattle.std.proofs.Math.Option.{none, some};
 ghost use Rattle.model.specs.Perform.{Call, Step};
 ghost use Rattle.tables.specs.View.{view, Sized};
 ghost use Rattle.call.specs.Arguments.{handle};
-ghost use Rattle.replies.specs.Replies.{domainReplyOf, Returns};
-ghost use Rattle.frame.specs.Finish.{openedFor};
+ghost use Rattle.replies.specs.Replies.{domain_reply_of, Returns};
+ghost use Rattle.frame.specs.Finish.{opened_for};
 
 use replies::{DomainReply, Reply};
 
 // An accepted opening's slot, with the generation that it has.
 fn opened(t: &[u64], r: Reply) -> DomainReply
     requires { r.refusal ≡ 0 → Sized t.now }
-    ensures { result ≡ openedFor (view t.now) r }
+    ensures { result ≡ opened_for (view t.now) r }
 {
     if r.refusal == 0 {
         return DomainReply {
@@ -26,7 +26,7 @@ fn opened(t: &[u64], r: Reply) -> DomainReply
 
 // A domain without a manager.
 pub fn open_domain(t: &mut [u64], w: &mut [u64], cores: u64) -> DomainReply
-    ensures { Returns domainReplyOf t.old w.old (Call.Do (Step.Open none cores)) result t.new w.new }
+    ensures { Returns domain_reply_of t.old w.old (Call.Do (Step.Open none cores)) result t.new w.new }
 {
     let r = lent_steps::run(t, w, domain_arguments::open(cores));
     opened(t, r)
@@ -40,7 +40,7 @@ pub fn open_under(
     generation: u64,
     cores: u64,
 ) -> DomainReply
-    ensures { Returns domainReplyOf t.old w.old (Call.Do (Step.Open (some (handle manager generation)) cores)) result t.new w.new }
+    ensures { Returns domain_reply_of t.old w.old (Call.Do (Step.Open (some (handle manager generation)) cores)) result t.new w.new }
 {
     let r = lent_steps::run(
         t,

@@ -1,7 +1,7 @@
 // Making empty tables: the sizes are tested first, then the lengths alone.
 ghost use Rattle.model.specs.Perform.{Call};
 ghost use Rattle.call.specs.Arguments.{sizes};
-ghost use Rattle.replies.specs.Replies.{replyOf, Returns};
+ghost use Rattle.replies.specs.Replies.{reply_of, Returns};
 
 use refusals::Refusal;
 use replies::Reply;
@@ -16,7 +16,7 @@ pub fn make_tables(
     records: u64,
     updates: u64,
 ) -> Reply
-    ensures { Returns replyOf t.old w.old (Call.Make (sizes domains slots regions records updates)) result t.new w.new }
+    ensures { Returns reply_of t.old w.old (Call.Make (sizes domains slots regions records updates)) result t.new w.new }
 {
     words::clear(w);
     let z = Sizes {

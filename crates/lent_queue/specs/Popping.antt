@@ -13,37 +13,37 @@ use Rattle.tables.specs.View.{view, Left}
 use Rattle.ring.specs.declared.Entry.{Entry}
 use Rattle.ring.specs.declared.Item.{Item}
 use Rattle.ring.specs.Ring.{pop_of}
-use Rattle.stored_ring.specs.Stored.{ringOf, withRingOf}
+use Rattle.stored_ring.specs.Stored.{ring_of, with_ring_of}
 use Rattle.decoded.specs.Tables.{tables_of}
 use Rattle.decoded.specs.Words.{words-held, held-words}
-use Rattle.refine.specs.Queue.RingSteps.{itemFor}
+use Rattle.refine.specs.Queue.RingSteps.{item_for}
 use Rattle.refine.specs.Calls.Pop.{pop-refines}
 use Rattle.replies.specs.declared.UpdateReply.{UpdateReply}
-use Rattle.replies.specs.Replies.{updateReplyOf, Returns}
+use Rattle.replies.specs.Replies.{update_reply_of, Returns}
 use Rattle.frame.specs.Finish.{admitted}
 use Rattle.frame.specs.Law.{lent, step-returns}
 
 -- the reply that the code makes of a popped entry
-abbrev pub replyFor : Entry → UpdateReply
-replyFor e = record { refusal = 0; kind = e.update.kind; a = e.update.a; b = e.update.b; c = e.update.c; marks = e.marks }
+abbrev pub reply_for : Entry → UpdateReply
+reply_for e = record { refusal = 0; kind = e.update.kind; a = e.update.a; b = e.update.b; c = e.update.c; marks = e.marks }
 
-popped-is : (o : Option Update) (i : Item) → i ≡ itemFor o → replyFor i.entry ≡ updateReplyOf (Answer.yes (Value.popped o))
-popped-is none i e = ap (λ (j : Item). replyFor j.entry) e
-popped-is (some (Update.permission h cores marks)) i e = ap (λ (j : Item). replyFor j.entry) e
-popped-is (some (Update.cleanup a b)) i e = ap (λ (j : Item). replyFor j.entry) e
+popped-is : (o : Option Update) (i : Item) → i ≡ item_for o → reply_for i.entry ≡ update_reply_of (Answer.yes (Value.popped o))
+popped-is none i e = ap (λ (j : Item). reply_for j.entry) e
+popped-is (some (Update.permission h cores marks)) i e = ap (λ (j : Item). reply_for j.entry) e
+popped-is (some (Update.cleanup a b)) i e = ap (λ (j : Item). reply_for j.entry) e
 
 popped-step : (s : State) → step s Call.Pop ≡ (Answer.yes (Value.popped (pop s).0), (pop s).1)
 unfolding step perform ◌>>=◌
 popped-step s = refl
 
-pub pop-returns : (t w : List ℕ) → Each Word t → (b : Bool) → b ≡ admitted t w → b ≡ true → (i : Item) (u : List ℕ) → i ≡ (pop_of (ringOf (view t))).item → Left u (withRingOf (view t) (pop_of (ringOf (view t))).ring)
-    → (w₂ : List ℕ) → w₂ ≡ zeroed w → Returns updateReplyOf t w Call.Pop (replyFor i.entry) u w₂
+pub pop-returns : (t w : List ℕ) → Each Word t → (b : Bool) → b ≡ admitted t w → b ≡ true → (i : Item) (u : List ℕ) → i ≡ (pop_of (ring_of (view t))).item → Left u (with_ring_of (view t) (pop_of (ring_of (view t))).ring)
+    → (w₂ : List ℕ) → w₂ ≡ zeroed w → Returns update_reply_of t w Call.Pop (reply_for i.entry) u w₂
 pop-returns t w known b e h i u f v w₂ ew =
     let l = lent t w known (sym e ∙ h) in
     let s = l.0 in
     let see : view t ≡ tables_of s = (words-held s l.1.sound t l.1.tables).seen in
     let p = pop-refines s l.1.sound in
     let g : step s Call.Pop ≡ (Answer.yes (Value.popped (pop s).0), (pop s).1) = popped-step s in
-    step-returns updateReplyOf t w Call.Pop tt s l.1 _ u w₂
-    (popped-is (pop s).0 i (f ∙ ap (λ z. (pop_of (ringOf z)).item) see ∙ p.0) ∙ sym (ap (λ (y : Answer × State). updateReplyOf y.0) g))
-    (held-words (pop s).1 u (subst (Left u) (ap (λ z. withRingOf z (pop_of (ringOf z)).ring) see ∙ p.1) v) ∙ sym (ap (λ (y : Answer × State). words y.1) g)) ew
+    step-returns update_reply_of t w Call.Pop tt s l.1 _ u w₂
+    (popped-is (pop s).0 i (f ∙ ap (λ z. (pop_of (ring_of z)).item) see ∙ p.0) ∙ sym (ap (λ (y : Answer × State). update_reply_of y.0) g))
+    (held-words (pop s).1 u (subst (Left u) (ap (λ z. with_ring_of z (pop_of (ring_of z)).ring) see ∙ p.1) v) ∙ sym (ap (λ (y : Answer × State). words y.1) g)) ew

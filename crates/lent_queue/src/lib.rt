@@ -1,6 +1,6 @@
 // The queue of updates.
 ghost use Rattle.model.specs.Perform.{Call};
-ghost use Rattle.replies.specs.Replies.{updateReplyOf, Returns};
+ghost use Rattle.replies.specs.Replies.{update_reply_of, Returns};
 
 use refusals::Refusal;
 use replies::UpdateReply;
@@ -8,7 +8,7 @@ use tables::Update;
 
 // The oldest update leaves the queue; none where it is empty.
 pub fn pop(t: &mut [u64], w: &mut [u64]) -> UpdateReply
-    ensures { Returns updateReplyOf t.old w.old Call.Pop result t.new w.new }
+    ensures { Returns update_reply_of t.old w.old Call.Pop result t.new w.new }
 {
     if frame::admits(t, w) {
         let item = update::pop_update(t);

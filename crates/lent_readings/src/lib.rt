@@ -3,8 +3,8 @@ ghost use Rattle.std.specs.Prelude.{◌≡◌};
 ghost use Rattle.model.specs.Memory.{zeroed};
 ghost use Rattle.model.specs.Perform.{Call, Reading};
 ghost use Rattle.call.specs.Arguments.{handle};
-ghost use Rattle.replies.specs.Replies.{replyOf, Returns, ListsHolders};
-ghost use Rattle.lent_readings.specs.Lookup.{domainRead};
+ghost use Rattle.replies.specs.Replies.{reply_of, Returns, ListsHolders};
+ghost use Rattle.lent_readings.specs.Lookup.{domain_read};
 ghost use Rattle.lent_readings.specs.Permissions.{Plans};
 
 use answers::Answer;
@@ -13,7 +13,7 @@ use replies::Reply;
 use tables::Handle;
 
 // How many records fill a run, the link of the first, and the reply.
-#[derive(Drop)]
+#[derive(Clone, Copy)]
 pub struct Listing {
     pub turns: usize,
     pub at: u64,
@@ -22,7 +22,7 @@ pub struct Listing {
 
 // 1, 3: the slot of a live domain in tables that may be read. The work area is then all zero.
 fn domain_read(t: &[u64], w: &mut [u64], domain: u64, generation: u64) -> Answer
-    ensures { (result ≡ domainRead t.now w.old domain generation) × (w.new ≡ zeroed w.old) }
+    ensures { (result ≡ domain_read t.now w.old domain generation) × (w.new ≡ zeroed w.old) }
 {
     if frame::admits(t, w) {
         let h = Handle {
@@ -42,7 +42,7 @@ pub fn get_refcount(
     start: u64,
     end: u64,
 ) -> Reply
-    ensures { Returns replyOf t.now w.old (Call.Read (Reading.Refcount (handle domain generation) start end)) result t.now w.new }
+    ensures { Returns reply_of t.now w.old (Call.Read (Reading.Refcount (handle domain generation) start end)) result t.now w.new }
 {
     match domain_read(t, w, domain, generation) {
         Answer::Done(d) => Reply {
@@ -54,7 +54,7 @@ pub fn get_refcount(
 }
 
 pub fn core_map(t: &[u64], w: &mut [u64], domain: u64, generation: u64) -> Reply
-    ensures { Returns replyOf t.now w.old (Call.Read (Reading.CoreMap (handle domain generation))) result t.now w.new }
+    ensures { Returns reply_of t.now w.old (Call.Read (Reading.CoreMap (handle domain generation))) result t.now w.new }
 {
     match domain_read(t, w, domain, generation) {
         Answer::Done(d) => {

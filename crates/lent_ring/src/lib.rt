@@ -1,13 +1,13 @@
 // The ring lent (document 01, "The update ring is handed to the steps and changed there").
 ghost use Rattle.std.specs.Prelude.{◌≡◌};
-ghost use Rattle.ring.specs.Ring.{pushOf, pop_of};
-ghost use Rattle.ring_search.specs.Queueing.{queueOf};
+ghost use Rattle.ring.specs.Ring.{push_of, pop_of};
+ghost use Rattle.ring_search.specs.Queueing.{queue_of};
 
 use ring::{Entry, Item, PopOut, PushOut, Ring, popped, pushed};
 use ring_search::queued;
 
 pub fn push(ring: &mut Ring, e: Entry) -> bool
-    ensures { (result ≡ (pushOf ring.old e).ok) × (ring.new ≡ (pushOf ring.old e).ring) }
+    ensures { (result ≡ (push_of ring.old e).ok) × (ring.new ≡ (push_of ring.old e).ring) }
 {
     let p = pushed(*ring, e);
     *ring = p.ring;
@@ -23,7 +23,7 @@ pub fn pop(ring: &mut Ring) -> Item
 }
 
 pub fn queue(ring: &mut Ring, slot: u64, generation: u64, cores: u64, marks: u64) -> bool
-    ensures { (result ≡ (queueOf ring.old slot generation cores marks).ok) × (ring.new ≡ (queueOf ring.old slot generation cores marks).ring) }
+    ensures { (result ≡ (queue_of ring.old slot generation cores marks).ok) × (ring.new ≡ (queue_of ring.old slot generation cores marks).ring) }
 {
     let p = queued(*ring, slot, generation, cores, marks);
     *ring = p.ring;
@@ -33,7 +33,7 @@ pub fn queue(ring: &mut Ring, slot: u64, generation: u64, cores: u64, marks: u64
 // ---- The same for a ring by value, which is lent here
 
 pub fn push_lent(ring: Ring, e: Entry) -> PushOut
-    ensures { result ≡ pushOf ring e }
+    ensures { result ≡ push_of ring e }
 {
     let mut r = ring;
     let ok = push(&mut r, e);
@@ -49,7 +49,7 @@ pub fn pop_lent(ring: Ring) -> PopOut
 }
 
 pub fn queue_lent(ring: Ring, slot: u64, generation: u64, cores: u64, marks: u64) -> PushOut
-    ensures { result ≡ queueOf ring slot generation cores marks }
+    ensures { result ≡ queue_of ring slot generation cores marks }
 {
     let mut r = ring;
     let ok = queue(&mut r, slot, generation, cores, marks);

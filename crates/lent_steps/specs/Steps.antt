@@ -8,11 +8,11 @@ use Rattle.answers.specs.Answers.{Effect}
 use Rattle.send_options.specs.declared.SendOptions.TheVariants as options
 use Rattle.call.specs.declared.Call.{Call}
 use Rattle.call.specs.declared.Call.TheVariants.{Open, OpenUnder, Channel, SetCoreMap, SetInterface, FreezeInterface, Root, Alias, Carve, Send, Revoke, CreateRevokeCapa}
-use Rattle.call.specs.Steps.{stepNamed}
+use Rattle.call.specs.Steps.{step_named}
 use Rattle.calls.specs.Steps.{step_of}
-use Rattle.refine.specs.Calls.Perform.{stepFor}
+use Rattle.refine.specs.Calls.Perform.{step_for}
 
-same_step : (c : Call) (v : Tables) → step_of c v ≡ stepFor (stepNamed c) v
+same_step : (c : Call) (v : Tables) → step_of c v ≡ step_for (step_named c) v
 same_step (Open cores) v = refl
 same_step (OpenUnder h cores) v = refl
 same_step (Channel h to) v = refl
@@ -30,5 +30,5 @@ same_step (CreateRevokeCapa h l) v = refl
 
 -- as `run` cites it: a is what the step answered, u what it left
 pub ran-step : (c : Call) (v : Tables) (a : Answer) (u : List ℕ) → a ≡ (step_of c v).answer → Left u (step_of c v).tables
-    → (a ≡ (stepFor (stepNamed c) v).answer) × Left u (stepFor (stepNamed c) v).tables
+    → (a ≡ (step_for (step_named c) v).answer) × Left u (step_for (step_named c) v).tables
 ran-step c v a u e l = (e ∙ ap (λ (x : Effect). x.answer) (same_step c v), subst (λ (x : Effect). Left u x.tables) (same_step c v) l)

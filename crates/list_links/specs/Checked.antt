@@ -1,14 +1,14 @@
 -- Computed: free stacks of sizes about a word's 64 marks, whole and damaged.
 use Rattle.std.specs.Prelude.{◌≡◌, refl, Bool, true, false, List, [], ◌∷◌, map, ℕ, zero, suc, ◌+◌, ◌-◌, ltb, leb, length, get_or, set}
 use Rattle.base.specs.Tests.{both, all_from}
-use Rattle.list_links.specs.Walk.{linkTo, met, covered, covers}
+use Rattle.list_links.specs.Walk.{link_to, met, covered, covers}
 
 -- the links l, h the slot that is given next, c slots in use
 free : List ℕ → ℕ → Bool
 free l i = both (ltb i (length l)) (ltb 0 (get_or l i 0))
 
 stack : List ℕ → ℕ → ℕ → Bool
-stack l h c = both (leb c (length l)) (covered (free l) (length l) (met (λ i. get_or l i 0) (free l) 1 (length l - c) (linkTo (length l) h) []))
+stack l h c = both (leb c (length l)) (covered (free l) (length l) (met (λ i. get_or l i 0) (free l) 1 (length l - c) (link_to (length l) h) []))
 
 -- the links of k + 1 slots from i on, all free: each leads to the slot after it, the last to slot 0
 links : ℕ → ℕ → List ℕ

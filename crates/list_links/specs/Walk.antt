@@ -14,8 +14,8 @@ abbrev pub fresh : (ℕ → Bool) → ℕ → List ℕ → Bool
 fresh ok i vs = both (ok i) (not (seen i vs))
 
 -- the link to slot x of n; 0 where there is no such slot
-abbrev pub linkTo : ℕ → ℕ → ℕ
-linkTo n x = pick (ltb x n) (suc x) 0
+abbrev pub link_to : ℕ → ℕ → ℕ
+link_to n x = pick (ltb x n) (suc x) 0
 
 -- the walk ends at link e, and nowhere else
 abbrev pub ended : ℕ → ℕ → List ℕ → Option (List ℕ)

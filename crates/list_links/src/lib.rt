@@ -2,15 +2,15 @@
 // taken once; a slot is read from them by its number.
 ghost use Rattle.std.specs.Prelude.{◌≡◌};
 ghost use Rattle.tables.specs.View.{view, Sized};
-ghost use Rattle.list_links.specs.Walk.{linkTo, mark};
-ghost use Rattle.list_links.specs.Stacks.{slots_of, mayMeet, top_of};
-ghost use Rattle.list_links.specs.Reads.{topIn, Lent, linkStep, slotStep, recordStep, stepIn};
+ghost use Rattle.list_links.specs.Walk.{link_to, mark};
+ghost use Rattle.list_links.specs.Stacks.{slots_of, may_meet, top_of};
+ghost use Rattle.list_links.specs.Reads.{top_in, Lent, link_step, slot_step, record_step, step_in};
 
 use pools::Pool;
 use tables::Slot;
 
 // The free stacks of the three pools and of domain d's list, and the records that are in use.
-#[derive(Drop)]
+#[derive(Clone, Copy)]
 pub enum Stack {
     Domains,
     Regions,
@@ -20,21 +20,21 @@ pub enum Stack {
 }
 
 // The slot that is given next, and how many are in use.
-#[derive(Drop)]
+#[derive(Clone, Copy)]
 pub struct Top {
     pub head: u64,
     pub count: u64,
 }
 
 // What a walk reads of a slot: whether it may be met, and the link behind it.
-#[derive(Drop)]
+#[derive(Clone, Copy)]
 pub struct Step {
     pub may: bool,
     pub next: u64,
 }
 
 pub fn link_to(n: usize, x: u64) -> u64
-    ensures { result ≡ linkTo n x }
+    ensures { result ≡ link_to n x }
 {
     if (x as usize) < n { x + 1 } else { 0 }
 }
@@ -50,7 +50,7 @@ pub fn one_if(b: bool) -> usize
 
 fn top_in(t: &[u64], q: Pool) -> Top
     requires { Sized t.now }
-    ensures { result ≡ topIn (view t.now) q }
+    ensures { result ≡ top_in (view t.now) q }
 {
     let s = pools::span_of(t, q);
     let a = s.start;
@@ -110,7 +110,7 @@ pub fn words_of<'a>(t: &'a [u64], s: Stack) -> &'a [u64]
 }
 
 fn link_step(p: &[u64], n: usize, i: usize) -> Step
-    ensures { result ≡ linkStep p.now n i }
+    ensures { result ≡ link_step p.now n i }
 {
     let next = words::word(p, i);
     Step {
@@ -120,7 +120,7 @@ fn link_step(p: &[u64], n: usize, i: usize) -> Step
 }
 
 fn slot_step(p: &[u64], n: usize, i: usize) -> Step
-    ensures { result ≡ slotStep p.now n i }
+    ensures { result ≡ slot_step p.now n i }
 {
     let x = sections::slot_in(p, i);
     Step {
@@ -130,7 +130,7 @@ fn slot_step(p: &[u64], n: usize, i: usize) -> Step
 }
 
 fn record_step(p: &[u64], records: &[u64], n: usize, i: usize) -> Step
-    ensures { result ≡ recordStep p.now records.now n i }
+    ensures { result ≡ record_step p.now records.now n i }
 {
     let free = words::word(p, i);
     Step {
@@ -141,7 +141,7 @@ fn record_step(p: &[u64], records: &[u64], n: usize, i: usize) -> Step
 
 // Slot i of n, from the words p of `words_of`; trackers go on along the records.
 pub fn step_at(s: Stack, p: &[u64], records: &[u64], n: usize, i: usize) -> Step
-    ensures { result ≡ stepIn s p.now records.now n i }
+    ensures { result ≡ step_in s p.now records.now n i }
 {
     match s {
         Stack::Domains => link_step(p, n, i),
@@ -154,7 +154,7 @@ pub fn step_at(s: Stack, p: &[u64], records: &[u64], n: usize, i: usize) -> Step
 
 pub fn may_meet(t: &[u64], s: Stack, i: usize) -> bool
     requires { Sized t.now }
-    ensures { result ≡ mayMeet (view t.now) s i }
+    ensures { result ≡ may_meet (view t.now) s i }
 {
     let p = words_of(t, s);
     let records = sections::records_of(t);

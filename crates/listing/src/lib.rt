@@ -2,8 +2,8 @@
 ghost use Rattle.std.specs.Prelude.{◌≡◌, ◌<◌, length};
 ghost use Rattle.words.specs.Rows.{flat};
 ghost use Rattle.tables.specs.View.{view, Sized};
-ghost use Rattle.readings.specs.Readings.{fillRun};
-ghost use Rattle.listing.specs.Listed.{line_of, listed_of, withLine};
+ghost use Rattle.readings.specs.Readings.{fill_run};
+ghost use Rattle.listing.specs.Listed.{line_of, listed_of, with_line};
 
 use tables::Region;
 use tracker_records::links;
@@ -11,7 +11,7 @@ use tracker_records::links;
 // A record's line into five places of a lent run, from `at` on.
 fn put_line(run: &mut [u64], at: usize, d: u64, q: Region)
     requires { at < 65536 }
-    ensures { run.new ≡ withLine run.old at (line_of d q) }
+    ensures { run.new ≡ with_line run.old at (line_of d q) }
 {
     words::put(run, at, d);
     words::put(run, at + 1, q.start);
@@ -24,7 +24,7 @@ fn put_line(run: &mut [u64], at: usize, d: u64, q: Region)
 pub fn fill_lines(t: &[u64], d: usize, run: &mut [u64]) -> usize
     requires { Sized t.now }
     ensures value { result ≡ length (listed_of (view t.now) d) }
-    ensures run_after { run.new ≡ fillRun (flat (line_of d) (listed_of (view t.now) d)) run.old }
+    ensures run_after { run.new ≡ fill_run (flat (line_of d) (listed_of (view t.now) d)) run.old }
 {
     if pools::domain_is_free(t, d) {
         return 0;

@@ -1,7 +1,7 @@
 // The turn of a walk that removes a range (document 01, **Tracker**), where a record lies in the range.
 ghost use Rattle.std.specs.Prelude.{◌≡◌};
 ghost use Rattle.tables.specs.View.{view, Sized, Left};
-ghost use Rattle.loss_turns.specs.Turns.{lowerTurn};
+ghost use Rattle.loss_turns.specs.Turns.{lower_turn};
 
 use answers::Answer;
 use region::AccessRights;
@@ -12,8 +12,8 @@ use walk_cursors::{Cursor, Progress};
 // The record at hand loses, and at reach 0 it is dropped at once.
 pub fn lower(t: &mut [u64], d: usize, a: AccessRights, c: Cursor, q: Region) -> Progress
     requires { Sized t.old }
-    ensures value { result ≡ (lowerTurn (view t.old) d a c q).answer }
-    ensures left { Left t.new (lowerTurn (view t.old) d a c q).tables }
+    ensures value { result ≡ (lower_turn (view t.old) d a c q).answer }
+    ensures left { Left t.new (lower_turn (view t.old) d a c q).tables }
 {
     let p = counts::decrease(q, a.ops);
     let i = tables::slot_to(c.at);

@@ -11,48 +11,48 @@ use Rattle.words.specs.Runs.{part, part_at, fetched}
 use Rattle.words.specs.Rows.{length-rows, get_d_rows}
 use Rattle.words.specs.Cuts.{offset}
 use Rattle.sizes.specs.declared.Sizes.{Sizes}
-use Rattle.sizes.specs.Limits.{Limits, mostDomains, mostSlots}
-use Rattle.sizes.specs.Sizes.{sizesOf, widths, stride, headWidth, slotWidth, domainsSection}
-use Rattle.tables.specs.Tables.{Tables, Domain, noDomain, headAt}
-use Rattle.tables.specs.View.{view, ofParts, Sized, domainOf}
+use Rattle.sizes.specs.Limits.{Limits, most_domains, most_slots}
+use Rattle.sizes.specs.Sizes.{sizes_of, widths, stride, head_width, slot_width, domains_section}
+use Rattle.tables.specs.Tables.{Tables, Domain, no_domain, head_at}
+use Rattle.tables.specs.View.{view, of_parts, Sized, domain_of}
 use Rattle.tables.specs.Sections.{section}
 use Rattle.sections.specs.Sections.{section-run}
 
-abbrev pub managerOf : Tables → ℕ → ℕ
-managerOf v i = (headAt v i).manager
+abbrev pub manager_of : Tables → ℕ → ℕ
+manager_of v i = (head_at v i).manager
 
 -- the first word of domain i
-unfoldable pub managerIn : Sizes → List ℕ → ℕ → ℕ
-managerIn z p i = pick (ltb i z.domains) (get_or p (i * stride z) 0) 0
+unfoldable pub manager_in : Sizes → List ℕ → ℕ → ℕ
+manager_in z p i = pick (ltb i z.domains) (get_or p (i * stride z) 0) 0
 
-pub place-fits : (z : Sizes) (i w : ℕ) → Limits z → i ≤ z.domains → w ≡ stride z → i * w ≤ mostDomains * (headWidth + mostSlots * slotWidth)
+pub place-fits : (z : Sizes) (i w : ℕ) → Limits z → i ≤ z.domains → w ≡ stride z → i * w ≤ most_domains * (head_width + most_slots * slot_width)
 place-fits z i w l h e =
-    let a : i ≤ mostDomains = omega (arith, l.domains-high) in
-    let b : w ≤ headWidth + mostSlots * slotWidth = omega (arith, l.slots-high) in
+    let a : i ≤ most_domains = omega (arith, l.domains-high) in
+    let b : w ≤ head_width + most_slots * slot_width = omega (arith, l.slots-high) in
     mul-le-mul a b
 
 module _ (t : List ℕ) where
-  manager-at : (i : ℕ) → managerIn (sizesOf t) (section t domainsSection) i ≡ managerOf (view t) i
-  unfolding managerIn headAt view ofParts domainOf
+  manager-at : (i : ℕ) → manager_in (sizes_of t) (section t domains_section) i ≡ manager_of (view t) i
+  unfolding manager_in head_at view of_parts domain_of
   manager-at i =
-      let n = (sizesOf t).domains in
-      let w = stride (sizesOf t) in
-      let p = section t domainsSection in
+      let n = (sizes_of t).domains in
+      let w = stride (sizes_of t) in
+      let p = section t domains_section in
       let e : i * w + 0 ≡ i * w = omega arith in
       elim (cmp i n) [
         | lt h ↦
             pick-t (ltb i n) (get_or p (i * w) 0) 0 (lt-ltb i n h)
             ∙ ap (λ k. get_or p k 0) (sym e)
             ∙ sym (get_or-take 5 (part p (i * w) w) 0 0 (omega arith) ∙ part_at p (i * w) w 0 (omega arith))
-            ∙ sym (ap (λ (x : Domain). x.head.manager) (get_d_rows w n (domainOf (sizesOf t).slots) p i noDomain h))
-        | ge h ↦ pick-f (ltb i n) (get_or p (i * w) 0) 0 (le-ltb i n h) ∙ sym (ap (λ (x : Domain). x.head.manager) (get_or-eq_default (view t).domains noDomain {n = i} (rw length-rows h)))
+            ∙ sym (ap (λ (x : Domain). x.head.manager) (get_d_rows w n (domain_of (sizes_of t).slots) p i no_domain h))
+        | ge h ↦ pick-f (ltb i n) (get_or p (i * w) 0) 0 (le-ltb i n h) ∙ sym (ap (λ (x : Domain). x.head.manager) (get_or-eq_default (view t).domains no_domain {n = i} (rw length-rows h)))
       ]
 
-  pub managers-lent : (p : List ℕ) (z : Sizes) (a w : ℕ) → Sized t → z ≡ sizesOf t → a ≡ offset (widths z) domainsSection → w ≡ stride z → p ≡ fetched t a (z.domains * w) → managerIn (view t).sizes p ≡ managerOf (view t)
-  unfolding view ofParts
+  pub managers-lent : (p : List ℕ) (z : Sizes) (a w : ℕ) → Sized t → z ≡ sizes_of t → a ≡ offset (widths z) domains_section → w ≡ stride z → p ≡ fetched t a (z.domains * w) → manager_in (view t).sizes p ≡ manager_of (view t)
+  unfolding view of_parts
   managers-lent p z a w s ez ea ew ep =
-      let e : p ≡ section t domainsSection = ep ∙ section-run t domainsSection a (z.domains * w) s (rw ez at ea) (rw (ew, ez)) in
-      λ j i. (ap (λ (x : List ℕ). managerIn (sizesOf t) x i) e ∙ manager-at i) j
+      let e : p ≡ section t domains_section = ep ∙ section-run t domains_section a (z.domains * w) s (rw ez at ea) (rw (ew, ez)) in
+      λ j i. (ap (λ (x : List ℕ). manager_in (sizes_of t) x i) e ∙ manager-at i) j
 
 -- ---- the way up
 

@@ -2,14 +2,14 @@
 ghost use Rattle.std.specs.Prelude.{◌≡◌};
 ghost use Rattle.tables.specs.View.{view, Sized};
 ghost use Rattle.sizes.specs.Limits.{Limits};
-ghost use Rattle.managers.specs.Managers.{managerOf, above, climbed, managerIn};
+ghost use Rattle.managers.specs.Managers.{manager_of, above, climbed, manager_in};
 
 use sizes::Sizes;
 
 // The section of domains.
 pub fn domains_of<'a>(t: &'a [u64]) -> &'a [u64]
     requires { Sized t.now }
-    ensures { managerIn (view t.now).sizes result.now ≡ managerOf (view t.now) }
+    ensures { manager_in (view t.now).sizes result.now ≡ manager_of (view t.now) }
 {
     let z = sizes::read_sizes(t);
     words::run(t, sizes::domains_at(z), z.domains * sizes::domain_width(z))
@@ -17,7 +17,7 @@ pub fn domains_of<'a>(t: &'a [u64]) -> &'a [u64]
 
 pub fn manager_in(z: Sizes, p: &[u64], i: usize) -> u64
     requires { Limits z }
-    ensures { result ≡ managerIn z p.now i }
+    ensures { result ≡ manager_in z p.now i }
 {
     if i < z.domains {
         return words::word(p, i * sizes::domain_width(z));
@@ -28,7 +28,7 @@ pub fn manager_in(z: Sizes, p: &[u64], i: usize) -> u64
 // The manager's link of the domain that a link names.
 fn above_of(z: Sizes, p: &[u64], l: u64) -> u64
     requires { Limits z }
-    ensures { result ≡ above (managerIn z p.now) l }
+    ensures { result ≡ above (manager_in z p.now) l }
 {
     if 0 < l {
         return manager_in(z, p, (l - 1) as usize);
@@ -39,7 +39,7 @@ fn above_of(z: Sizes, p: &[u64], l: u64) -> u64
 // n steps up from a link, or fewer where there is nobody above.
 pub fn climb(z: Sizes, p: &[u64], n: usize, l: u64) -> u64
     requires { Limits z }
-    ensures { result ≡ climbed (managerIn z p.now) n l }
+    ensures { result ≡ climbed (manager_in z p.now) n l }
 {
     let mut at = l;
     let mut i = 0;

@@ -1,6 +1,6 @@
 // Marks for numbered slots as bits of 64-bit words: slot i is bit i % 64 of word i / 64 of a work area. Past its end nothing is marked.
 ghost use Rattle.std.specs.Prelude.{◌≡◌};
-ghost use Rattle.marks.specs.Marks.{marked, withMark, unmarked};
+ghost use Rattle.marks.specs.Marks.{marked, with_mark, unmarked};
 
 pub fn is_marked(w: &[u64], i: usize) -> bool
     ensures { result ≡ marked w.now i }
@@ -9,7 +9,7 @@ pub fn is_marked(w: &[u64], i: usize) -> bool
 }
 
 pub fn mark(w: &mut [u64], i: usize)
-    ensures { w.new ≡ withMark w.old i }
+    ensures { w.new ≡ with_mark w.old i }
 {
     let x = words::word(w, i / 64);
     let bit = 1u64 << (i % 64);

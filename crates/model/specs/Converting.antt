@@ -4,23 +4,23 @@ use Rattle.std.specs.Prelude.{◌≡◌, ℕ, ◌+◌, ◌-◌, List, length, ta
 use Rattle.refusals.specs.Refusals.{memory}
 use Rattle.model.specs.Lists.{Each}
 use Rattle.model.specs.State.{Sizes, Update, permission, cleanup, State}
-use Rattle.model.specs.Fields.{allMarks}
-use Rattle.model.specs.Layout.{words, lengthFor}
+use Rattle.model.specs.Fields.{all_marks}
+use Rattle.model.specs.Layout.{words, length_for}
 use Rattle.model.specs.Perform.{Value, Answer}
 use Rattle.model.specs.Sound.{Sound}
 use Rattle.model.specs.Memory.{zeroed}
 
 -- Former tables had all sections but the last, the marks: their words of a state are the first of this delivery's. The sizes are the stored
 -- ones, so that this delivery's own tables, U + 1 words longer, give 1.
-abbrev pub formerLength : Sizes → ℕ
-formerLength z = lengthFor z - (z.updates + 1)
+abbrev pub former_length : Sizes → ℕ
+former_length z = length_for z - (z.updates + 1)
 
-abbrev pub formerWords : State → List ℕ
-formerWords s = take (formerLength s.sizes) (words s)
+abbrev pub former_words : State → List ℕ
+former_words s = take (former_length s.sizes) (words s)
 
 -- They kept no marks, so that any of the five counts may have moved: a queued domain has all five marks (request 4).
 abbrev pub HasAllMarks : Update → Type 0
-HasAllMarks (permission h cores marks) = marks ≡ allMarks
+HasAllMarks (permission h cores marks) = marks ≡ all_marks
 HasAllMarks (cleanup a b) = Unit {0}
 
 abbrev pub AllMarked : State → Type 0
@@ -31,14 +31,14 @@ AllMarked s = Each HasAllMarks s.queue.items
 pub record Convertible (o t v w : List ℕ) (s : State) : Type 0 where
   pub sound : Sound s
   pub marked : AllMarked s
-  pub old : o ≡ formerWords s
-  pub tables : length t ≡ lengthFor s.sizes
-  pub work : length v ≡ lengthFor s.sizes
-  pub secondWork : length w ≡ lengthFor s.sizes
+  pub old : o ≡ former_words s
+  pub tables : length t ≡ length_for s.sizes
+  pub work : length v ≡ length_for s.sizes
+  pub second_work : length w ≡ length_for s.sizes
 
 -- `Converted o t v w a t' v' w'`: the converter answers a and leaves t', v' and w'. The old tables o are only read.
 pub data Converted (o t v w : List ℕ) : Answer → List ℕ → List ℕ → List ℕ → Type 0 where
   -- "give 1 for wrong lengths or unsound old tables"
-  notConvertible : ((s : State) → ¬ Convertible o t v w s) → Converted o t v w (Answer.no memory) t (zeroed v) (zeroed w)
+  not_convertible : ((s : State) → ¬ Convertible o t v w s) → Converted o t v w (Answer.no memory) t (zeroed v) (zeroed w)
   -- "and keep the rest": the old words and the new ones are of one state
   converted : (s : State) → Convertible o t v w s → Converted o t v w (Answer.yes Value.done) (words s) (zeroed v) (zeroed w)

@@ -1,7 +1,7 @@
 -- The counts of a tracker record by field (document 01, **Tracker**: "with reach, four right counts and an uncacheable count").
 use Rattle.std.specs.Prelude.{ℕ, ◌+◌, ◌*◌, Bool, true, List, [], ◌∷◌}
 use Rattle.rights.specs.Rights.{has, READ, WRITE, EXEC, SUPER}
-use Rattle.model.specs.Lists.{oneIf}
+use Rattle.model.specs.Lists.{one_if}
 use Rattle.model.specs.State.{Counts}
 
 -- What gains and losses change and demand 3 compares: the reach and four right counts. The uncacheable count is no field: "later gains and
@@ -31,7 +31,7 @@ passes Field.Super r = has r SUPER
 
 -- 1 for a range that counts in the field, else 0 (`as_counters`)
 abbrev pub counter : Field → ℕ → ℕ
-counter f r = oneIf (passes f r)
+counter f r = one_if (passes f r)
 
 -- Counts with n f in each field f, and the uncacheable count u. (`Each`, of Lists, is a fact about a list.)
 abbrev pub each : (Field → ℕ) → ℕ → Counts
@@ -48,15 +48,15 @@ mark Field.Exec = 8
 mark Field.Super = 16
 
 -- the marks of the fields f where b f holds
-abbrev pub marksWhere : (Field → Bool) → ℕ
-marksWhere b =
-    oneIf (b Field.Reach) * mark Field.Reach + oneIf (b Field.Read) * mark Field.Read + oneIf (b Field.Write) * mark Field.Write
-    + oneIf (b Field.Exec) * mark Field.Exec + oneIf (b Field.Super) * mark Field.Super
+abbrev pub marks_where : (Field → Bool) → ℕ
+marks_where b =
+    one_if (b Field.Reach) * mark Field.Reach + one_if (b Field.Read) * mark Field.Read + one_if (b Field.Write) * mark Field.Write
+    + one_if (b Field.Exec) * mark Field.Exec + one_if (b Field.Super) * mark Field.Super
 
 -- all five
-abbrev pub allMarks : ℕ
-allMarks = marksWhere (λ f. true)
+abbrev pub all_marks : ℕ
+all_marks = marks_where (λ f. true)
 
 -- Is the field among the marks?
-abbrev pub isMarked : Field → ℕ → Bool
-isMarked f m = has m (mark f)
+abbrev pub is_marked : Field → ℕ → Bool
+is_marked f m = has m (mark f)

@@ -31,16 +31,16 @@
 --   eqb, ltb, leb, &&, ||     the tests =, <, ≤; and, or of tests
 -- `abbrev`, `unfoldable`, `pub`, `infix`, {ℓ}, Type 0, « » and a type's name before a form's (`Step.Open`) matter to the checker alone. `use` lines tell in
 -- which file a name stands; lib, mathlib and Prim are the kit's.
--- At their edges: getD l i d is d past the end of l, and getElem? l i is none; set l i x is l past its end; Option·getD o d is d where o is none; m - n is 0
--- where n is more than m; m / n is without the rest, which is m % n. Arithmetic signs of one rank are done from left to right. flatMap f l is the lists f x one
+-- At their edges: get_or l i d is d past the end of l, and get_elem? l i is none; set l i x is l past its end; Option·getD o d is d where o is none; m - n is 0
+-- where n is more than m; m / n is without the rest, which is m % n. Arithmetic signs of one rank are done from left to right. flat_map f l is the lists f x one
 -- behind the other. A refusal r is its number, r.0. Records have no update: a function that changes one part says the others again, each
 -- from the old value.
--- A name with a capital first is a type, a fact or a form, all capitals a flag: `hashWords` gives words, `HashWords` says that they are below 2^64. The parts
--- of a fact begin small, as those of any record: `RegionSound` has a part hashWords. So do some forms: `ok`, `refuse`, `region`, `permission`, `domain`, `yes`.
+-- A name with a capital first is a type, a fact or a form, all capitals a flag: `hash_words` gives words, `HashWords` says that they are below 2^64. The parts
+-- of a fact begin small, as those of any record: `RegionSound` has a part hash_words. So do some forms: `ok`, `refuse`, `region`, `permission`, `domain`, `yes`.
 -- Letters, mostly: s state, d e domain slots, x domain, h k handles, i slot, g region, p pool or a parent's slot, q tracker record, c capability or child,
 -- l local slot or list, r rights or refusal, m marks or manager, f field, o a send's options, u update, w walk, z sizes, n a number; in Memory t are the
--- tables and w is the work area. In Fields, Tracker, Counts and Readings j and k are counts; k is a kind in `newRegion`, `addChild`, `siblings`. a is a range
--- with rights in `overlaps` to `checkCarve`, Regions, Calls, Perform and CallWords, elsewhere an address. What looks at the state mostly takes it first, what changes it last, and
+-- tables and w is the work area. In Fields, Tracker, Counts and Readings j and k are counts; k is a kind in `new_region`, `add_child`, `siblings`. a is a range
+-- with rights in `overlaps` to `check_carve`, Regions, Calls, Perform and CallWords, elsewhere an address. What looks at the state mostly takes it first, what changes it last, and
 -- so do readings.
 pub mod Lists
 pub mod Outcome

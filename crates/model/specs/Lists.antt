@@ -11,8 +11,8 @@ if true then x else y = x
 if false then x else y = y
 
 -- 1 where the test holds, else 0
-abbrev pub oneIf : Bool → ℕ
-oneIf b = if b then 1 else 0
+abbrev pub one_if : Bool → ℕ
+one_if b = if b then 1 else 0
 
 -- Is there a value? Is there no element?
 abbrev pub is_some {ℓ} : {A : Type ℓ} → Option A → Bool
@@ -34,9 +34,9 @@ every p [] = true
 every p (x ∷ l) = p x && every p l
 
 -- how many pass the test
-abbrev pub countIf {ℓ} : {A : Type ℓ} → (A → Bool) → List A → ℕ
-countIf p [] = 0
-countIf p (x ∷ l) = oneIf (p x) + countIf p l
+abbrev pub count_if {ℓ} : {A : Type ℓ} → (A → Bool) → List A → ℕ
+count_if p [] = 0
+count_if p (x ∷ l) = one_if (p x) + count_if p l
 
 -- those that pass the test, in their order
 abbrev pub keep {ℓ} : {A : Type ℓ} → (A → Bool) → List A → List A
@@ -51,19 +51,19 @@ Each P (x ∷ l) = P x × Each P l
 -- ---- values that may be missing
 
 -- What a table holds in slot i: `none` where the slot is free or its number too large.
-abbrev pub atSlot {ℓ} : {A : Type ℓ} → List (Option A) → ℕ → Option A
-atSlot l i = get_or l i none
+abbrev pub at_slot {ℓ} : {A : Type ℓ} → List (Option A) → ℕ → Option A
+at_slot l i = get_or l i none
 
 -- Slot i of a table is in use, and holds x.
 abbrev pub In : {A : Type 0} → List (Option A) → ℕ → A → Type 0
-In l i x = atSlot l i ≡ some x
+In l i x = at_slot l i ≡ some x
 
 -- ---- lists of slot numbers
 
 -- i, i + 1, .. : n numbers
-abbrev pub countUp : ℕ → ℕ → List ℕ
-countUp i zero = []
-countUp i (suc n) = i ∷ countUp (suc i) n
+abbrev pub count_up : ℕ → ℕ → List ℕ
+count_up i zero = []
+count_up i (suc n) = i ∷ count_up (suc i) n
 
 -- the number k left out of a list
 abbrev pub without : ℕ → List ℕ → List ℕ
@@ -75,6 +75,6 @@ abbrev pub first_of : List ℕ → Option ℕ
 first_of [] = none
 first_of (i ∷ is) = some i
 
-abbrev pub afterIn : List ℕ → ℕ → Option ℕ
-afterIn [] k = none
-afterIn (i ∷ is) k = if eqb i k then first_of is else afterIn is k
+abbrev pub after_in : List ℕ → ℕ → Option ℕ
+after_in [] k = none
+after_in (i ∷ is) k = if eqb i k then first_of is else after_in is k

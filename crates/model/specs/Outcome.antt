@@ -26,6 +26,6 @@ require true r = ok tt
 require false r = refuse r
 
 -- Rust's `ok_or`.
-unfoldable pub okOr : {A : Type 0} → Option A → Refusal → Outcome A
-okOr none r = refuse r
-okOr (some a) r = ok a
+unfoldable pub ok_or : {A : Type 0} → Option A → Refusal → Outcome A
+ok_or none r = refuse r
+ok_or (some a) r = ok a

@@ -6,10 +6,10 @@ use Rattle.refusals.specs.declared.Refusal.{Refusal}
 use Rattle.refusals.specs.Refusals
 use Rattle.model.specs.State.{State, Sizes, Handle, Access, SendOptions, Update}
 use Rattle.model.specs.Updates.{pop}
-use Rattle.model.specs.Making.{makeIn}
-use Rattle.model.specs.Calls.{openDomain, openChannel, setCoreMap, setInterface, freezeInterface, createRootRegion, aliasRegion, carveRegion, send, revoke, createRevokeCapa}
-use Rattle.model.specs.Readings.{permissions, getRefcount, holders, coreMap}
-use Rattle.model.specs.Layout.{updateWords, markWords, lengthFor}
+use Rattle.model.specs.Making.{make_in}
+use Rattle.model.specs.Calls.{open_domain, open_channel, set_core_map, set_interface, freeze_interface, create_root_region, alias_region, carve_region, send, revoke, create_revoke_capa}
+use Rattle.model.specs.Readings.{permissions, get_refcount, holders, core_map}
+use Rattle.model.specs.Layout.{update_words, mark_words, length_for}
 
 -- ---- calls and answers
 
@@ -49,9 +49,9 @@ pub data Value : Type 0 where
   domain : Handle → Value
   local : ℕ → Value
   popped : Option Update → Value
-  permissionList : List Access → Value
+  permission_list : List Access → Value
   number : ℕ → Value
-  domainList : List ℕ → Value
+  domain_list : List ℕ → Value
 
 -- What a caller sees of a call.
 pub data Answer : Type 0 where
@@ -69,10 +69,10 @@ abbrev pub values : Value → List ℕ
 values done = []
 values (domain h) = h.slot ∷ h.generation ∷ []
 values (local l) = l ∷ []
-values (popped u) = updateWords u ++ markWords u
-values (permissionList l) = length l ∷ []
+values (popped u) = update_words u ++ mark_words u
+values (permission_list l) = length l ∷ []
 values (number n) = n ∷ []
-values (domainList l) = length l ∷ []
+values (domain_list l) = length l ∷ []
 
 -- ---- one call
 
@@ -85,31 +85,31 @@ abbrev silent : Outcome State → Outcome (Value × State)
 silent m = m >>= λ s. ok (done, s)
 
 -- What a step does: the value and the new state, or the refusal.
-unfoldable pub performStep : State → Step → Outcome (Value × State)
-performStep s (Open m cores) = answer domain (openDomain m cores s)
-performStep s (Channel h to) = answer local (openChannel h to s)
-performStep s (SetCoreMap h cores) = silent (setCoreMap h cores s)
-performStep s (SetInterface h word) = silent (setInterface h word s)
-performStep s (FreezeInterface h) = silent (freezeInterface h s)
-performStep s (Root h a) = answer local (createRootRegion h a s)
-performStep s (Alias h l a) = answer local (aliasRegion h l a s)
-performStep s (Carve h l a) = answer local (carveRegion h l a s)
-performStep s (Send h l target o) = answer local (send h l target o s)
-performStep s (Revoke h l) = silent (revoke h l s)
-performStep s (CreateRevokeCapa h l) = answer local (createRevokeCapa h l s)
+unfoldable pub perform_step : State → Step → Outcome (Value × State)
+perform_step s (Open m cores) = answer domain (open_domain m cores s)
+perform_step s (Channel h to) = answer local (open_channel h to s)
+perform_step s (SetCoreMap h cores) = silent (set_core_map h cores s)
+perform_step s (SetInterface h word) = silent (set_interface h word s)
+perform_step s (FreezeInterface h) = silent (freeze_interface h s)
+perform_step s (Root h a) = answer local (create_root_region h a s)
+perform_step s (Alias h l a) = answer local (alias_region h l a s)
+perform_step s (Carve h l a) = answer local (carve_region h l a s)
+perform_step s (Send h l target o) = answer local (send h l target o s)
+perform_step s (Revoke h l) = silent (revoke h l s)
+perform_step s (CreateRevokeCapa h l) = answer local (create_revoke_capa h l s)
 
 -- What is read, or the refusal.
 unfoldable pub read_tables : State → Reading → Outcome Value
-read_tables s (Permissions h) = permissions h s >>= λ l. ok (permissionList l)
-read_tables s (Refcount h from to) = getRefcount h from to s >>= λ n. ok (number n)
-read_tables s (CoreMap h) = coreMap h s >>= λ n. ok (number n)
-read_tables s (Holders a) = ok (domainList (holders a s))
+read_tables s (Permissions h) = permissions h s >>= λ l. ok (permission_list l)
+read_tables s (Refcount h from to) = get_refcount h from to s >>= λ n. ok (number n)
+read_tables s (CoreMap h) = core_map h s >>= λ n. ok (number n)
+read_tables s (Holders a) = ok (domain_list (holders a s))
 
 -- What a call does: the value and the new state, or the refusal. A making is in the memory that holds s, so that after 2 it gives 1 unless the
 -- new sizes need as many words; of a making in any lent memory: `After.made` (Memory). After a reading the state is as it was.
 unfoldable pub perform : State → Call → Outcome (Value × State)
-perform s (Make z) = let n = lengthFor s.sizes in silent (makeIn n n z)
-perform s (Do c) = performStep s c
+perform s (Make z) = let n = length_for s.sizes in silent (make_in n n z)
+perform s (Do c) = perform_step s c
 perform s Pop = answer popped (ok (pop s))
 perform s (Read r) = read_tables s r >>= λ a. ok (a, s)
 

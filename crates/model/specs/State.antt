@@ -2,7 +2,7 @@
 -- Owner, parent, manager and children are slot numbers; capabilities and queued updates hold handles.
 use Rattle.std.specs.Prelude.{ℕ, ◌+◌, ◌^◌, ◌<◌, Bool, true, false, List, [], set}
 use Rattle.std.proofs.Math.Option.{Option, none, some, get_or}
-use Rattle.model.specs.Lists.{atSlot}
+use Rattle.model.specs.Lists.{at_slot}
 
 -- Stored numbers are words of 64 bits.
 abbrev pub Word : ℕ → Type 0
@@ -27,11 +27,11 @@ pub record Pool : Type 0 where
   pub free : List ℕ
 
 -- What a slot in use of a domain's list holds (`Capa`): a region that the domain owns; one that it may revoke; a domain that it manages, and may send to and
--- close; a domain that it may send to. `noCapa` is `Capa::None`: what a revoke leaves in the slot, until a sweep frees it.
+-- close; a domain that it may send to. `no_capa` is `Capa::None`: what a revoke leaves in the slot, until a sweep frees it.
 pub data Capa : Type 0 where
-  noCapa : Capa
+  no_capa : Capa
   region : Handle → Capa
-  regionRevoke : Handle → Capa
+  region_revoke : Handle → Capa
   management : Handle → Capa
   channel : Handle → Capa
 
@@ -72,8 +72,8 @@ abbrev pub CARVE : ℕ
 CARVE = 16
 
 -- "A domain opens with all three set and unfrozen"
-abbrev pub openInterface : Interface
-openInterface = record { word = SEND + ALIAS + CARVE; frozen = false }
+abbrev pub open_interface : Interface
+open_interface = record { word = SEND + ALIAS + CARVE; frozen = false }
 
 -- A domain: its manager's slot or none, its core map, its capability list, its tracker in list order, its interface (`Domain`).
 pub record Domain : Type 0 where
@@ -128,8 +128,8 @@ pub record SendOptions : Type 0 where
   pub flags : Option ℕ
   pub hash : Option Hash
 
-abbrev pub noOptions : SendOptions
-noOptions = record { flags = none; hash = none }
+abbrev pub no_options : SendOptions
+no_options = record { flags = none; hash = none }
 
 -- **Update ring** (`Update`): `permission`, a domain whose permissions changed, its core map and the marks gathered so far (document 02, request 4); `cleanup`,
 -- a range to be cleaned up.
@@ -145,69 +145,69 @@ pub record Queue : Type 0 where
 -- All the tables. A slot of `domains` or `regions` is `none` where it is free.
 pub record State : Type 0 where
   pub sizes : Sizes
-  pub domainPool : Pool
-  pub regionPool : Pool
-  pub recordPool : Pool
+  pub domain_pool : Pool
+  pub region_pool : Pool
+  pub record_pool : Pool
   pub domains : List (Option Domain)
   pub regions : List (Option Region)
   pub queue : Queue
 
 -- ---- a state, a domain or a region with the parts that the name says changed, and all others as they were
 
-abbrev pub withDomains : Pool → List (Option Domain) → State → State
-withDomains p l s = record { sizes = s.sizes; domainPool = p; regionPool = s.regionPool; recordPool = s.recordPool; domains = l; regions = s.regions; queue = s.queue }
+abbrev pub with_domains : Pool → List (Option Domain) → State → State
+with_domains p l s = record { sizes = s.sizes; domain_pool = p; region_pool = s.region_pool; record_pool = s.record_pool; domains = l; regions = s.regions; queue = s.queue }
 
-abbrev pub withRegions : Pool → List (Option Region) → State → State
-withRegions p l s = record { sizes = s.sizes; domainPool = s.domainPool; regionPool = p; recordPool = s.recordPool; domains = s.domains; regions = l; queue = s.queue }
+abbrev pub with_regions : Pool → List (Option Region) → State → State
+with_regions p l s = record { sizes = s.sizes; domain_pool = s.domain_pool; region_pool = p; record_pool = s.record_pool; domains = s.domains; regions = l; queue = s.queue }
 
-abbrev pub withRecordPool : Pool → State → State
-withRecordPool p s = record { sizes = s.sizes; domainPool = s.domainPool; regionPool = s.regionPool; recordPool = p; domains = s.domains; regions = s.regions; queue = s.queue }
+abbrev pub with_record_pool : Pool → State → State
+with_record_pool p s = record { sizes = s.sizes; domain_pool = s.domain_pool; region_pool = s.region_pool; record_pool = p; domains = s.domains; regions = s.regions; queue = s.queue }
 
-abbrev pub withQueue : Queue → State → State
-withQueue q s = record { sizes = s.sizes; domainPool = s.domainPool; regionPool = s.regionPool; recordPool = s.recordPool; domains = s.domains; regions = s.regions; queue = q }
+abbrev pub with_queue : Queue → State → State
+with_queue q s = record { sizes = s.sizes; domain_pool = s.domain_pool; region_pool = s.region_pool; record_pool = s.record_pool; domains = s.domains; regions = s.regions; queue = q }
 
-abbrev pub withCores : ℕ → Domain → Domain
-withCores c d = record { manager = d.manager; cores = c; locals = d.locals; tracker = d.tracker; interface = d.interface }
+abbrev pub with_cores : ℕ → Domain → Domain
+with_cores c d = record { manager = d.manager; cores = c; locals = d.locals; tracker = d.tracker; interface = d.interface }
 
-abbrev pub withLocals : LocalList → Domain → Domain
-withLocals l d = record { manager = d.manager; cores = d.cores; locals = l; tracker = d.tracker; interface = d.interface }
+abbrev pub with_locals : LocalList → Domain → Domain
+with_locals l d = record { manager = d.manager; cores = d.cores; locals = l; tracker = d.tracker; interface = d.interface }
 
-abbrev pub withTracker : List Record → Domain → Domain
-withTracker t d = record { manager = d.manager; cores = d.cores; locals = d.locals; tracker = t; interface = d.interface }
+abbrev pub with_tracker : List Record → Domain → Domain
+with_tracker t d = record { manager = d.manager; cores = d.cores; locals = d.locals; tracker = t; interface = d.interface }
 
-abbrev pub withInterface : Interface → Domain → Domain
-withInterface f d = record { manager = d.manager; cores = d.cores; locals = d.locals; tracker = d.tracker; interface = f }
+abbrev pub with_interface : Interface → Domain → Domain
+with_interface f d = record { manager = d.manager; cores = d.cores; locals = d.locals; tracker = d.tracker; interface = f }
 
-abbrev pub withOwner : ℕ → Region → Region
-withOwner o r = record { owner = o; kind = r.kind; start = r.start; end = r.end; rights = r.rights; children = r.children; hash = r.hash }
+abbrev pub with_owner : ℕ → Region → Region
+with_owner o r = record { owner = o; kind = r.kind; start = r.start; end = r.end; rights = r.rights; children = r.children; hash = r.hash }
 
-abbrev pub withRightsHash : ℕ → Option Hash → Region → Region
-withRightsHash n x r = record { owner = r.owner; kind = r.kind; start = r.start; end = r.end; rights = n; children = r.children; hash = x }
+abbrev pub with_rights_hash : ℕ → Option Hash → Region → Region
+with_rights_hash n x r = record { owner = r.owner; kind = r.kind; start = r.start; end = r.end; rights = n; children = r.children; hash = x }
 
-abbrev pub withChildren : List ℕ → Region → Region
-withChildren c r = record { owner = r.owner; kind = r.kind; start = r.start; end = r.end; rights = r.rights; children = c; hash = r.hash }
+abbrev pub with_children : List ℕ → Region → Region
+with_children c r = record { owner = r.owner; kind = r.kind; start = r.start; end = r.end; rights = r.rights; children = c; hash = r.hash }
 
--- ---- a domain and a region by slot number; a free slot reads as `noneDomain`, `noneRegion`: so `closesRunning` finds no core map in one
+-- ---- a domain and a region by slot number; a free slot reads as `none_domain`, `none_region`: so `closes_running` finds no core map in one
 
-abbrev pub noneDomain : Domain
-noneDomain = record { manager = none; cores = 0; locals = record { held = []; free = [] }; tracker = []; interface = record { word = 0; frozen = false } }
+abbrev pub none_domain : Domain
+none_domain = record { manager = none; cores = 0; locals = record { held = []; free = [] }; tracker = []; interface = record { word = 0; frozen = false } }
 
-abbrev pub noneRegion : Region
-noneRegion = record { owner = 0; kind = Root; start = 0; end = 0; rights = 0; children = []; hash = none }
+abbrev pub none_region : Region
+none_region = record { owner = 0; kind = Root; start = 0; end = 0; rights = 0; children = []; hash = none }
 
 -- the domain, and the region, in a slot
-abbrev pub domainAt : State → ℕ → Domain
-domainAt s d = get_or (atSlot s.domains d) noneDomain
+abbrev pub domain_at : State → ℕ → Domain
+domain_at s d = get_or (at_slot s.domains d) none_domain
 
-abbrev pub regionIn : List (Option Region) → ℕ → Region
-regionIn rs i = get_or (atSlot rs i) noneRegion
+abbrev pub region_in : List (Option Region) → ℕ → Region
+region_in rs i = get_or (at_slot rs i) none_region
 
-abbrev pub regionAt : State → ℕ → Region
-regionAt s i = regionIn s.regions i
+abbrev pub region_at : State → ℕ → Region
+region_at s i = region_in s.regions i
 
 -- a domain, and a region, put into a slot
-abbrev pub putDomain : ℕ → Domain → State → State
-putDomain d x s = withDomains s.domainPool (set s.domains d (some x)) s
+abbrev pub put_domain : ℕ → Domain → State → State
+put_domain d x s = with_domains s.domain_pool (set s.domains d (some x)) s
 
-abbrev pub putRegion : ℕ → Region → State → State
-putRegion i x s = withRegions s.regionPool (set s.regions i (some x)) s
+abbrev pub put_region : ℕ → Region → State → State
+put_region i x s = with_regions s.region_pool (set s.regions i (some x)) s

@@ -7,30 +7,30 @@ use Rattle.script_records.specs.declared.Record.{Record}
 use Rattle.script_records.specs.declared.Parsed.{Parsed}
 use Rattle.script_records.specs.declared.Parsed.TheVariants.{Short, Bad, Call as Whole}
 use Rattle.script_records.specs.Script.{kind_of}
-use Rattle.bytes.specs.Numbers.{number}
-use Rattle.script_records.specs.Parsed.{size_of, recordIn, rightsIn, judged, whole, ofKind, parsed}
+use Rattle.byte_numbers.specs.Numbers.{number}
+use Rattle.script_records.specs.Parsed.{size_of, record_in, rights_in, judged, whole, of_kind, parsed}
 use Rattle.script_records.specs.Words.{call-size}
 
 pub record Given (r : Record) : Type 0 where
   pub least : 1 ≤ r.kind
   pub most : r.kind ≤ 7
-  pub rights : rightsIn r < 256
+  pub rights : rights_in r < 256
 
 -- ---- the rights
 
 abbrev Says : Parsed → Type 0
 Says Short = Unit {0}
 Says Bad = Unit {0}
-Says (Whole r) = rightsIn r < 256
+Says (Whole r) = rights_in r < 256
 
 says-judged : (r : Record) → Says (judged r)
 unfolding judged
-says-judged r = elim (test (ltb 255 (rightsIn r))) [ holds t ↦ rw t tt | fails t ↦ rw t (omega (arith, ltb-false 255 (rightsIn r) t)) ]
+says-judged r = elim (test (ltb 255 (rights_in r))) [ holds t ↦ rw t tt | fails t ↦ rw t (omega (arith, ltb-false 255 (rights_in r) t)) ]
 
 says-whole : (k : ℕ) (b : List ℕ) → Says (whole k b)
-says-whole k b = elim (test (ltb (length b) (size_of k))) [ holds t ↦ rw t tt | fails t ↦ rw t (says-judged (recordIn k (take (size_of k - 4) (drop 4 b)))) ]
+says-whole k b = elim (test (ltb (length b) (size_of k))) [ holds t ↦ rw t tt | fails t ↦ rw t (says-judged (record_in k (take (size_of k - 4) (drop 4 b)))) ]
 
-says-kind : (k : ℕ) (b : List ℕ) → Says (ofKind k b)
+says-kind : (k : ℕ) (b : List ℕ) → Says (of_kind k b)
 says-kind k b = elim (test (eqb (number (take 2 (drop 0 b)) + 2) (size_of k))) [ holds t ↦ rw t (says-whole k b) | fails t ↦ rw t tt ]
 
 says : (b : List ℕ) → Says (parsed b)

@@ -2,10 +2,10 @@
 ghost use Rattle.std.specs.Prelude.{◌≡◌, ◌<◌};
 ghost use Rattle.model.specs.Perform.{Step};
 ghost use Rattle.model.specs.CallWords.{StepWords};
-ghost use Rattle.call.specs.Steps.{stepNamed};
-ghost use Rattle.script_records.specs.Script.{managerOf};
+ghost use Rattle.call.specs.Steps.{step_named};
+ghost use Rattle.script_records.specs.Script.{manager_of};
 ghost use Rattle.naming.specs.Given.{Given};
-ghost use Rattle.naming.specs.Named.{Names, accessNamed};
+ghost use Rattle.naming.specs.Named.{Names, access_named};
 
 use region::AccessRights;
 use rights::Rights;
@@ -19,7 +19,7 @@ const NO_MANAGER: u64 = 18446744073709551615;
 // A range with rights, which were tested.
 fn access(start: u64, end: u64, rights: u64) -> AccessRights
     requires { rights < 256 }
-    ensures { result ≡ accessNamed start end rights }
+    ensures { result ≡ access_named start end rights }
 {
     let ops = Rights(rights as u8);
     AccessRights { start, end, ops }
@@ -27,7 +27,7 @@ fn access(start: u64, end: u64, rights: u64) -> AccessRights
 
 // Kind 1: open.
 fn opening(r: Record) -> call::Call
-    ensures { (stepNamed result ≡ Step.Open (managerOf r.a r.b) r.c) × StepWords (stepNamed result) }
+    ensures { (step_named result ≡ Step.Open (manager_of r.a r.b) r.c) × StepWords (step_named result) }
 {
     if r.a == NO_MANAGER {
         return call::Call::Open(r.c);

@@ -2,8 +2,8 @@
 // request 2).
 ghost use Rattle.std.specs.Prelude.{◌≡◌};
 ghost use Rattle.tables.specs.View.{view, Sized, Left};
-ghost use Rattle.new_domain.specs.Opened.{freshList, newDomain};
-ghost use Rattle.new_domain.specs.Fresh.{freshSlot};
+ghost use Rattle.new_domain.specs.Opened.{fresh_list, new_domain};
+ghost use Rattle.new_domain.specs.Fresh.{fresh_slot};
 
 use answers::Answer;
 use arena::Given;
@@ -14,7 +14,7 @@ use tables::{DomainHead, Interface, Slot};
 
 // Place i of a list of n free slots: the next one stands behind it, and 0 behind the last.
 fn fresh_slot(n: usize, i: usize) -> Slot
-    ensures { result ≡ freshSlot n i }
+    ensures { result ≡ fresh_slot n i }
 {
     if i < n {
         let k = i + 1;
@@ -28,7 +28,7 @@ fn fresh_slot(n: usize, i: usize) -> Slot
 
 // `FreeList::new`.
 pub fn fresh_list(n: usize) -> SlotList
-    ensures { result ≡ freshList n }
+    ensures { result ≡ fresh_list n }
 {
     let mut slots = [tables::no_slot(); MOST_SLOTS];
     let mut i = 0;
@@ -47,8 +47,8 @@ pub fn fresh_list(n: usize) -> SlotList
 // With the link of its manager; the answer is the slot, 15 where none is free.
 pub fn new_domain(t: &mut [u64], manager: u64, cores: u64) -> Answer
     requires { Sized t.old }
-    ensures value { result ≡ (newDomain manager cores (view t.old)).answer }
-    ensures left { Left t.new (newDomain manager cores (view t.old)).tables }
+    ensures value { result ≡ (new_domain manager cores (view t.old)).answer }
+    ensures left { Left t.new (new_domain manager cores (view t.old)).tables }
 {
     let n = words::size(t, sizes::SLOTS);
     match pools::allocate_domain(t) {

@@ -4,7 +4,7 @@ use Rattle.std.proofs.Common.{sym, ap, subst, ◌∙◌, arith, pow-suc, mod-lt,
 use Rattle.std.proofs.Math.Nat.{pow-le-pow_right, div-lt_self}
 use Rattle.base.specs.Cases.{lt, ge, cmp}
 use Rattle.io.specs.Digits.{hex_digit_ascii, last_digits, IsDigitCount}
-use Rattle.output.specs.Text.{digit, decimalIn, decimal}
+use Rattle.output.specs.Text.{digit, decimal_in, decimal}
 
 glyph-is : (d : ℕ) → d < 10 → hex_digit_ascii d ≡ digit d
 glyph-is d h = rw (lt-ltb d 10 h)
@@ -16,13 +16,13 @@ tenth-below n m h = (div-lt_iff_lt-mul {k = 10} {x = n} {y = 10 ^ m} (omega arit
 -- ---- one digit more
 
 module _ (f n : ℕ) where
-  one : n < 10 → decimalIn (suc f) n ≡ digit n ∷ []
-  unfolding decimalIn
-  one h = rw (lt-ltb n 10 h, decimalIn)
+  one : n < 10 → decimal_in (suc f) n ≡ digit n ∷ []
+  unfolding decimal_in
+  one h = rw (lt-ltb n 10 h, decimal_in)
 
-  more : 10 ≤ n → decimalIn (suc f) n ≡ decimalIn f (n / 10) ++ (digit (n % 10) ∷ [])
-  unfolding decimalIn
-  more h = rw (le-ltb n 10 h, decimalIn)
+  more : 10 ≤ n → decimal_in (suc f) n ≡ decimal_in f (n / 10) ++ (digit (n % 10) ∷ [])
+  unfolding decimal_in
+  more h = rw (le-ltb n 10 h, decimal_in)
 
 -- ---- the digits are the same
 
@@ -50,7 +50,7 @@ module _ (k n : ℕ) (h : IsDigitCount 10 1 n (suc k)) where
     | ge v ↦ let z : k ≡ 0 = omega arith in absurd (omega (arith, subst (λ (j : ℕ). n < 10 ^ suc j) z h.1))
   ]
 
-digits_in : (k f n : ℕ) → n < f → IsDigitCount 10 1 n k → last_digits 10 k n ≡ decimalIn f n
+digits_in : (k f n : ℕ) → n < f → IsDigitCount 10 1 n k → last_digits 10 k n ≡ decimal_in f n
 digits_in zero f n u h = absurd (omega arith)
 digits_in (suc k) zero n u h = absurd (omega arith)
 digits_in (suc k) (suc f) n u h = elim (cmp n 10) [
@@ -61,7 +61,7 @@ digits_in (suc k) (suc f) n u h = elim (cmp n 10) [
       ∙ sym (one f n v)
   | ge v ↦
       ap (λ (l : List ℕ). l ++ (hex_digit_ascii (n % 10) ∷ [])) (digits_in k f (n / 10) (omega (arith, div-lt_self {n = n} {k = 10} (omega arith) (omega arith))) (fewer k n h v))
-      ∙ ap (λ (j : ℕ). decimalIn f (n / 10) ++ (j ∷ [])) (glyph-is (n % 10) (mod-lt n (omega arith)))
+      ∙ ap (λ (j : ℕ). decimal_in f (n / 10) ++ (j ∷ [])) (glyph-is (n % 10) (mod-lt n (omega arith)))
       ∙ sym (more f n v)
 ]
 
@@ -71,14 +71,14 @@ digits_decimal n k h = digits_in k (suc n) n (omega arith) h
 
 -- ---- how many
 
-step-short : (f m n : ℕ) → (10 ≤ n → suc (length (decimalIn f (n / 10))) ≤ suc m) → length (decimalIn (suc f) n) ≤ suc m
+step-short : (f m n : ℕ) → (10 ≤ n → suc (length (decimal_in f (n / 10))) ≤ suc m) → length (decimal_in (suc f) n) ≤ suc m
 step-short f m n h = elim (cmp n 10) [
   | lt v ↦ rw (one f n v) (omega arith)
-  | ge v ↦ rw (more f n v) (omega (arith, h v, length-append (decimalIn f (n / 10)) (digit (n % 10) ∷ [])))
+  | ge v ↦ rw (more f n v) (omega (arith, h v, length-append (decimal_in f (n / 10)) (digit (n % 10) ∷ [])))
 ]
 
-short-in : (f m n : ℕ) → n < 10 ^ suc m → length (decimalIn f n) ≤ suc m
-unfolding decimalIn
+short-in : (f m n : ℕ) → n < 10 ^ suc m → length (decimal_in f n) ≤ suc m
+unfolding decimal_in
 short-in zero m n h = omega arith
 short-in (suc f) zero n h = step-short f 0 n (λ u. absurd (omega arith))
 short-in (suc f) (suc m) n h = step-short f (suc m) n (λ u. omega (arith, short-in f m (n / 10) (tenth-below n (suc m) h)))

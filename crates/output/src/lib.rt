@@ -1,7 +1,7 @@
 // Lines of decimal numbers, gathered in a lent run of bytes and written when the next line might not fit. In each function the first n bytes
 // of the run are there already, and the answer is how many there are then; which bytes a line has is said in specs/Text.antt.
 ghost use Rattle.std.specs.Prelude.{◌≡◌, ◌+◌, ◌≤◌, ◌<◌, true, false, [], ◌∷◌, length};
-ghost use Rattle.output.specs.Text.{Puts, ended, callLine, domainLine, queueLine, numbersAt};
+ghost use Rattle.output.specs.Text.{Puts, ended, call_line, domain_line, queue_line, numbers_at};
 ghost use Rattle.output.specs.Text.{decimal as Text·decimal};
 
 use libc::{STDERR_FILENO, STDOUT_FILENO};
@@ -55,7 +55,7 @@ fn number(text: &mut [u8], n: usize, x: u64) -> usize
 // The k-th call's: "number; ok with the new domain or local number (0 if none), or no with the refusal".
 pub fn call_line(text: &mut [u8], n: usize, k: u64, y: Reply) -> usize
     requires { n + 128 ≤ length text.old }
-    ensures puts { Puts text.old n (callLine k y) result text.new }
+    ensures puts { Puts text.old n (call_line k y) result text.new }
     ensures upper_bound { result ≤ n + 128 }
 {
     let a = decimal(text, n, k);
@@ -73,7 +73,7 @@ pub fn call_line(text: &mut [u8], n: usize, k: u64, y: Reply) -> usize
 pub fn domain_line(text: &mut [u8], n: usize, run: &[u64], at: usize) -> usize
     requires n_in_bounds { n + 128 ≤ length text.old }
     requires at_bound { at < 65536 }
-    ensures puts { Puts text.old n (domainLine (numbersAt run.now at 5)) result text.new }
+    ensures puts { Puts text.old n (domain_line (numbers_at run.now at 5)) result text.new }
     ensures upper_bound { result ≤ n + 128 }
 {
     let mut m = byte(text, n, b'd');
@@ -88,7 +88,7 @@ pub fn domain_line(text: &mut [u8], n: usize, run: &[u64], at: usize) -> usize
 // "p domain, cores; c start, end".
 pub fn queue_line(text: &mut [u8], n: usize, u: UpdateReply) -> usize
     requires { n + 128 ≤ length text.old }
-    ensures puts { Puts text.old n (queueLine u) result text.new }
+    ensures puts { Puts text.old n (queue_line u) result text.new }
     ensures upper_bound { result ≤ n + 128 }
 {
     if u.kind == 1 {
@@ -111,7 +111,7 @@ fn pair(text: &mut [u8], n: usize, letter: u8, x: u64, y: u64) -> usize
 // ---- Writing
 
 // The first n bytes of the run are yet to be written. `failed`: a write failed, and nothing is written after it.
-#[derive(Drop)]
+#[derive(Clone, Copy)]
 pub struct Pending {
     pub n: usize,
     pub failed: bool,

@@ -5,52 +5,52 @@ use Rattle.std.proofs.Common.{◌∙◌}
 use Rattle.std.proofs.Math.Bool.{false}
 use Rattle.base.specs.Cases.{pick}
 use Rattle.base.specs.Tests.{both}
-use Rattle.tables.specs.Tables.{Tables, noRegion, noRecord, noHash, noInterface, withDomainPool, withRegionPool, withRecordPool, withRegion, withRecord, withHash, withInterface, withoutDomain}
+use Rattle.tables.specs.Tables.{Tables, no_region, no_record, no_hash, no_interface, with_domain_pool, with_region_pool, with_record_pool, with_region, with_record, with_hash, with_interface, without_domain}
 use Rattle.tables.specs.View.{view, Left}
 use Rattle.arena.specs.declared.Freed.{Freed}
 use Rattle.arena.specs.declared.Freed.TheVariants.{Done, Spent, NotHeld}
-use Rattle.arena.specs.Arena.{heldB, raisableB, answerTo, freesB, freed}
+use Rattle.arena.specs.Arena.{held_b, raisable_b, answer_to, frees_b, freed}
 use Rattle.pools.specs.declared.Pool.{Pool}
 use Rattle.pools.specs.declared.Pool.TheVariants.{Domains, Regions, Records}
-use Rattle.pools.specs.Pools.{poolOf, withPool}
+use Rattle.pools.specs.Pools.{pool_of, with_pool}
 
 abbrev pub wiped : Tables → Pool → ℕ → Tables
-wiped s Domains i = withInterface (withoutDomain s i) i noInterface
-wiped s Regions i = withHash (withRegion s i noRegion) i noHash
-wiped s Records i = withRecord s i noRecord
+wiped s Domains i = with_interface (without_domain s i) i no_interface
+wiped s Regions i = with_hash (with_region s i no_region) i no_hash
+wiped s Records i = with_record s i no_record
 
 -- slot i of pool q is freed, and its record wiped, where it can be
-unfoldable pub slotFreed : Tables → Pool → ℕ → Tables
-slotFreed s q i = pick (freesB (poolOf s q) i) (wiped (withPool s q (freed (poolOf s q) i)) q i) s
+unfoldable pub slot_freed : Tables → Pool → ℕ → Tables
+slot_freed s q i = pick (frees_b (pool_of s q) i) (wiped (with_pool s q (freed (pool_of s q) i)) q i) s
 
-abbrev pub isDone : Freed → Bool
-isDone Done = true
-isDone Spent = false
-isDone NotHeld = false
+abbrev pub is_done : Freed → Bool
+is_done Done = true
+is_done Spent = false
+is_done NotHeld = false
 
-done-tests : (b c : Bool) → isDone (pick b (pick c Done Spent) NotHeld) ≡ both b c
+done-tests : (b c : Bool) → is_done (pick b (pick c Done Spent) NotHeld) ≡ both b c
 done-tests true true = refl
 done-tests true false = refl
 done-tests false c = refl
 
-pool-same : (s : Tables) (q : Pool) → withPool s q (poolOf s q) ≡ s
-unfolding withDomainPool withRegionPool withRecordPool
+pool-same : (s : Tables) (q : Pool) → with_pool s q (pool_of s q) ≡ s
+unfolding with_domain_pool with_region_pool with_record_pool
 pool-same s Domains = refl
 pool-same s Regions = refl
 pool-same s Records = refl
 
 -- t has the pool as the answer f leaves it
-module _ (s : Tables) (q : Pool) (i : ℕ) (t : List ℕ) (f : Freed) (e : f ≡ answerTo (poolOf s q) i)
-    (l : Left t (withPool s q (freed (poolOf s q) i)))
+module _ (s : Tables) (q : Pool) (i : ℕ) (t : List ℕ) (f : Freed) (e : f ≡ answer_to (pool_of s q) i)
+    (l : Left t (with_pool s q (freed (pool_of s q) i)))
   where
-    frees : isDone f ≡ freesB (poolOf s q) i
-    unfolding answerTo freesB
-    frees = ap isDone e ∙ done-tests (heldB (poolOf s q) i) (raisableB (poolOf s q) i)
+    frees : is_done f ≡ frees_b (pool_of s q) i
+    unfolding answer_to frees_b
+    frees = ap is_done e ∙ done-tests (held_b (pool_of s q) i) (raisable_b (pool_of s q) i)
 
-    pub slot-freed : (u : List ℕ) → isDone f ≡ true → Left u (wiped (view t) q i) → Left u (slotFreed s q i)
-    unfolding slotFreed
+    pub slot-freed : (u : List ℕ) → is_done f ≡ true → Left u (wiped (view t) q i) → Left u (slot_freed s q i)
+    unfolding slot_freed
     slot-freed u d w = rw (sym frees ∙ d, ← l.seen) w
 
-    pub slot_kept : isDone f ≡ false → Left t (slotFreed s q i)
-    unfolding slotFreed freed
-    slot_kept d = let no : freesB (poolOf s q) i ≡ false = sym frees ∙ d in rw no (rw (no, pool-same s q) at l)
+    pub slot_kept : is_done f ≡ false → Left t (slot_freed s q i)
+    unfolding slot_freed freed
+    slot_kept d = let no : frees_b (pool_of s q) i ≡ false = sym frees ∙ d in rw no (rw (no, pool-same s q) at l)

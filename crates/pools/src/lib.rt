@@ -1,18 +1,18 @@
 // The three pools of the tables: each is the arena in its section.
 ghost use Rattle.std.specs.Prelude.{◌≡◌, get_or};
 ghost use Rattle.words.specs.Cuts.{offset};
-ghost use Rattle.tables.specs.Tables.{withDomainPool, withRegionPool, withRecordPool};
-ghost use Rattle.sizes.specs.Sizes.{sizesOf, widths};
+ghost use Rattle.tables.specs.Tables.{with_domain_pool, with_region_pool, with_record_pool};
+ghost use Rattle.sizes.specs.Sizes.{sizes_of, widths};
 ghost use Rattle.tables.specs.View.{view, Sized, Left};
-ghost use Rattle.arena.specs.Arena.{given, allocated, answerTo, freed, isFreeB, liveB, capacityOf, newArena};
-ghost use Rattle.pools.specs.Pools.{poolSection, poolSlots, poolOf, withPool, PoolAt};
-ghost use Rattle.pools.specs.Wiping.{wiped, slotFreed};
+ghost use Rattle.arena.specs.Arena.{given, allocated, answer_to, freed, is_free_b, live_b, capacity_of, new_arena};
+ghost use Rattle.pools.specs.Pools.{pool_section, pool_slots, pool_of, with_pool, PoolAt};
+ghost use Rattle.pools.specs.Wiping.{wiped, slot_freed};
 
 use arena::{Freed, Given};
 use sizes::{HEADER_WIDTH, POOL_HEAD};
 use tables::Handle;
 
-#[derive(Drop)]
+#[derive(Clone, Copy)]
 pub enum Pool {
     Domains,
     Regions,
@@ -20,7 +20,7 @@ pub enum Pool {
 }
 
 // The words of a pool, from `start` up to `end`.
-#[derive(Drop)]
+#[derive(Clone, Copy)]
 pub struct Span {
     pub start: usize,
     pub end: usize,
@@ -28,7 +28,7 @@ pub struct Span {
 }
 
 fn slots_of(t: &[u64], q: Pool) -> usize
-    ensures { result ≡ poolSlots (sizesOf t.now) q }
+    ensures { result ≡ pool_slots (sizes_of t.now) q }
 {
     match q {
         Pool::Domains => words::size(t, sizes::DOMAINS),
@@ -40,7 +40,7 @@ fn slots_of(t: &[u64], q: Pool) -> usize
 // The domain pool follows the header, and each pool the one before it.
 fn start_of(t: &[u64], q: Pool) -> usize
     requires { Sized t.now }
-    ensures { result ≡ offset (widths (sizesOf t.now)) (poolSection q) }
+    ensures { result ≡ offset (widths (sizes_of t.now)) (pool_section q) }
 {
     let z = sizes::read_sizes(t);
     match q {
@@ -67,8 +67,8 @@ pub fn span_of(t: &[u64], q: Pool) -> Span
 
 pub fn allocate_in(t: &mut [u64], q: Pool) -> Given
     requires { Sized t.old }
-    ensures value { result ≡ given (poolOf (view t.old) q) }
-    ensures left { Left t.new (withPool (view t.old) q (allocated (poolOf (view t.old) q))) }
+    ensures value { result ≡ given (pool_of (view t.old) q) }
+    ensures left { Left t.new (with_pool (view t.old) q (allocated (pool_of (view t.old) q))) }
 {
     let s = span_of(t, q);
     let a = s.start;
@@ -78,8 +78,8 @@ pub fn allocate_in(t: &mut [u64], q: Pool) -> Given
 
 fn push_in(t: &mut [u64], q: Pool, i: usize) -> Freed
     requires { Sized t.old }
-    ensures value { result ≡ answerTo (poolOf (view t.old) q) i }
-    ensures left { Left t.new (withPool (view t.old) q (freed (poolOf (view t.old) q) i)) }
+    ensures value { result ≡ answer_to (pool_of (view t.old) q) i }
+    ensures left { Left t.new (with_pool (view t.old) q (freed (pool_of (view t.old) q) i)) }
 {
     let s = span_of(t, q);
     let a = s.start;
@@ -102,8 +102,8 @@ fn wipe(t: &mut [u64], q: Pool, i: usize)
 // Frees slot i and wipes its record.
 fn free_in(t: &mut [u64], q: Pool, i: usize) -> Freed
     requires { Sized t.old }
-    ensures value { result ≡ answerTo (poolOf (view t.old) q) i }
-    ensures left { Left t.new (slotFreed (view t.old) q i) }
+    ensures value { result ≡ answer_to (pool_of (view t.old) q) i }
+    ensures left { Left t.new (slot_freed (view t.old) q i) }
 {
     let answer = push_in(t, q, i);
     match answer {
@@ -116,7 +116,7 @@ fn free_in(t: &mut [u64], q: Pool, i: usize) -> Freed
 
 pub fn fresh_in(t: &mut [u64], q: Pool)
     requires { Sized t.old }
-    ensures { Left t.new (withPool (view t.old) q (newArena (poolSlots (sizesOf t.old) q))) }
+    ensures { Left t.new (with_pool (view t.old) q (new_arena (pool_slots (sizes_of t.old) q))) }
 {
     let s = span_of(t, q);
     let a = s.start;
@@ -126,7 +126,7 @@ pub fn fresh_in(t: &mut [u64], q: Pool)
 
 pub fn is_live_in(t: &[u64], q: Pool, h: Handle) -> bool
     requires { Sized t.now }
-    ensures { result ≡ liveB (poolOf (view t.now) q) h }
+    ensures { result ≡ live_b (pool_of (view t.now) q) h }
 {
     let s = span_of(t, q);
     let a = s.start;
@@ -136,7 +136,7 @@ pub fn is_live_in(t: &[u64], q: Pool, h: Handle) -> bool
 
 pub fn capacity_in(t: &[u64], q: Pool) -> usize
     requires { Sized t.now }
-    ensures { result ≡ capacityOf (poolOf (view t.now) q) }
+    ensures { result ≡ capacity_of (pool_of (view t.now) q) }
 {
     let s = span_of(t, q);
     let a = s.start;
@@ -147,7 +147,7 @@ pub fn capacity_in(t: &[u64], q: Pool) -> usize
 // Whether slot i is free.
 pub fn is_free_in(t: &[u64], q: Pool, i: usize) -> bool
     requires { Sized t.now }
-    ensures { result ≡ isFreeB (poolOf (view t.now) q) i }
+    ensures { result ≡ is_free_b (pool_of (view t.now) q) i }
 {
     let s = span_of(t, q);
     let a = s.start;
@@ -158,7 +158,7 @@ pub fn is_free_in(t: &[u64], q: Pool, i: usize) -> bool
 // The generation that slot i has now.
 pub fn generation_in(t: &[u64], q: Pool, i: usize) -> u64
     requires { Sized t.now }
-    ensures { result ≡ get_or (poolOf (view t.now) q).gens i 0 }
+    ensures { result ≡ get_or (pool_of (view t.now) q).gens i 0 }
 {
     let s = span_of(t, q);
     let a = s.start;
@@ -169,7 +169,7 @@ pub fn generation_in(t: &[u64], q: Pool, i: usize) -> u64
 // How many slots are in use.
 pub fn count_in(t: &[u64], q: Pool) -> u64
     requires { Sized t.now }
-    ensures { result ≡ (poolOf (view t.now) q).count }
+    ensures { result ≡ (pool_of (view t.now) q).count }
 {
     let s = span_of(t, q);
     let a = s.start;
@@ -181,111 +181,111 @@ pub fn count_in(t: &[u64], q: Pool) -> u64
 
 pub fn allocate_domain(t: &mut [u64]) -> Given
     requires { Sized t.old }
-    ensures value { result ≡ given (view t.old).domainPool }
-    ensures left { Left t.new (withDomainPool (view t.old) (allocated (view t.old).domainPool)) }
+    ensures value { result ≡ given (view t.old).domain_pool }
+    ensures left { Left t.new (with_domain_pool (view t.old) (allocated (view t.old).domain_pool)) }
 {
     allocate_in(t, Pool::Domains)
 }
 
 pub fn allocate_region(t: &mut [u64]) -> Given
     requires { Sized t.old }
-    ensures value { result ≡ given (view t.old).regionPool }
-    ensures left { Left t.new (withRegionPool (view t.old) (allocated (view t.old).regionPool)) }
+    ensures value { result ≡ given (view t.old).region_pool }
+    ensures left { Left t.new (with_region_pool (view t.old) (allocated (view t.old).region_pool)) }
 {
     allocate_in(t, Pool::Regions)
 }
 
 pub fn allocate_record(t: &mut [u64]) -> Given
     requires { Sized t.old }
-    ensures value { result ≡ given (view t.old).recordPool }
-    ensures left { Left t.new (withRecordPool (view t.old) (allocated (view t.old).recordPool)) }
+    ensures value { result ≡ given (view t.old).record_pool }
+    ensures left { Left t.new (with_record_pool (view t.old) (allocated (view t.old).record_pool)) }
 {
     allocate_in(t, Pool::Records)
 }
 
 pub fn free_domain(t: &mut [u64], i: usize) -> Freed
     requires { Sized t.old }
-    ensures value { result ≡ answerTo (view t.old).domainPool i }
-    ensures left { Left t.new (slotFreed (view t.old) Pool.Domains i) }
+    ensures value { result ≡ answer_to (view t.old).domain_pool i }
+    ensures left { Left t.new (slot_freed (view t.old) Pool.Domains i) }
 {
     free_in(t, Pool::Domains, i)
 }
 
 pub fn free_region(t: &mut [u64], i: usize) -> Freed
     requires { Sized t.old }
-    ensures value { result ≡ answerTo (view t.old).regionPool i }
-    ensures left { Left t.new (slotFreed (view t.old) Pool.Regions i) }
+    ensures value { result ≡ answer_to (view t.old).region_pool i }
+    ensures left { Left t.new (slot_freed (view t.old) Pool.Regions i) }
 {
     free_in(t, Pool::Regions, i)
 }
 
 pub fn free_record(t: &mut [u64], i: usize) -> Freed
     requires { Sized t.old }
-    ensures value { result ≡ answerTo (view t.old).recordPool i }
-    ensures left { Left t.new (slotFreed (view t.old) Pool.Records i) }
+    ensures value { result ≡ answer_to (view t.old).record_pool i }
+    ensures left { Left t.new (slot_freed (view t.old) Pool.Records i) }
 {
     free_in(t, Pool::Records, i)
 }
 
 pub fn domain_is_live(t: &[u64], h: Handle) -> bool
     requires { Sized t.now }
-    ensures { result ≡ liveB (view t.now).domainPool h }
+    ensures { result ≡ live_b (view t.now).domain_pool h }
 {
     is_live_in(t, Pool::Domains, h)
 }
 
 pub fn region_is_live(t: &[u64], h: Handle) -> bool
     requires { Sized t.now }
-    ensures { result ≡ liveB (view t.now).regionPool h }
+    ensures { result ≡ live_b (view t.now).region_pool h }
 {
     is_live_in(t, Pool::Regions, h)
 }
 
 pub fn domain_is_free(t: &[u64], i: usize) -> bool
     requires { Sized t.now }
-    ensures { result ≡ isFreeB (view t.now).domainPool i }
+    ensures { result ≡ is_free_b (view t.now).domain_pool i }
 {
     is_free_in(t, Pool::Domains, i)
 }
 
 pub fn domain_capacity(t: &[u64]) -> usize
     requires { Sized t.now }
-    ensures { result ≡ capacityOf (view t.now).domainPool }
+    ensures { result ≡ capacity_of (view t.now).domain_pool }
 {
     capacity_in(t, Pool::Domains)
 }
 
 pub fn region_capacity(t: &[u64]) -> usize
     requires { Sized t.now }
-    ensures { result ≡ capacityOf (view t.now).regionPool }
+    ensures { result ≡ capacity_of (view t.now).region_pool }
 {
     capacity_in(t, Pool::Regions)
 }
 
 pub fn domain_generation(t: &[u64], i: usize) -> u64
     requires { Sized t.now }
-    ensures { result ≡ get_or (view t.now).domainPool.gens i 0 }
+    ensures { result ≡ get_or (view t.now).domain_pool.gens i 0 }
 {
     generation_in(t, Pool::Domains, i)
 }
 
 pub fn region_generation(t: &[u64], i: usize) -> u64
     requires { Sized t.now }
-    ensures { result ≡ get_or (view t.now).regionPool.gens i 0 }
+    ensures { result ≡ get_or (view t.now).region_pool.gens i 0 }
 {
     generation_in(t, Pool::Regions, i)
 }
 
 pub fn domain_count(t: &[u64]) -> u64
     requires { Sized t.now }
-    ensures { result ≡ (view t.now).domainPool.count }
+    ensures { result ≡ (view t.now).domain_pool.count }
 {
     count_in(t, Pool::Domains)
 }
 
 pub fn region_count(t: &[u64]) -> u64
     requires { Sized t.now }
-    ensures { result ≡ (view t.now).regionPool.count }
+    ensures { result ≡ (view t.now).region_pool.count }
 {
     count_in(t, Pool::Regions)
 }

@@ -3,16 +3,16 @@ use Rattle.std.specs.Prelude.{◌≡◌, refl, ◌≢◌, ℕ, suc, Bool, true, 
 use Rattle.std.proofs.Common.{sym, ap, subst, ◌∙◌, ne_eqb}
 use Rattle.base.specs.Cases.{holds, fails, test}
 use Rattle.base.specs.Tests.{true-is, false-is}
-use Rattle.model.specs.Lists.{Each, is_some, atSlot, In}
+use Rattle.model.specs.Lists.{Each, is_some, at_slot, In}
 use Rattle.model.specs.Outcome.{Outcome, ok, refuse}
-use Rattle.model.specs.State.{State, Sizes, Handle, Region, noneRegion}
-use Rattle.model.specs.Making.{makeIn}
+use Rattle.model.specs.State.{State, Sizes, Handle, Region, none_region}
+use Rattle.model.specs.Making.{make_in}
 use Rattle.model.specs.Perform.{Call, Answer, step}
 use Rattle.model.specs.CallWords.{CallWords}
-use Rattle.model.specs.Memory.{madeAnswer, Lent, After, made, notSound, performed, NotMake}
+use Rattle.model.specs.Memory.{made_answer, Lent, After, made, not_sound, performed, NotMake}
 use Rattle.replies.specs.declared.Reply.{Reply}
 use Rattle.call.specs.Arguments.{sizes}
-use Rattle.book.specs.Book.{Book, Noted, noted, isOpen, blank, accept, note}
+use Rattle.book.specs.Book.{Book, Noted, noted, is_open, blank, accept, note}
 use Rattle.book.specs.Demand3.{covers}
 use Rattle.book.specs.Tests.{and_left, some_is, lives-below}
 use Rattle.book.specs.Matches.{Matches}
@@ -20,7 +20,7 @@ use Rattle.book.specs.Slots.{open-is-live}
 use Rattle.book.specs.Theorem.{matches-step}
 use Rattle.book.specs.Lent.{BookOf, book-of-state}
 use Rattle.promise.specs.Calls.{Called, call_of, Words, Exported, Sequence}
-use Rattle.promise.specs.Returned.{ifAccepted, noteReturned, noteAllReturned}
+use Rattle.promise.specs.Returned.{if_accepted, note_returned, note_all_returned}
 use Rattle.promise.specs.Given.{gives, NeverGivenTo}
 use Rattle.promise.specs.Statements.{UntouchedByHandle}
 use Rattle.promise.specs.Same.{answered}
@@ -43,20 +43,20 @@ matched-clear : (b : Book) (s : State) → Matches b s → (d a : ℕ) → ((i :
 matched-clear b s m d a n = clear-all d a b.regions (λ k e o.
     let low = lives-below b.regions k e in
     let slot = (m.at k).slot in
-    let live : is_some (atSlot s.regions slot) ≡ true = and_left _ _ (sym (m.fits.regions.aliveIsLive k low) ∙ e) in
-    n slot _ (some_is (atSlot s.regions slot) noneRegion live) ((m.fits.regions.stored k low e).owner ∙ o))
+    let live : is_some (at_slot s.regions slot) ≡ true = and_left _ _ (sym (m.fits.regions.alive_is_live k low) ∙ e) in
+    n slot _ (some_is (at_slot s.regions slot) none_region live) ((m.fits.regions.stored k low e).owner ∙ o))
 
 -- ---- a call that opens it
 
-module _ (h : Handle) (a : ℕ) (b : Book) (closed : isOpen b h ≡ false) where
+module _ (h : Handle) (a : ℕ) (b : Book) (closed : is_open b h ≡ false) where
   -- the book after it
   abbrev Opens : Book → Type 0
-  Opens e = T (isOpen e h) → ClearAlive h.slot a e.regions
+  Opens e = T (is_open e h) → ClearAlive h.slot a e.regions
 
   unchanged : Opens b
   unchanged o = absurd (false-is closed o)
 
-  made-clear : (z : Sizes) (m : Outcome State) → Opens (note b (Call.Make z) (madeAnswer m))
+  made-clear : (z : Sizes) (m : Outcome State) → Opens (note b (Call.Make z) (made_answer m))
   unfolding note accept
   made-clear z (ok s) o = tt
   made-clear z (refuse r) o = unchanged o
@@ -73,8 +73,8 @@ module _ (h : Handle) (a : ℕ) (b : Book) (closed : isOpen b h ≡ false) where
 
   after-clear : (t w t₁ w₁ : List ℕ) (c : Call) (y : Answer) → CallWords c → BookOf b t → After t w c y t₁ w₁ → Opens (note b c y)
   unfolding note
-  after-clear t w t₁ w₁ c y u k (made z) o = made-clear z (makeIn (length t) (length w) z) o
-  after-clear t w t₁ w₁ c y u k (notSound d q n) o = unchanged o
+  after-clear t w t₁ w₁ c y u k (made z) o = made-clear z (make_in (length t) (length w) z) o
+  after-clear t w t₁ w₁ c y u k (not_sound d q n) o = unchanged o
   after-clear t w t₁ w₁ c y u k (performed d s q l) o = step_clear s d q u t w l (book-of-state b t w s k l) o
 
 -- ---- any calls
@@ -85,20 +85,20 @@ not-given false y e t = absurd (true-is e)
 
 module _ (h : Handle) (a : ℕ) where
   abbrev Untaken : Book → Type 0
-  Untaken b = T (isOpen b h) → ClearAlive h.slot a b.regions
+  Untaken b = T (is_open b h) → ClearAlive h.slot a b.regions
 
-  one-call : (b : Book) (t w t₁ w₁ : List ℕ) (x : Called) → Words x → BookOf b t → Untaken b → T (not (isOpen b h && gives b h.slot a x)) → Exported t w x t₁ w₁ → Untaken (noteReturned b x)
-  one-call b t w t₁ w₁ x u k c n e o = elim (test (isOpen b h)) [
-    | holds f ↦ call-clear h.slot a b t w t₁ w₁ k (c (true-is f)) x e (not-given (isOpen b h) (gives b h.slot a x) f n)
+  one-call : (b : Book) (t w t₁ w₁ : List ℕ) (x : Called) → Words x → BookOf b t → Untaken b → T (not (is_open b h && gives b h.slot a x)) → Exported t w x t₁ w₁ → Untaken (note_returned b x)
+  one-call b t w t₁ w₁ x u k c n e o = elim (test (is_open b h)) [
+    | holds f ↦ call-clear h.slot a b t w t₁ w₁ k (c (true-is f)) x e (not-given (is_open b h) (gives b h.slot a x) f n)
     | fails f ↦ let y = answered t w x t₁ w₁ e in subst Untaken (y.same b) (after-clear h a b f t w t₁ w₁ (call_of x) y.answer u k y.after) o
   ]
 
-  all-calls : (b : Book) (t t' : List ℕ) (xs : List Called) → Each Words xs → BookOf b t → Untaken b → NeverGivenTo h a b xs → Sequence t xs t' → Untaken (noteAllReturned b xs)
+  all-calls : (b : Book) (t t' : List ℕ) (xs : List Called) → Each Words xs → BookOf b t → Untaken b → NeverGivenTo h a b xs → Sequence t xs t' → Untaken (note_all_returned b xs)
   all-calls b t t' xs u k c n Sequence.start = c
-  all-calls b t t' xs u k c n (Sequence.next {t₁} {x} {xs = ys} w w₁ e r) = all-calls (noteReturned b x) t₁ t' ys u.1 (book-after b t w t₁ w₁ x u.0 k e) (one-call b t w t₁ w₁ x u.0 k c n.0 e) n.1 r
+  all-calls b t t' xs u k c n (Sequence.next {t₁} {x} {xs = ys} w w₁ e r) = all-calls (note_returned b x) t₁ t' ys u.1 (book-after b t w t₁ w₁ x u.0 k e) (one-call b t w t₁ w₁ x u.0 k c n.0 e) n.1 r
 
-  begun : (b : Book) (z : Sizes) (n : ℕ) (t₁ t' : List ℕ) (xs : List Called) → n ≡ 0 → Each Words xs → BookOf (blank z) t₁ → NeverGivenTo h a (ifAccepted n (blank z) b) xs → Sequence t₁ xs t' → Untaken (noteAllReturned (ifAccepted n (blank z) b) xs)
-  begun b z n t₁ t' xs e u k g q = subst (λ m. NeverGivenTo h a (ifAccepted m (blank z) b) xs → Untaken (noteAllReturned (ifAccepted m (blank z) b) xs)) (sym e) (λ v. all-calls (blank z) t₁ t' xs u k (λ o. tt) v q) g
+  begun : (b : Book) (z : Sizes) (n : ℕ) (t₁ t' : List ℕ) (xs : List Called) → n ≡ 0 → Each Words xs → BookOf (blank z) t₁ → NeverGivenTo h a (if_accepted n (blank z) b) xs → Sequence t₁ xs t' → Untaken (note_all_returned (if_accepted n (blank z) b) xs)
+  begun b z n t₁ t' xs e u k g q = subst (λ m. NeverGivenTo h a (if_accepted m (blank z) b) xs → Untaken (note_all_returned (if_accepted m (blank z) b) xs)) (sym e) (λ v. all-calls (blank z) t₁ t' xs u k (λ o. tt) v q) g
 
 -- THEOREM
 pub untouched-by-handle : UntouchedByHandle

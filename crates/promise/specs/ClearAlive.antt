@@ -10,28 +10,28 @@ use Rattle.std.specs.Float.Ieee.Fits.{and_l, and_r}
 use Rattle.base.specs.Cases.{test, fails}
 use Rattle.base.specs.Cases as cases
 use Rattle.base.specs.Tests.{is_true, true-is, true-false}
-use Rattle.model.specs.Lists.{Each, if◌then◌else◌, is_empty, atSlot, oneIf}
+use Rattle.model.specs.Lists.{Each, if◌then◌else◌, is_empty, at_slot, one_if}
 use Rattle.model.specs.Outcome.{Outcome, ok, refuse, ◌>>=◌}
-use Rattle.model.specs.State.{State, Handle, Access, Region, SendOptions, ALIAS, CARVE, noneRegion, noneDomain, regionAt}
+use Rattle.model.specs.State.{State, Handle, Access, Region, SendOptions, ALIAS, CARVE, none_region, none_domain, region_at}
 use Rattle.model.specs.Counts.{holds}
 use Rattle.model.specs.Tree.{fits}
-use Rattle.model.specs.Calls.{aliasRegion, carveRegion}
-use Rattle.model.specs.Perform.{Step, Call, Answer, code, performStep, perform, after, step}
+use Rattle.model.specs.Calls.{alias_region, carve_region}
+use Rattle.model.specs.Perform.{Step, Call, Answer, code, perform_step, perform, after, step}
 use Rattle.model.specs.Perform as model
 use Rattle.model.specs.Sound.{Sound}
-use Rattle.model.specs.Memory.{After, notSound, performed}
+use Rattle.model.specs.Memory.{After, not_sound, performed}
 use Rattle.laws.specs.Codes.{Coded, step-coded}
 use Rattle.laws.specs.Accepted.{All, accepted, refused, bind, checked, both}
 use Rattle.laws.specs.Keep.Checks.{held-own}
-use Rattle.book.specs.Book.{Book, Noted, Held, emptied, regionOf, revokeOf, managementOf, channelOf, Slots, Opened, no_opened, noted, slots_of, isOpen, held_at, place_in, freeSlots, deadSlots, swept, makeRoom, put, putAny, freed, owned_by, flagged, handedTo, dying, sent, killed, revoked, allRevoked, closed}
-use Rattle.book.specs.Demand3.{covers, noteTally, SameRegion}
+use Rattle.book.specs.Book.{Book, Noted, Held, emptied, region_of, revoke_of, management_of, channel_of, Slots, Opened, no_opened, noted, slots_of, is_open, held_at, place_in, free_slots, dead_slots, swept, make_room, put, put_any, freed, owned_by, flagged, handed_to, dying, sent, killed, revoked, all_revoked, closed}
+use Rattle.book.specs.Demand3.{covers, note_tally, SameRegion}
 use Rattle.book.specs.Tests.{and_left, and_right, some_is}
 use Rattle.book.specs.Matches.{Matches}
 use Rattle.book.specs.Checks.{on-caller, live-opens}
 use Rattle.book.specs.Held.{region-found}
 use Rattle.book.specs.NewRegion.{room-match}
 use Rattle.book.specs.Lent.{BookOf, book-of-state}
-use Rattle.promise.specs.Given.{regionOver}
+use Rattle.promise.specs.Given.{region_over}
 
 -- the region lives, is d's and over a
 abbrev pub mine : ℕ → ℕ → Noted → Bool
@@ -73,10 +73,10 @@ module _ (d a : ℕ) where
   not-counted true true false w v h = refl
   not-counted true true true w v h = absurd (true-false refl h)
 
-  none_more : (c : Bool) (n : ℕ) → c ≡ false → n ≡ 0 → oneIf c + n ≡ 0
+  none_more : (c : Bool) (n : ℕ) → c ≡ false → n ≡ 0 → one_if c + n ≡ 0
   none_more c n e f = rw (e, f)
 
-  pub clear-tally : (rs : List Noted) (t : ℕ → Bool) (i : ℕ) (l : List Noted) → ClearAlive d a l → noteTally rs d a t i l ≡ 0
+  pub clear-tally : (rs : List Noted) (t : ℕ → Bool) (i : ℕ) (l : List Noted) → ClearAlive d a l → note_tally rs d a t i l ≡ 0
   clear-tally rs t i [] h = refl
   clear-tally rs t i (r ∷ l) h = none_more _ _ (not-counted r.alive (eqb r.owner d) (covers a r) _ (t r.rights) h.0) (clear-tally rs t (suc i) l h.1)
 
@@ -90,38 +90,38 @@ less_then : (x y z : Option Held) → Less x y → Less y z → Less x z
 less_then x y z h gone = gone
 less_then x y z h stays = h
 
-set-less : (l : List (Option Held)) (i j : ℕ) → Less (atSlot l j) (atSlot (set l i none) j)
+set-less : (l : List (Option Held)) (i j : ℕ) → Less (at_slot l j) (at_slot (set l i none) j)
 set-less [] i j = stays
 set-less (x ∷ l) zero zero = gone
 set-less (x ∷ l) zero (suc j) = stays
 set-less (x ∷ l) (suc i) zero = stays
 set-less (x ∷ l) (suc i) (suc j) = set-less l i j
 
-free-less : (is : List ℕ) (l : Slots) (j : ℕ) → Less (atSlot l.held j) (atSlot (freeSlots is l).held j)
+free-less : (is : List ℕ) (l : Slots) (j : ℕ) → Less (at_slot l.held j) (at_slot (free_slots is l).held j)
 free-less [] l j = stays
 free-less (i ∷ is) l j = less_then _ _ _ (set-less l.held i j) (free-less is _ j)
 
-pick_less : (c : Bool) (x : Option Held) (l m : Slots) (j : ℕ) → Less x (atSlot l.held j) → Less x (atSlot m.held j) → Less x (atSlot (if c then l else m).held j)
+pick_less : (c : Bool) (x : Option Held) (l m : Slots) (j : ℕ) → Less x (at_slot l.held j) → Less x (at_slot m.held j) → Less x (at_slot (if c then l else m).held j)
 pick_less true x l m j h k = h
 pick_less false x l m j h k = k
 
-swept-less : (b : Book) (l : Slots) (j : ℕ) → Less (atSlot l.held j) (atSlot (swept b l).held j)
+swept-less : (b : Book) (l : Slots) (j : ℕ) → Less (at_slot l.held j) (at_slot (swept b l).held j)
 unfolding swept
-swept-less b l j = pick_less (is_empty l.free) _ _ l j (free-less (deadSlots b 0 l.held) l j) stays
+swept-less b l j = pick_less (is_empty l.free) _ _ l j (free-less (dead_slots b 0 l.held) l j) stays
 
 -- a domain's slots after another's, or its own, were replaced
-abbrev slotsIn : List (Option Opened) → ℕ → Slots
-slotsIn ls d = (get_or (atSlot ls d) no_opened).slots
+abbrev slots_in : List (Option Opened) → ℕ → Slots
+slots_in ls d = (get_or (at_slot ls d) no_opened).slots
 
-lists-less : (ls : List (Option Opened)) (to d j : ℕ) (o : Opened) → Less (atSlot (slotsIn ls to).held j) (atSlot o.slots.held j) → Less (atSlot (slotsIn ls d).held j) (atSlot (slotsIn (set ls to (some o)) d).held j)
+lists-less : (ls : List (Option Opened)) (to d j : ℕ) (o : Opened) → Less (at_slot (slots_in ls to).held j) (at_slot o.slots.held j) → Less (at_slot (slots_in ls d).held j) (at_slot (slots_in (set ls to (some o)) d).held j)
 lists-less [] to d j o h = stays
 lists-less (x ∷ ls) zero zero j o h = h
 lists-less (x ∷ ls) zero (suc d) j o h = stays
 lists-less (x ∷ ls) (suc to) zero j o h = stays
 lists-less (x ∷ ls) (suc to) (suc d) j o h = lists-less ls to d j o h
 
-room-less : (b : Book) (to d j : ℕ) → Less (held_at b d j) (held_at (makeRoom to b) d j)
-unfolding makeRoom
+room-less : (b : Book) (to d j : ℕ) → Less (held_at b d j) (held_at (make_room to b) d j)
+unfolding make_room
 room-less b to d j = lists-less b.lists to d j _ (swept-less b (slots_of b to) j)
 
 -- ---- a send, a revoke
@@ -136,17 +136,17 @@ flagged-clear d a o k b h = go o.flags
     go (some f) = clear-set d a b.regions k _ h (clear_at d a b.regions k h)
 
 module _ (d a : ℕ) (b : Book) (h : ClearAlive d a b.regions) (o : SendOptions) where
-  sent-one-clear : (f l to n : ℕ) (c : Option Held) → (eqb to d && regionOver b a c) ≡ false → ClearAlive d a (putAny to n c (freed f l (handedTo to o c b))).regions
-  unfolding putAny freed handedTo put owned_by
+  sent-one-clear : (f l to n : ℕ) (c : Option Held) → (eqb to d && region_over b a c) ≡ false → ClearAlive d a (put_any to n c (freed f l (handed_to to o c b))).regions
+  unfolding put_any freed handed_to put owned_by
   sent-one-clear f l to n none e = h
   sent-one-clear f l to n (some emptied) e = h
-  sent-one-clear f l to n (some (regionOf k)) e = flagged-clear d a o k (owned_by to k b) (clear-set d a b.regions k _ h (ap (λ c. (noted b.regions k).alive && c) e ∙ and-false (noted b.regions k).alive))
-  sent-one-clear f l to n (some (revokeOf k)) e = h
-  sent-one-clear f l to n (some (managementOf k)) e = h
-  sent-one-clear f l to n (some (channelOf k)) e = h
+  sent-one-clear f l to n (some (region_of k)) e = flagged-clear d a o k (owned_by to k b) (clear-set d a b.regions k _ h (ap (λ c. (noted b.regions k).alive && c) e ∙ and-false (noted b.regions k).alive))
+  sent-one-clear f l to n (some (revoke_of k)) e = h
+  sent-one-clear f l to n (some (management_of k)) e = h
+  sent-one-clear f l to n (some (channel_of k)) e = h
 
-  pub sent-any-clear : (f l to n : ℕ) (c c₁ : Option Held) → Less c c₁ → (eqb to d && regionOver b a c) ≡ false → ClearAlive d a (putAny to n c₁ (freed f l (handedTo to o c₁ b))).regions
-  unfolding putAny freed handedTo
+  pub sent-any-clear : (f l to n : ℕ) (c c₁ : Option Held) → Less c c₁ → (eqb to d && region_over b a c) ≡ false → ClearAlive d a (put_any to n c₁ (freed f l (handed_to to o c₁ b))).regions
+  unfolding put_any freed handed_to
   sent-any-clear f l to n c c₁ gone e = h
   sent-any-clear f l to n c c₁ stays e = sent-one-clear f l to n c e
 
@@ -163,13 +163,13 @@ module _ (d a : ℕ) where
   unfolding revoked killed
   revoked-clear close k none b h = h
   revoked-clear close k (some emptied) b h = h
-  revoked-clear close k (some (regionOf i)) b h = clear-dying d a _ 0 b.regions h
-  revoked-clear close k (some (revokeOf i)) b h = clear-dying d a _ 0 b.regions h
-  revoked-clear close k (some (managementOf e)) b h = if-clear d a (isOpen b e) _ b (k e.slot b h) h
-  revoked-clear close k (some (channelOf e)) b h = h
+  revoked-clear close k (some (region_of i)) b h = clear-dying d a _ 0 b.regions h
+  revoked-clear close k (some (revoke_of i)) b h = clear-dying d a _ 0 b.regions h
+  revoked-clear close k (some (management_of e)) b h = if-clear d a (is_open b e) _ b (k e.slot b h) h
+  revoked-clear close k (some (channel_of e)) b h = h
 
-  all-clear : (f : Option Held → Book → Book) → ((c : Option Held) → Clears d a (f c)) → (cs : List (Option Held)) → Clears d a (allRevoked f cs)
-  unfolding allRevoked
+  all-clear : (f : Option Held → Book → Book) → ((c : Option Held) → Clears d a (f c)) → (cs : List (Option Held)) → Clears d a (all_revoked f cs)
+  unfolding all_revoked
   all-clear f k [] b h = h
   all-clear f k (c ∷ cs) b h = all-clear f k cs (f c b) (k c b h)
 
@@ -178,22 +178,22 @@ module _ (d a : ℕ) where
   closed-clear zero e b h = h
   closed-clear (suc n) e b h = all-clear (revoked (closed n)) (revoked-clear (closed n) (closed-clear n)) (slots_of b e).held b h
 
-pub room-clear : (d a : ℕ) (b : Book) (to : ℕ) → ClearAlive d a b.regions → ClearAlive d a (makeRoom to b).regions
-unfolding makeRoom
+pub room-clear : (d a : ℕ) (b : Book) (to : ℕ) → ClearAlive d a b.regions → ClearAlive d a (make_room to b).regions
+unfolding make_room
 room-clear d a b to h = h
 
-over-room : (b : Book) (to a : ℕ) (c : Option Held) → regionOver (makeRoom to b) a c ≡ regionOver b a c
-unfolding makeRoom
+over-room : (b : Book) (to a : ℕ) (c : Option Held) → region_over (make_room to b) a c ≡ region_over b a c
+unfolding make_room
 over-room b to a none = refl
 over-room b to a (some emptied) = refl
-over-room b to a (some (regionOf k)) = refl
-over-room b to a (some (revokeOf k)) = refl
-over-room b to a (some (managementOf e)) = refl
-over-room b to a (some (channelOf e)) = refl
+over-room b to a (some (region_of k)) = refl
+over-room b to a (some (revoke_of k)) = refl
+over-room b to a (some (management_of e)) = refl
+over-room b to a (some (channel_of e)) = refl
 
-pub sent-clear : (d a : ℕ) (b : Book) (f l to n : ℕ) (o : SendOptions) → ClearAlive d a b.regions → (eqb to d && regionOver b a (held_at b f l)) ≡ false → ClearAlive d a (sent f l to n o b).regions
+pub sent-clear : (d a : ℕ) (b : Book) (f l to n : ℕ) (o : SendOptions) → ClearAlive d a b.regions → (eqb to d && region_over b a (held_at b f l)) ≡ false → ClearAlive d a (sent f l to n o b).regions
 unfolding sent
-sent-clear d a b f l to n o h e = sent-any-clear d a (makeRoom to b) (room-clear d a b to h) o f l to n _ _ (room-less b to f l) (ap (λ c. eqb to d && c) (over-room b to a (held_at b f l)) ∙ e)
+sent-clear d a b f l to n o h e = sent-any-clear d a (make_room to b) (room-clear d a b to h) o f l to n _ _ (room-less b to f l) (ap (λ c. eqb to d && c) (over-room b to a (held_at b f l)) ∙ e)
 
 -- ---- an alias and a carve lie in a region of the same domain
 
@@ -223,21 +223,21 @@ inside b d l x f g g₀ g₁ c v s e e₁ o t =
     record { alive = v; owner = sym s.owner ∙ ap (λ (r : Region). r.owner) e ∙ o; start = omega arith; end = omega arith }
 
 module _ (b : Book) (s : State) (h : Handle) (l : ℕ) (x : Access) (sound : Sound s) (g : Matches b s) where
-  pub alias-inside : All (λ y. Inside b h.slot l x) (aliasRegion h l x s)
-  unfolding aliasRegion
+  pub alias-inside : All (λ y. Inside b h.slot l x) (alias_region h l x s)
+  unfolding alias_region
   alias-inside =
       on-caller ALIAS s h _ (λ v.
-      bind (both (region-found b s _ _ g.fits h.slot l) (held-own s sound h.slot _ (some_is _ noneDomain (live-opens s h v)) l)) (λ p (f, (r, i, o)).
+      bind (both (region-found b s _ _ g.fits h.slot l) (held-own s sound h.slot _ (some_is _ none_domain (live-opens s h v)) l)) (λ p (f, (r, i, o)).
       bind (room-match b s _ _ h.slot x g.fits (live-opens s h v)) (λ s₁ q.
-      checked _ _ (λ t. always _ (inside b h.slot l x _ r _ (regionAt s₁ p) _ f.lives (g.fits.regions.stored _ f.below f.lives) (ap (λ (k : Handle). regionAt s k.slot) (sym f.here) ∙ ap (λ (y : Option Region). get_or y noneRegion) i) (ap (λ gs. get_or (atSlot gs p) noneRegion) q.1.regions ∙ ap (λ (y : Option Region). get_or y noneRegion) i) o t)))))
+      checked _ _ (λ t. always _ (inside b h.slot l x _ r _ (region_at s₁ p) _ f.lives (g.fits.regions.stored _ f.below f.lives) (ap (λ (k : Handle). region_at s k.slot) (sym f.here) ∙ ap (λ (y : Option Region). get_or y none_region) i) (ap (λ gs. get_or (at_slot gs p) none_region) q.1.regions ∙ ap (λ (y : Option Region). get_or y none_region) i) o t)))))
 
-  pub carve-inside : All (λ y. Inside b h.slot l x) (carveRegion h l x s)
-  unfolding carveRegion
+  pub carve-inside : All (λ y. Inside b h.slot l x) (carve_region h l x s)
+  unfolding carve_region
   carve-inside =
       on-caller CARVE s h _ (λ v.
-      bind (both (region-found b s _ _ g.fits h.slot l) (held-own s sound h.slot _ (some_is _ noneDomain (live-opens s h v)) l)) (λ p (f, (r, i, o)).
+      bind (both (region-found b s _ _ g.fits h.slot l) (held-own s sound h.slot _ (some_is _ none_domain (live-opens s h v)) l)) (λ p (f, (r, i, o)).
       bind (room-match b s _ _ h.slot x g.fits (live-opens s h v)) (λ s₁ q.
-      checked _ _ (λ t. always _ (inside b h.slot l x _ r _ (regionAt s₁ p) _ f.lives (g.fits.regions.stored _ f.below f.lives) (ap (λ (k : Handle). regionAt s k.slot) (sym f.here) ∙ ap (λ (y : Option Region). get_or y noneRegion) i) (ap (λ gs. get_or (atSlot gs p) noneRegion) q.1.regions ∙ ap (λ (y : Option Region). get_or y noneRegion) i) o t)))))
+      checked _ _ (λ t. always _ (inside b h.slot l x _ r _ (region_at s₁ p) _ f.lives (g.fits.regions.stored _ f.below f.lives) (ap (λ (k : Handle). region_at s k.slot) (sym f.here) ∙ ap (λ (y : Option Region). get_or y none_region) i) (ap (λ gs. get_or (at_slot gs p) none_region) q.1.regions ∙ ap (λ (y : Option Region). get_or y none_region) i) o t)))))
 
 -- ---- so a new one is over a only if the domain had one
 
@@ -265,11 +265,11 @@ accepted-has s f m k (accepted p) e = p
 accepted-has s f m k (refused {r}) e = absurd (omega arith)
 
 pub alias-has : (b : Book) (t w t₁ w₁ : List ℕ) (h : Handle) (l : ℕ) (x : Access) (y : Answer) → BookOf b t → code y ≡ 0 → After t w (Call.Do (Step.Alias h l x)) y t₁ w₁ → Inside b h.slot l x
-unfolding step perform performStep
-alias-has b t w t₁ w₁ h l x y k e (notSound d q n) = absurd (omega arith)
-alias-has b t w t₁ w₁ h l x y k e (performed d s m q) = accepted-has s model.Value.local (aliasRegion h l x s) (step-coded s (Call.Do (Step.Alias h l x))) (alias-inside b s h l x q.sound (book-of-state b t w s k q)) e
+unfolding step perform perform_step
+alias-has b t w t₁ w₁ h l x y k e (not_sound d q n) = absurd (omega arith)
+alias-has b t w t₁ w₁ h l x y k e (performed d s m q) = accepted-has s model.Value.local (alias_region h l x s) (step-coded s (Call.Do (Step.Alias h l x))) (alias-inside b s h l x q.sound (book-of-state b t w s k q)) e
 
 pub carve-has : (b : Book) (t w t₁ w₁ : List ℕ) (h : Handle) (l : ℕ) (x : Access) (y : Answer) → BookOf b t → code y ≡ 0 → After t w (Call.Do (Step.Carve h l x)) y t₁ w₁ → Inside b h.slot l x
-unfolding step perform performStep
-carve-has b t w t₁ w₁ h l x y k e (notSound d q n) = absurd (omega arith)
-carve-has b t w t₁ w₁ h l x y k e (performed d s m q) = accepted-has s model.Value.local (carveRegion h l x s) (step-coded s (Call.Do (Step.Carve h l x))) (carve-inside b s h l x q.sound (book-of-state b t w s k q)) e
+unfolding step perform perform_step
+carve-has b t w t₁ w₁ h l x y k e (not_sound d q n) = absurd (omega arith)
+carve-has b t w t₁ w₁ h l x y k e (performed d s m q) = accepted-has s model.Value.local (carve_region h l x s) (step-coded s (Call.Do (Step.Carve h l x))) (carve-inside b s h l x q.sound (book-of-state b t w s k q)) e

@@ -3,7 +3,7 @@ use Rattle.std.specs.Prelude.{◌≡◌, List, map, ℕ}
 use Rattle.std.proofs.Common.{sym, ap, subst, ◌∙◌, arith}
 use Rattle.model.specs.Perform as model
 use Rattle.model.specs.Perform.{Answer, code}
-use Rattle.model.specs.Converting.{Converted, notConvertible, converted}
+use Rattle.model.specs.Converting.{Converted, not_convertible, converted}
 use Rattle.replies.specs.declared.Reply.{Reply}
 use Rattle.book.specs.Lent.{ClaimsOf}
 use Rattle.converted.specs.Theorem.{demand3-converted}
@@ -13,7 +13,7 @@ use Rattle.promise.specs.Everything.{chained, words_of}
 
 -- a conversion that returned refusal 0 was accepted
 accepted-conversion : (o t v w t₁ v₁ w₁ : List ℕ) (y : Answer) → code y ≡ 0 → Converted o t v w y t₁ v₁ w₁ → Converted o t v w (Answer.yes model.Value.done) t₁ v₁ w₁
-accepted-conversion o t v w t₁ v₁ w₁ y e (notConvertible n) = absurd (omega arith)
+accepted-conversion o t v w t₁ v₁ w₁ y e (not_convertible n) = absurd (omega arith)
 accepted-conversion o t v w t₁ v₁ w₁ y e (converted s c) = converted s c
 
 -- THEOREM

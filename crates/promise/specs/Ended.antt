@@ -4,9 +4,9 @@ use Rattle.std.specs.Prelude.{◌≡◌, refl, ℕ, List}
 use Rattle.std.proofs.Common.{sym, ap, ◌∙◌, arith}
 use Rattle.model.specs.Outcome.{Outcome, ok, refuse}
 use Rattle.model.specs.State.{State, Handle}
-use Rattle.model.specs.Perform.{Step, Call, Value, Answer, code, performStep, perform, after, step}
+use Rattle.model.specs.Perform.{Step, Call, Value, Answer, code, perform_step, perform, after, step}
 use Rattle.model.specs.Sound.{Sound}
-use Rattle.model.specs.Memory.{After, notSound, performed}
+use Rattle.model.specs.Memory.{After, not_sound, performed}
 use Rattle.laws.specs.Accepted.{All, accepted, bind, all-ok}
 use Rattle.laws.specs.Codes.{Coded, step-coded}
 use Rattle.laws.specs.Close.Call.{revoke-call-sound}
@@ -21,12 +21,12 @@ was-accepted s (ok x) h e = (x.0, refl)
 was-accepted s (refuse r) h e = absurd (omega arith)
 
 revoke-sound : (s : State) → Sound s → (h : Handle) (l : ℕ) → All (λ y. Sound y.1) (perform s (Call.Do (Step.Revoke h l)))
-unfolding perform performStep
+unfolding perform perform_step
 revoke-sound s k h l = bind (revoke-call-sound h l s k) (λ t p. accepted p)
 
 ended : (t w t' w' : List ℕ) (h : Handle) (l : ℕ) (y : Answer) → code y ≡ 0 → After t w (Call.Do (Step.Revoke h l)) y t' w' → Ended t h l t'
 unfolding step
-ended t w t' w' h l y e (notSound c q n) = absurd (omega arith)
+ended t w t' w' h l y e (not_sound c q n) = absurd (omega arith)
 ended t w t' w' h l y e (performed c s q k) =
     let m = perform s (Call.Do (Step.Revoke h l)) in
     let (v, f) = was-accepted s m (step-coded s (Call.Do (Step.Revoke h l))) e in
@@ -36,9 +36,9 @@ ended t w t' w' h l y e (performed c s q k) =
       sound = k.sound;
       after = (after s m).1;
       left = refl;
-      leftSound = all-ok (λ y. Sound y.1) m (v, (after s m).1) (revoke-sound s k.sound h l) f;
+      left_sound = all-ok (λ y. Sound y.1) m (v, (after s m).1) (revoke-sound s k.sound h l) f;
       ends = λ d i. contract-ends s h l d v (after s m).1 k.sound i f;
-      takesBack = λ d u i. region-returns s h l d v (after s m).1 k.sound u i f;
+      takes_back = λ d u i. region-returns s h l d v (after s m).1 k.sound u i f;
     }
 
 -- THEOREM

@@ -6,10 +6,10 @@ use Rattle.model.specs.Checked.Script.{dom}
 use Rattle.replies.specs.declared.Reply.{Reply}
 use Rattle.replies.specs.declared.DomainReply.{DomainReply}
 use Rattle.call.specs.Arguments.{handle, sizes}
-use Rattle.book.specs.Book.{Book, Noted, regionOf, managementOf, blank, isOpen}
+use Rattle.book.specs.Book.{Book, Noted, region_of, management_of, blank, is_open}
 use Rattle.book.specs.Example.{noting, reg, slots}
 use Rattle.promise.specs.Calls.{Called, make-tables, open-domain, open-under, create-root-region, alias-region, carve-region, send, send-with-flags, send-with-hash, revoke}
-use Rattle.promise.specs.Returned.{noteAllReturned}
+use Rattle.promise.specs.Returned.{note_all_returned}
 use Rattle.promise.specs.Given.{gives, NeverGivenTo}
 
 -- accepted with a value, or refused; accepted with a new domain
@@ -42,17 +42,17 @@ abbrev example : List Called
 example = began ++ (sent ∷ send 0 0 2 0 (no 4) ∷ [])
 
 -- whatever the book said before
-abbrev bookAfter : Book → List Called → Book
-bookAfter b xs = noteAllReturned b xs
+abbrev book_after : Book → List Called → Book
+book_after b xs = note_all_returned b xs
 
 -- Domain 0 holds 1's Management in slot 0, the root in 1 and the alias in 3; the carve is 1's, in slot 0; domain 2 holds nothing.
-after-example : bookAfter (blank (sizes 1 1 1 1 1)) example
+after-example : book_after (blank (sizes 1 1 1 1 1)) example
     ≡ record {
       sizes = sizes 3 4 4 8 4;
       regions = reg Root 0 0 16 3 true ∷ reg (Carve 0) 1 4 8 1 true ∷ reg (Alias 0) 0 0 4 3 true ∷ [];
       lists =
-          slots (some (managementOf (dom 1)) ∷ some (regionOf 0) ∷ none ∷ some (regionOf 2) ∷ []) (2 ∷ [])
-          ∷ slots (some (regionOf 1) ∷ none ∷ none ∷ none ∷ []) (1 ∷ 2 ∷ 3 ∷ [])
+          slots (some (management_of (dom 1)) ∷ some (region_of 0) ∷ none ∷ some (region_of 2) ∷ []) (2 ∷ [])
+          ∷ slots (some (region_of 1) ∷ none ∷ none ∷ none ∷ []) (1 ∷ 2 ∷ 3 ∷ [])
           ∷ slots (none ∷ none ∷ none ∷ none ∷ []) (0 ∷ 1 ∷ 2 ∷ 3 ∷ [])
           ∷ [];
     }
@@ -60,23 +60,23 @@ unfolding noting
 after-example = refl
 
 -- Sent with CLEANUP, with a hash or without, the carve has rights 33 (document 02, request 1).
-abbrev regionsAfter : Called → List Noted
-regionsAfter x = (bookAfter (blank (sizes 1 1 1 1 1)) (began ++ (x ∷ []))).regions
+abbrev regions_after : Called → List Noted
+regions_after x = (book_after (blank (sizes 1 1 1 1 1)) (began ++ (x ∷ []))).regions
 
-abbrev withCleanup : List Noted
-withCleanup = reg Root 0 0 16 3 true ∷ reg (Carve 0) 1 4 8 33 true ∷ reg (Alias 0) 0 0 4 3 true ∷ []
+abbrev with_cleanup : List Noted
+with_cleanup = reg Root 0 0 16 3 true ∷ reg (Carve 0) 1 4 8 33 true ∷ reg (Alias 0) 0 0 4 3 true ∷ []
 
-after-flags : regionsAfter (send-with-flags 0 0 2 0 32 (ok 0)) ≡ withCleanup
+after-flags : regions_after (send-with-flags 0 0 2 0 32 (ok 0)) ≡ with_cleanup
 unfolding noting
 after-flags = refl
 
-after-hash : regionsAfter (send-with-hash 0 0 2 0 32 (record { word0 = 7; word1 = 0; word2 = 0; word3 = 0 }) (ok 0)) ≡ withCleanup
+after-hash : regions_after (send-with-hash 0 0 2 0 32 (record { word0 = 7; word1 = 0; word2 = 0; word3 = 0 }) (ok 0)) ≡ with_cleanup
 unfolding noting
 after-hash = refl
 
 -- The root gave domain 0 address 5, and the send gave it domain 1; nobody gave it domain 2, nor 20 any of them.
 abbrev given : ℕ → ℕ → Bool × Bool
-given d a = (gives (blank (sizes 3 4 4 8 4)) d a (create-root-region 0 0 0 16 3 (ok 1)), gives (bookAfter (blank (sizes 1 1 1 1 1)) began) d a sent)
+given d a = (gives (blank (sizes 3 4 4 8 4)) d a (create-root-region 0 0 0 16 3 (ok 1)), gives (book_after (blank (sizes 1 1 1 1 1)) began) d a sent)
 
 given-0 : given 0 5 ≡ (true, false)
 unfolding noting
@@ -104,7 +104,7 @@ again = first ++ (revoke 0 0 0 (ok 0) ∷ open-under 0 0 0 (record { refusal = 0
 
 -- Is 1.0 open, is 1.1?
 abbrev opens : List Called → Bool × Bool
-opens xs = let b = bookAfter (blank (sizes 1 1 1 1 1)) xs in (isOpen b (handle 1 0), isOpen b (handle 1 1))
+opens xs = let b = book_after (blank (sizes 1 1 1 1 1)) xs in (is_open b (handle 1 0), is_open b (handle 1 1))
 
 open-first : opens first ≡ (true, false)
 unfolding noting

@@ -25,7 +25,7 @@ use denote.Triple.Clauses.{ensured, lasts}
 use denote.Triple.Walked.{says}
 use Rattle.tables.specs.View.{view, Sized}
 use Rattle.readings.specs.declared.Found.{Found}
-use Rattle.readings.specs.Readings.{foundAt}
+use Rattle.readings.specs.Readings.{found_at}
 use Rattle.readings.specs.contracts.found_at as found_at
 
 module _ {M : Type 1} {𝓤 : Ura M} (𝓛 : Logic 𝓤) (mem : Memory → SProp 𝓤) (run : Routine → Fun 𝓤) where
@@ -34,8 +34,8 @@ module _ {M : Type 1} {𝓤 : Ura M} (𝓛 : Logic 𝓤) (mem : Memory → SProp
   FoundAt = triple_of 𝓛 found_at.signature (found_at.spec 𝓛 mem run)
 
   -- of the callee's `ensured`, the clause alone
-  pub found-said : (κ : Lft) (t : Bor (List ℕ)) (at : ℕ) (r : Found) → ent 𝓤 (ensured 𝓛 found_at.ended (found_at.clauses 𝓛 mem run) (κ, tt) (t, (at, tt)) tt r) (fact 𝓤 (r ≡ foundAt (view t.now) at))
-  found-said κ t at r = ex_e 𝓤 _ (λ ws. snd∗ 𝓤 (sem 𝓛 (lasts found_at.ended (κ, tt) (t, (at, tt)) ws)) (fact 𝓤 (r ≡ foundAt (view t.now) at)))
+  pub found-said : (κ : Lft) (t : Bor (List ℕ)) (at : ℕ) (r : Found) → ent 𝓤 (ensured 𝓛 found_at.ended (found_at.clauses 𝓛 mem run) (κ, tt) (t, (at, tt)) tt r) (fact 𝓤 (r ≡ found_at (view t.now) at))
+  found-said κ t at r = ex_e 𝓤 _ (λ ws. snd∗ 𝓤 (sem 𝓛 (lasts found_at.ended (κ, tt) (t, (at, tt)) ws)) (fact 𝓤 (r ≡ found_at (view t.now) at)))
 
 -- what the callee's triple binds outside
 module _ {M : Type 1} {𝓤 : Ura M} (𝓛 : Logic 𝓤) (mem : Memory → SProp 𝓤) (run : Routine → Fun 𝓤) (κ : Lft) (q : Share) (t : Bor (List ℕ)) where

@@ -7,7 +7,7 @@ use lib.Dec.{ltb}
 use lib.Bits.{or_shifted_r, or_zero_r}
 use Rattle.base.specs.Cases.{pick}
 use Rattle.rights.specs.Rights.{READ, WRITE, EXEC, SUPER, UNCACHEABLE, union}
-use Rattle.readings.specs.Readings.{flagIf, rightsOf}
+use Rattle.readings.specs.Readings.{flag_if, rights_of}
 use Rattle.tables.specs.declared.Region.{Region}
 
 pick-most : (b : Bool) (flag : ℕ) → pick b flag 0 ≤ flag
@@ -21,9 +21,9 @@ joins false k x y h e = rw e (or_zero_r x ∙ omega arith)
 
 module _ (q : Region) where
   -- the flags in the order in which the code joins them
-  pub flags-join : (r w x s u a b c o : ℕ) → r ≡ flagIf READ q.read_count → w ≡ flagIf WRITE q.write_count → a ≡ union r w → x ≡ flagIf EXEC q.exec_count → b ≡ union a x
-      → s ≡ flagIf SUPER q.super_count → c ≡ union b s → u ≡ flagIf UNCACHEABLE q.uncache_count → o ≡ union c u → o ≡ rightsOf q
-  unfolding rightsOf
+  pub flags-join : (r w x s u a b c o : ℕ) → r ≡ flag_if READ q.read_count → w ≡ flag_if WRITE q.write_count → a ≡ union r w → x ≡ flag_if EXEC q.exec_count → b ≡ union a x
+      → s ≡ flag_if SUPER q.super_count → c ≡ union b s → u ≡ flag_if UNCACHEABLE q.uncache_count → o ≡ union c u → o ≡ rights_of q
+  unfolding rights_of
   flags-join r w x s u a b c o er ew ea ex eb es ec eu eo =
       let hr = pick-most (ltb 0 q.read_count) READ in
       let hw = pick-most (ltb 0 q.write_count) WRITE in

@@ -4,68 +4,68 @@ use Rattle.base.specs.Cases.{pick}
 use Rattle.base.specs.Tests.{both}
 use Rattle.rights.specs.Rights.{READ, WRITE, EXEC, SUPER, UNCACHEABLE}
 use Rattle.tables.specs.declared.Region.{Region}
-use Rattle.tables.specs.Tables.{Tables, recordAt}
+use Rattle.tables.specs.Tables.{Tables, record_at}
 use Rattle.readings.specs.declared.Permission.{Permission}
 use Rattle.readings.specs.declared.Found.{Found}
 use Rattle.readings.specs.declared.Plan.{Plan}
-use Rattle.tables.specs.Links.{slotTo}
-use Rattle.tracker_records.specs.Links.{firstLink}
+use Rattle.tables.specs.Links.{slot_to}
+use Rattle.tracker_records.specs.Links.{first_link}
 
 -- ---- a domain's records, in the order of their links (`tracker` of the model's Domain)
 
 -- from link k on, n at most
-unfoldable pub recordsFrom : ℕ → Tables → ℕ → List Region
-recordsFrom zero s k = []
-recordsFrom (suc n) s k = pick (eqb k 0) [] (recordAt s (slotTo k) ∷ recordsFrom n s (recordAt s (slotTo k)).next)
+unfoldable pub records_from : ℕ → Tables → ℕ → List Region
+records_from zero s k = []
+records_from (suc n) s k = pick (eqb k 0) [] (record_at s (slot_to k) ∷ records_from n s (record_at s (slot_to k)).next)
 
 -- As many as there are slots: links that go round lead to no more.
-unfoldable pub recordsOf : Tables → ℕ → List Region
-recordsOf s d = recordsFrom s.sizes.records s (firstLink s d)
+unfoldable pub records_of : Tables → ℕ → List Region
+records_of s d = records_from s.sizes.records s (first_link s d)
 
 -- ---- numbers
 
--- a flag where its count is above 0 (flagIf)
-abbrev pub flagIf : ℕ → ℕ → ℕ
-flagIf flag n = pick (ltb 0 n) flag 0
+-- a flag where its count is above 0 (flag_if)
+abbrev pub flag_if : ℕ → ℕ → ℕ
+flag_if flag n = pick (ltb 0 n) flag 0
 
--- the rights whose count is above 0 (rightsOf)
-unfoldable pub rightsOf : Region → ℕ
-rightsOf q =
-    flagIf READ q.read_count + flagIf WRITE q.write_count + flagIf EXEC q.exec_count + flagIf SUPER q.super_count + flagIf UNCACHEABLE q.uncache_count
+-- the rights whose count is above 0 (rights_of)
+unfoldable pub rights_of : Region → ℕ
+rights_of q =
+    flag_if READ q.read_count + flag_if WRITE q.write_count + flag_if EXEC q.exec_count + flag_if SUPER q.super_count + flag_if UNCACHEABLE q.uncache_count
 
 -- it begins before e and ends after s (Tracker's meets)
 abbrev pub meets : ℕ → ℕ → Region → Bool
 meets s e q = both (ltb s q.end) (ltb q.start e)
 
--- the largest reach of a record that meets the range from s up to e (largestReach)
-unfoldable pub largestReach : ℕ → ℕ → List Region → ℕ
-largestReach s e [] = 0
-largestReach s e (q ∷ l) = max (pick (meets s e q) q.ref_count 0) (largestReach s e l)
+-- the largest reach of a record that meets the range from s up to e (largest_reach)
+unfoldable pub largest_reach : ℕ → ℕ → List Region → ℕ
+largest_reach s e [] = 0
+largest_reach s e (q ∷ l) = max (pick (meets s e q) q.ref_count 0) (largest_reach s e l)
 
 -- ---- the permission list
 
--- (permissionOf)
-abbrev pub permissionOf : Region → Permission
-permissionOf q = record { start = q.start; end = q.end; rights = rightsOf q }
+-- (permission_of)
+abbrev pub permission_of : Region → Permission
+permission_of q = record { start = q.start; end = q.end; rights = rights_of q }
 
 -- (permissions)
-unfoldable pub permissionList : Tables → ℕ → List Permission
-permissionList s d = map permissionOf (recordsOf s d)
+unfoldable pub permission_list : Tables → ℕ → List Permission
+permission_list s d = map permission_of (records_of s d)
 
 -- the permission of the record at link k, and the link behind it
-abbrev pub foundAt : Tables → ℕ → Found
-foundAt s k = record { p = permissionOf (recordAt s (slotTo k)); next = (recordAt s (slotTo k)).next }
+abbrev pub found_at : Tables → ℕ → Found
+found_at s k = record { p = permission_of (record_at s (slot_to k)); next = (record_at s (slot_to k)).next }
 
 -- what filling a run of `room` places goes by
 abbrev pub plan_of : Tables → ℕ → ℕ → Plan
 plan_of s d room =
-    let n = length (permissionList s d) in
-    record { turns = pick (ltb n room) n room; at = firstLink s d; answer = n }
+    let n = length (permission_list s d) in
+    record { turns = pick (ltb n room) n room; at = first_link s d; answer = n }
 
 -- ---- a lent run
 
--- a list written into a run: the places past the list, and the elements past the run, are left (fillRun)
-abbrev pub fillRun : {A : Type 0} → List A → List A → List A
-fillRun l [] = []
-fillRun [] (y ∷ run) = y ∷ run
-fillRun (x ∷ l) (y ∷ run) = x ∷ fillRun l run
+-- a list written into a run: the places past the list, and the elements past the run, are left (fill_run)
+abbrev pub fill_run : {A : Type 0} → List A → List A → List A
+fill_run l [] = []
+fill_run [] (y ∷ run) = y ∷ run
+fill_run (x ∷ l) (y ∷ run) = x ∷ fill_run l run

@@ -2,7 +2,7 @@
 ghost use Rattle.std.specs.Prelude.{◌≡◌, ◌+◌, max, length};
 ghost use Rattle.base.specs.Cases.{pick};
 ghost use Rattle.tables.specs.View.{view, Sized};
-ghost use Rattle.readings.specs.Readings.{recordsOf, flagIf, rightsOf, meets, largestReach, permissionList, foundAt, plan_of};
+ghost use Rattle.readings.specs.Readings.{records_of, flag_if, rights_of, meets, largest_reach, permission_list, found_at, plan_of};
 
 use rights::Rights;
 use tables::Region;
@@ -10,7 +10,7 @@ use tracker_records::links;
 
 // A record of the permission list. Its three words leave no byte unsettled.
 #[repr(C)]
-#[derive(Drop)]
+#[derive(Clone, Copy)]
 pub struct Permission {
     pub start: u64,
     pub end: u64,
@@ -18,14 +18,14 @@ pub struct Permission {
 }
 
 // A record's permission, and the link behind it.
-#[derive(Drop)]
+#[derive(Clone, Copy)]
 pub struct Found {
     pub p: Permission,
     pub next: u64,
 }
 
 // How many records fill a run, the link of the first, and how many there are.
-#[derive(Drop)]
+#[derive(Clone, Copy)]
 pub struct Plan {
     pub turns: usize,
     pub at: u64,
@@ -42,14 +42,14 @@ fn larger(a: u64, b: u64) -> u64
 
 // The flag where its count is above 0, else none.
 fn flag_if(flag: Rights, n: u64) -> Rights
-    ensures { result.0 ≡ flagIf flag.0 n }
+    ensures { result.0 ≡ flag_if flag.0 n }
 {
     if 0 < n { flag } else { Rights::NONE }
 }
 
 // The rights whose count is above 0.
 pub fn get_ops(q: Region) -> u64
-    ensures { result ≡ rightsOf q }
+    ensures { result ≡ rights_of q }
 {
     let ops = flag_if(Rights::READ, q.read_count)
         .union(flag_if(Rights::WRITE, q.write_count))
@@ -73,7 +73,7 @@ fn reach_in(q: Region, start: u64, last: u64) -> u64
 // The largest such reach in domain d.
 pub fn largest_reach(t: &[u64], d: usize, start: u64, last: u64) -> u64
     requires { Sized t.now }
-    ensures { result ≡ largestReach start (last + 1) (recordsOf (view t.now) d) }
+    ensures { result ≡ largest_reach start (last + 1) (records_of (view t.now) d) }
 {
     let mut most = 0;
     let mut left = words::size(t, sizes::RECORDS);
@@ -93,7 +93,7 @@ pub fn largest_reach(t: &[u64], d: usize, start: u64, last: u64) -> u64
 // The largest reach of a record that begins before `end` and ends after `start`.
 pub fn get_refcount(t: &[u64], d: usize, start: u64, end: u64) -> u64
     requires { Sized t.now }
-    ensures { result ≡ largestReach start end (recordsOf (view t.now) d) }
+    ensures { result ≡ largest_reach start end (records_of (view t.now) d) }
 {
     if 0 < end {
         largest_reach(t, d, start, end - 1)
@@ -107,7 +107,7 @@ pub fn get_refcount(t: &[u64], d: usize, start: u64, end: u64) -> u64
 // The number of domain d's records.
 fn count(t: &[u64], d: usize) -> u64
     requires { Sized t.now }
-    ensures { result ≡ length (recordsOf (view t.now) d) }
+    ensures { result ≡ length (records_of (view t.now) d) }
 {
     let mut n = 0;
     let mut left = words::size(t, sizes::RECORDS);
@@ -140,7 +140,7 @@ pub fn plan_of(t: &[u64], d: usize, room: usize) -> Plan
 // The permission of the record at link k, and the link behind it.
 pub fn found_at(t: &[u64], k: u64) -> Found
     requires { Sized t.now }
-    ensures { result ≡ foundAt (view t.now) k }
+    ensures { result ≡ found_at (view t.now) k }
 {
     let q = record_rows::load_record(t, tables::slot_to(k));
     let p = Permission {

@@ -1,24 +1,24 @@
 // Tracker records.
 ghost use Rattle.std.specs.Prelude.{◌≡◌, length};
-ghost use Rattle.sizes.specs.Sizes.{recordWidth};
-ghost use Rattle.tables.specs.Tables.{recordAt, withRecord};
-ghost use Rattle.tables.specs.View.{view, Sized, Left, recordOf};
-ghost use Rattle.tables.specs.Accessors.{recordPlace};
+ghost use Rattle.sizes.specs.Sizes.{record_width};
+ghost use Rattle.tables.specs.Tables.{record_at, with_record};
+ghost use Rattle.tables.specs.View.{view, Sized, Left, record_of};
+ghost use Rattle.tables.specs.Accessors.{record_place};
 
 use sizes::RECORD_WIDTH;
 use tables::Region;
 
 fn record_at(t: &[u64], i: usize) -> usize
     requires { Sized t.now }
-    ensures { result ≡ recordPlace t.now i }
+    ensures { result ≡ record_place t.now i }
 {
     let z = sizes::read_sizes(t);
     tables::rows::row_at(t, sizes::records_at(z), z.records, RECORD_WIDTH, i)
 }
 
 pub fn record_of(p: &[u64]) -> Region
-    requires { length p.now ≡ recordWidth }
-    ensures { result ≡ recordOf p.now }
+    requires { length p.now ≡ record_width }
+    ensures { result ≡ record_of p.now }
 {
     Region {
         start: p[0],
@@ -35,7 +35,7 @@ pub fn record_of(p: &[u64]) -> Region
 
 pub fn load_record(t: &[u64], i: usize) -> Region
     requires { Sized t.now }
-    ensures { result ≡ recordAt (view t.now) i }
+    ensures { result ≡ record_at (view t.now) i }
 {
     let p = words::run(t, record_at(t, i), RECORD_WIDTH);
     if p.len() == RECORD_WIDTH {
@@ -47,7 +47,7 @@ pub fn load_record(t: &[u64], i: usize) -> Region
 
 pub fn store_record(t: &mut [u64], i: usize, r: Region)
     requires { Sized t.old }
-    ensures { Left t.new (withRecord (view t.old) i r) }
+    ensures { Left t.new (with_record (view t.old) i r) }
 {
     let a = record_at(t, i);
     words::store(

@@ -33,8 +33,8 @@ agrees-call x m n e h = subst (Agrees x) (sym e) h
 
 -- ---- one after another
 
-go_on : (x : Effect) (f : ℕ → Tables → Effect) (v : ℕ) (s : State) (m : Outcome (ℕ × State)) → Agrees x (ok (v, s)) → Agrees (f v (tables_of s)) m → Agrees (and_then x f) m
-go_on x f v s m h k = agrees-step (and_then x f) (f v (tables_of s)) m (then-done x f v h.0 ∙ ap (f v) h.1) k
+go_on_lem : (x : Effect) (f : ℕ → Tables → Effect) (v : ℕ) (s : State) (m : Outcome (ℕ × State)) → Agrees x (ok (v, s)) → Agrees (f v (tables_of s)) m → Agrees (and_then x f) m
+go_on_lem x f v s m h k = agrees-step (and_then x f) (f v (tables_of s)) m (then-done x f v h.0 ∙ ap (f v) h.1) k
 
 stop : (x : Effect) (f : ℕ → Tables → Effect) (r : Refusal) → x.answer ≡ Refused r → (and_then x f).answer ≡ Refused r
 stop x f r h = ap (λ (z : Effect). z.answer) (then-refused x f r h)
@@ -43,13 +43,13 @@ stop x f r h = ap (λ (z : Effect). z.answer) (then-refused x f r h)
 pub agrees_from : {A : Type 0} (x : Effect) (f : ℕ → Tables → Effect) (m : Outcome A) (g : A → ℕ × State) (k : A → Outcome (ℕ × State))
     → Agrees x (m >>= λ y. ok (g y)) → ((y : A) → m ≡ ok y → Agrees (f (g y).0 (tables_of (g y).1)) (k y)) → Agrees (and_then x f) (m >>= k)
 unfolding ◌>>=◌
-agrees_from x f (ok y) g k h j = go_on x f (g y).0 (g y).1 (k y) h (j y refl)
+agrees_from x f (ok y) g k h j = go_on_lem x f (g y).0 (g y).1 (k y) h (j y refl)
 agrees_from x f (refuse r) g k h j = stop x f r h
 
 pub agrees-then : (x : Effect) (f : ℕ → Tables → Effect) (m : Outcome (ℕ × State)) (k : ℕ × State → Outcome (ℕ × State))
     → Agrees x m → ((v : ℕ) (s : State) → m ≡ ok (v, s) → Agrees (f v (tables_of s)) (k (v, s))) → Agrees (and_then x f) (m >>= k)
 unfolding ◌>>=◌
-agrees-then x f (ok y) k h j = go_on x f y.0 y.1 (k y) h (j y.0 y.1 refl)
+agrees-then x f (ok y) k h j = go_on_lem x f y.0 y.1 (k y) h (j y.0 y.1 refl)
 agrees-then x f (refuse r) k h j = stop x f r h
 
 -- the first call has no number: the step answers 0

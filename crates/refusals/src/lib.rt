@@ -2,7 +2,7 @@
 ghost use Rattle.std.specs.Prelude.{◌≡◌};
 ghost use Rattle.refusals.specs.Refusals.{all};
 
-#[derive(Drop)]
+#[derive(Clone, Copy)]
 pub struct Refusal(pub u64);
 
 impl Refusal {

@@ -3,7 +3,7 @@
 use Rattle.std.specs.Prelude.{ℕ}
 use Rattle.base.specs.Cases.{pick}
 use Rattle.tables.specs.declared.Region.{Region}
-use Rattle.tables.specs.Tables.{Tables, withRecord}
+use Rattle.tables.specs.Tables.{Tables, with_record}
 use Rattle.answers.specs.declared.Answer.{Answer}
 use Rattle.answers.specs.declared.Answer.TheVariants.{Done, Refused}
 use Rattle.answers.specs.Answers.{Effect}
@@ -11,9 +11,9 @@ use Rattle.walk_cursors.specs.declared.Cursor.{Cursor}
 use Rattle.walk_cursors.specs.declared.Progress.{Progress}
 use Rattle.walk_cursors.specs.declared.Progress.TheVariants.{Going, Over}
 use Rattle.walk_cursors.specs.Cursors.{next_of}
-use Rattle.counts.specs.Counts.{mergeableB}
-use Rattle.tables.specs.Links.{slotTo}
-use Rattle.tracker_records.specs.Links.{withEnd, split, freedRecord}
+use Rattle.counts.specs.Counts.{mergeable_b}
+use Rattle.tables.specs.Links.{slot_to}
+use Rattle.tracker_records.specs.Links.{with_end, split, freed_record}
 
 -- what a turn comes to, and the tables that it leaves
 pub record Turn : Type 0 where
@@ -23,13 +23,13 @@ pub record Turn : Type 0 where
 abbrev pub to : Progress → Tables → Turn
 to p s = record { answer = p; tables = s }
 
-abbrev afterStep : Answer → (ℕ → Cursor) → Progress
-afterStep (Done v) f = Going (f v)
-afterStep (Refused r) f = Over (Refused r)
+abbrev after_step : Answer → (ℕ → Cursor) → Progress
+after_step (Done v) f = Going (f v)
+after_step (Refused r) f = Over (Refused r)
 
 -- a step, and the cursor that its value gives
 abbrev pub onward : Effect → (ℕ → Cursor) → Turn
-onward x f = record { answer = afterStep x.answer f; tables = x.tables }
+onward x f = record { answer = after_step x.answer f; tables = x.tables }
 
 abbrev pub over : Cursor → Tables → Turn
 over c s = to (Over (Done c.marks)) s
@@ -37,15 +37,15 @@ over c s = to (Over (Done c.marks)) s
 -- ---- the turns
 
 -- it is cut at the range's start, and its right half is at hand
-unfoldable pub cutStart : Tables → Cursor → Turn
-cutStart s c = onward (split s (slotTo c.at) c.start) (λ k. record { prev = c.at; at = k; start = c.start; marks = c.marks })
+unfoldable pub cut_start : Tables → Cursor → Turn
+cut_start s c = onward (split s (slot_to c.at) c.start) (λ k. record { prev = c.at; at = k; start = c.start; marks = c.marks })
 
 -- it is cut at the range's end
-unfoldable pub cutEnd : Tables → Cursor → ℕ → Turn
-cutEnd s c e = onward (split s (slotTo c.at) e) (λ k. c)
+unfoldable pub cut_end : Tables → Cursor → ℕ → Turn
+cut_end s c e = onward (split s (slot_to c.at) e) (λ k. c)
 
 -- `coalesce`: q takes in the record n behind it, which is freed
-unfoldable pub mergeAt : Tables → Cursor → Region → Region → Turn
-mergeAt s c q n =
-    pick (mergeableB q n) (onward (freedRecord (withRecord s (slotTo c.at) (withEnd q n.end n.next)) (slotTo q.next)) (λ v. c))
+unfoldable pub merge_at : Tables → Cursor → Region → Region → Turn
+merge_at s c q n =
+    pick (mergeable_b q n) (onward (freed_record (with_record s (slot_to c.at) (with_end q n.end n.next)) (slot_to q.next)) (λ v. c))
     (to (Going (next_of c q.next c.start 0)) s)

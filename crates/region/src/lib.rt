@@ -7,7 +7,7 @@ pub mod turns;
 use rights::Rights;
 
 // A range with rights (`AccessRights` of the source).
-#[derive(Drop)]
+#[derive(Clone, Copy)]
 pub struct AccessRights {
     pub start: u64,
     pub end: u64,
@@ -15,7 +15,7 @@ pub struct AccessRights {
 }
 
 // What a walk does.
-#[derive(Drop)]
+#[derive(Clone, Copy)]
 pub enum Way {
     Add,
     Remove,

@@ -3,7 +3,7 @@ ghost use Rattle.std.specs.Prelude.{◌≡◌};
 ghost use Rattle.model.specs.Perform.{Step};
 ghost use Rattle.model.specs.CallWords.{StepWords};
 ghost use Rattle.call.specs.Arguments.{handle, access};
-ghost use Rattle.call.specs.Steps.{stepNamed};
+ghost use Rattle.call.specs.Steps.{step_named};
 
 use call::{Call, Child};
 use region::AccessRights;
@@ -11,8 +11,8 @@ use rights::Rights;
 use tables::Handle;
 
 pub fn root(domain: u64, generation: u64, start: u64, end: u64, rights: u8) -> Call
-    ensures result_value { stepNamed result ≡ Step.Root (handle domain generation) (access start end rights) }
-    ensures step_words { StepWords (stepNamed result) }
+    ensures result_value { step_named result ≡ Step.Root (handle domain generation) (access start end rights) }
+    ensures step_words { StepWords (step_named result) }
 {
     let domain = Handle {
         slot: domain,
@@ -24,8 +24,8 @@ pub fn root(domain: u64, generation: u64, start: u64, end: u64, rights: u8) -> C
 }
 
 pub fn alias(domain: u64, generation: u64, local: u64, start: u64, end: u64, rights: u8) -> Call
-    ensures result_value { stepNamed result ≡ Step.Alias (handle domain generation) local (access start end rights) }
-    ensures step_words { StepWords (stepNamed result) }
+    ensures result_value { step_named result ≡ Step.Alias (handle domain generation) local (access start end rights) }
+    ensures step_words { StepWords (step_named result) }
 {
     let domain = Handle {
         slot: domain,
@@ -41,8 +41,8 @@ pub fn alias(domain: u64, generation: u64, local: u64, start: u64, end: u64, rig
 }
 
 pub fn carve(domain: u64, generation: u64, local: u64, start: u64, end: u64, rights: u8) -> Call
-    ensures result_value { stepNamed result ≡ Step.Carve (handle domain generation) local (access start end rights) }
-    ensures step_words { StepWords (stepNamed result) }
+    ensures result_value { step_named result ≡ Step.Carve (handle domain generation) local (access start end rights) }
+    ensures step_words { StepWords (step_named result) }
 {
     let domain = Handle {
         slot: domain,

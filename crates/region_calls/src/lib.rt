@@ -1,7 +1,7 @@
 // Roots and aliases.
 ghost use Rattle.std.specs.Prelude.{◌≡◌};
 ghost use Rattle.tables.specs.View.{view, Sized, Left};
-ghost use Rattle.region_calls.specs.Calls.{heldRegion, createRootRegion, addChild, aliasRegion};
+ghost use Rattle.region_calls.specs.Calls.{held_region, create_root_region, add_child, alias_region};
 ghost use Rattle.region_calls.specs.Parts.{rooted, aliased};
 
 use answers::Answer;
@@ -12,8 +12,8 @@ use tables::{Handle, Interface, RegionCapa, Slot};
 // Region i into domain d's list.
 fn hold(t: &mut [u64], d: usize, i: u64) -> Answer
     requires { Sized t.old }
-    ensures value { result ≡ (heldRegion d i (view t.old)).answer }
-    ensures left { Left t.new (heldRegion d i (view t.old)).tables }
+    ensures value { result ≡ (held_region d i (view t.old)).answer }
+    ensures left { Left t.new (held_region d i (view t.old)).tables }
 {
     let handle = Handle {
         slot: i,
@@ -45,8 +45,8 @@ fn root(t: &mut [u64], d: usize, a: AccessRights) -> Answer
 
 pub fn create_root_region(t: &mut [u64], h: Handle, a: AccessRights) -> Answer
     requires { Sized t.old }
-    ensures value { result ≡ (createRootRegion h a (view t.old)).answer }
-    ensures left { Left t.new (createRootRegion h a (view t.old)).tables }
+    ensures value { result ≡ (create_root_region h a (view t.old)).answer }
+    ensures left { Left t.new (create_root_region h a (view t.old)).tables }
 {
     match checks::live_domain(t, h) {
         Answer::Done(d) => match checks::room_for_region(t, d as usize, a) {
@@ -60,8 +60,8 @@ pub fn create_root_region(t: &mut [u64], h: Handle, a: AccessRights) -> Answer
 // A child of region p, of that kind, in domain d's list.
 pub fn add_child(t: &mut [u64], d: usize, p: usize, kind: u64, a: AccessRights) -> Answer
     requires { Sized t.old }
-    ensures value { result ≡ (addChild d p kind a (view t.old)).answer }
-    ensures left { Left t.new (addChild d p kind a (view t.old)).tables }
+    ensures value { result ≡ (add_child d p kind a (view t.old)).answer }
+    ensures left { Left t.new (add_child d p kind a (view t.old)).tables }
 {
     match segment::new_region(t, segment::capa_for(d, kind, tables::link_to(p as u64), a)) {
         Answer::Done(i) => {
@@ -92,8 +92,8 @@ fn alias(t: &mut [u64], d: usize, p: usize, a: AccessRights) -> Answer
 
 pub fn alias_region(t: &mut [u64], h: Handle, l: usize, a: AccessRights) -> Answer
     requires { Sized t.old }
-    ensures value { result ≡ (aliasRegion h l a (view t.old)).answer }
-    ensures left { Left t.new (aliasRegion h l a (view t.old)).tables }
+    ensures value { result ≡ (alias_region h l a (view t.old)).answer }
+    ensures left { Left t.new (alias_region h l a (view t.old)).tables }
 {
     match checks::caller_with(t, h, Interface::ALIAS) {
         Answer::Done(d) => match checks::region_held(t, d as usize, l) {

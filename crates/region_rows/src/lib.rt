@@ -1,24 +1,24 @@
 // Regions.
 ghost use Rattle.std.specs.Prelude.{◌≡◌, length};
-ghost use Rattle.sizes.specs.Sizes.{regionWidth};
-ghost use Rattle.tables.specs.Tables.{regionAt, withRegion};
-ghost use Rattle.tables.specs.View.{view, Sized, Left, regionOf};
-ghost use Rattle.tables.specs.Accessors.{regionPlace};
+ghost use Rattle.sizes.specs.Sizes.{region_width};
+ghost use Rattle.tables.specs.Tables.{region_at, with_region};
+ghost use Rattle.tables.specs.View.{view, Sized, Left, region_of};
+ghost use Rattle.tables.specs.Accessors.{region_place};
 
 use sizes::REGION_WIDTH;
 use tables::RegionCapa;
 
 fn region_at(t: &[u64], i: usize) -> usize
     requires { Sized t.now }
-    ensures { result ≡ regionPlace t.now i }
+    ensures { result ≡ region_place t.now i }
 {
     let z = sizes::read_sizes(t);
     tables::rows::row_at(t, sizes::regions_at(z), z.regions, REGION_WIDTH, i)
 }
 
 pub fn region_of(p: &[u64]) -> RegionCapa
-    requires { length p.now ≡ regionWidth }
-    ensures { result ≡ regionOf p.now }
+    requires { length p.now ≡ region_width }
+    ensures { result ≡ region_of p.now }
 {
     RegionCapa {
         kind: p[0],
@@ -34,7 +34,7 @@ pub fn region_of(p: &[u64]) -> RegionCapa
 
 pub fn load_region(t: &[u64], i: usize) -> RegionCapa
     requires { Sized t.now }
-    ensures { result ≡ regionAt (view t.now) i }
+    ensures { result ≡ region_at (view t.now) i }
 {
     let p = words::run(t, region_at(t, i), REGION_WIDTH);
     if p.len() == REGION_WIDTH {
@@ -46,7 +46,7 @@ pub fn load_region(t: &[u64], i: usize) -> RegionCapa
 
 pub fn store_region(t: &mut [u64], i: usize, r: RegionCapa)
     requires { Sized t.old }
-    ensures { Left t.new (withRegion (view t.old) i r) }
+    ensures { Left t.new (with_region (view t.old) i r) }
 {
     let a = region_at(t, i);
     words::store(

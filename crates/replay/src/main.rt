@@ -21,7 +21,7 @@ pub const SET_INTERFACE: u64 = 17;
 pub const END: u64 = 19;
 
 // A call as it is read: its kind and its arguments, the last four of them a send's hash.
-#[derive(Drop)]
+#[derive(Clone, Copy)]
 pub struct Request {
     pub kind: u64,
     pub a: u64,

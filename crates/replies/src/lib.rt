@@ -2,14 +2,14 @@
 // 0 where there is none.
 ghost use Rattle.std.specs.Prelude.{◌≡◌};
 ghost use Rattle.answers.specs.declared.Answer.TheVariants.{Refused};
-ghost use Rattle.replies.specs.ReplyFor.{replyFor};
+ghost use Rattle.replies.specs.ReplyFor.{reply_for};
 
 use answers::Answer;
 use refusals::Refusal;
 
 // The value is a local slot, or a number that was read.
 #[repr(C)]
-#[derive(Drop)]
+#[derive(Clone, Copy)]
 pub struct Reply {
     pub refusal: u64,
     pub value: u64,
@@ -17,7 +17,7 @@ pub struct Reply {
 
 // The handle of a new domain.
 #[repr(C)]
-#[derive(Drop)]
+#[derive(Clone, Copy)]
 pub struct DomainReply {
     pub refusal: u64,
     pub slot: u64,
@@ -27,7 +27,7 @@ pub struct DomainReply {
 // An update as docs/TABLES.md has it: kind 1 with domain slot, generation and core map; kind 2 with start, end and 0; kind 0, none.
 // The marks of a domain are those of document 02, request 4; else 0.
 #[repr(C)]
-#[derive(Drop)]
+#[derive(Clone, Copy)]
 pub struct UpdateReply {
     pub refusal: u64,
     pub kind: u64,
@@ -38,7 +38,7 @@ pub struct UpdateReply {
 }
 
 pub fn refused(r: Refusal) -> Reply
-    ensures { result ≡ replyFor (Refused r) }
+    ensures { result ≡ reply_for (Refused r) }
 {
     Reply {
         refusal: r.0,
@@ -47,7 +47,7 @@ pub fn refused(r: Refusal) -> Reply
 }
 
 pub fn reply_for(a: Answer) -> Reply
-    ensures { result ≡ replyFor a }
+    ensures { result ≡ reply_for a }
 {
     match a {
         Answer::Done(value) => Reply { refusal: 0, value },

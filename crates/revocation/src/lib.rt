@@ -2,7 +2,7 @@
 // closing (document 02, request 5): they queue nothing.
 ghost use Rattle.std.specs.Prelude.{◌≡◌};
 ghost use Rattle.tables.specs.View.{view, Sized, Left};
-ghost use Rattle.revocation.specs.Revoke.{revokeRegion, revoke};
+ghost use Rattle.revocation.specs.Revoke.{revoke_region, revoke};
 
 use answers::Answer;
 use refusals::Refusal;
@@ -10,8 +10,8 @@ use refusals::Refusal;
 // `left` falls with each region above and with each region freed.
 fn revoke_region(t: &mut [u64], i: usize, left: u64, closing: u64) -> Answer
     requires { Sized t.old }
-    ensures value { result ≡ (revokeRegion closing left i (view t.old)).answer }
-    ensures left { Left t.new (revokeRegion closing left i (view t.old)).tables }
+    ensures value { result ≡ (revoke_region closing left i (view t.old)).answer }
+    ensures left { Left t.new (revoke_region closing left i (view t.old)).tables }
 {
     let mut n = left;
     while 0 < n {

@@ -3,19 +3,19 @@ use Rattle.std.specs.Prelude.{◌≡◌, refl, ℕ, eqb}
 use Rattle.base.specs.Cases.{pick}
 use Rattle.tables.specs.declared.Handle.{Handle}
 use Rattle.tables.specs.Kinds.{REGION_REVOKE, ROOT}
-use Rattle.tables.specs.Tables.{Tables, regionAt}
-use Rattle.refusals.specs.Refusals.{isRoot}
+use Rattle.tables.specs.Tables.{Tables, region_at}
+use Rattle.refusals.specs.Refusals.{is_root}
 use Rattle.answers.specs.Answers.{Effect, refused, and_then}
 use Rattle.domain.specs.Activate.{reserve, insert}
-use Rattle.checks.specs.Checks.{liveDomain, liveRegion, regionHeld, capaOf}
-use Rattle.revoke_calls.specs.Calls.{revokeUnlessRoot, createRevokeCapa}
+use Rattle.checks.specs.Checks.{live_domain, live_region, region_held, capa_of}
+use Rattle.revoke_calls.specs.Calls.{revoke_unless_root, create_revoke_capa}
 
-unfoldable pub revokedHeld : Handle → Tables → Effect
-revokedHeld h s = and_then (liveRegion h s) revokeUnlessRoot
+unfoldable pub revoked_held : Handle → Tables → Effect
+revoked_held h s = and_then (live_region h s) revoke_unless_root
 
 unfoldable pub revoker : ℕ → ℕ → Tables → Effect
-revoker d i s = pick (eqb (regionAt s i).kind ROOT) (refused isRoot s) (and_then (reserve d s) (λ v s₁. insert d (capaOf REGION_REVOKE s₁.regionPool i) s₁))
+revoker d i s = pick (eqb (region_at s i).kind ROOT) (refused is_root s) (and_then (reserve d s) (λ v s₁. insert d (capa_of REGION_REVOKE s₁.region_pool i) s₁))
 
-pub revoker-is : (h : Handle) (l : ℕ) (s : Tables) → createRevokeCapa h l s ≡ and_then (liveDomain h s) (λ d s₁. and_then (regionHeld d l s₁) (revoker d))
-unfolding createRevokeCapa revoker
+pub revoker-is : (h : Handle) (l : ℕ) (s : Tables) → create_revoke_capa h l s ≡ and_then (live_domain h s) (λ d s₁. and_then (region_held d l s₁) (revoker d))
+unfolding create_revoke_capa revoker
 revoker-is h l s = refl

@@ -1,8 +1,8 @@
 // Capabilities revoked, and a capability to revoke.
 ghost use Rattle.std.specs.Prelude.{◌≡◌};
 ghost use Rattle.tables.specs.View.{view, Sized, Left};
-ghost use Rattle.revoke_calls.specs.Calls.{revokeUnlessRoot, revokeCapa, revokeLocal, createRevokeCapa};
-ghost use Rattle.revoke_calls.specs.Parts.{revokedHeld, revoker};
+ghost use Rattle.revoke_calls.specs.Calls.{revoke_unless_root, revoke_capa, revoke_local, create_revoke_capa};
+ghost use Rattle.revoke_calls.specs.Parts.{revoked_held, revoker};
 
 use answers::Answer;
 use refusals::Refusal;
@@ -11,8 +11,8 @@ use tables::{Handle, RegionCapa, Slot};
 // 9.
 fn revoke_unless_root(t: &mut [u64], i: usize) -> Answer
     requires { Sized t.old }
-    ensures value { result ≡ (revokeUnlessRoot i (view t.old)).answer }
-    ensures left { Left t.new (revokeUnlessRoot i (view t.old)).tables }
+    ensures value { result ≡ (revoke_unless_root i (view t.old)).answer }
+    ensures left { Left t.new (revoke_unless_root i (view t.old)).tables }
 {
     let g = region_rows::load_region(t, i);
     if g.kind == RegionCapa::ROOT {
@@ -24,8 +24,8 @@ fn revoke_unless_root(t: &mut [u64], i: usize) -> Answer
 // 6, 9: what a Region capability names.
 fn revoke_held(t: &mut [u64], h: Handle) -> Answer
     requires { Sized t.old }
-    ensures value { result ≡ (revokedHeld h (view t.old)).answer }
-    ensures left { Left t.new (revokedHeld h (view t.old)).tables }
+    ensures value { result ≡ (revoked_held h (view t.old)).answer }
+    ensures left { Left t.new (revoked_held h (view t.old)).tables }
 {
     match checks::live_region(t, h) {
         Answer::Done(i) => revoke_unless_root(t, i as usize),
@@ -36,8 +36,8 @@ fn revoke_held(t: &mut [u64], h: Handle) -> Answer
 // 4, 3, 22, 23, 6, 9; a RegionRevoke of a dead region succeeds.
 fn revoke_capa(t: &mut [u64], x: Slot) -> Answer
     requires { Sized t.old }
-    ensures value { result ≡ (revokeCapa x (view t.old)).answer }
-    ensures left { Left t.new (revokeCapa x (view t.old)).tables }
+    ensures value { result ≡ (revoke_capa x (view t.old)).answer }
+    ensures left { Left t.new (revoke_capa x (view t.old)).tables }
 {
     let handle = x.handle;
     if x.kind == Slot::FREE {
@@ -61,8 +61,8 @@ fn revoke_capa(t: &mut [u64], x: Slot) -> Answer
 // The capability's slot becomes None, and is in use until a sweep.
 pub fn revoke(t: &mut [u64], h: Handle, l: usize) -> Answer
     requires { Sized t.old }
-    ensures value { result ≡ (revokeLocal h l (view t.old)).answer }
-    ensures left { Left t.new (revokeLocal h l (view t.old)).tables }
+    ensures value { result ≡ (revoke_local h l (view t.old)).answer }
+    ensures left { Left t.new (revoke_local h l (view t.old)).tables }
 {
     match checks::live_domain(t, h) {
         Answer::Done(d) => {
@@ -107,8 +107,8 @@ fn add_revoker(t: &mut [u64], d: usize, i: u64) -> Answer
 
 pub fn create_revoke_capa(t: &mut [u64], h: Handle, l: usize) -> Answer
     requires { Sized t.old }
-    ensures value { result ≡ (createRevokeCapa h l (view t.old)).answer }
-    ensures left { Left t.new (createRevokeCapa h l (view t.old)).tables }
+    ensures value { result ≡ (create_revoke_capa h l (view t.old)).answer }
+    ensures left { Left t.new (create_revoke_capa h l (view t.old)).tables }
 {
     match checks::live_domain(t, h) {
         Answer::Done(d) => match checks::region_held(t, d as usize, l) {

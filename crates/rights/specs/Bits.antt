@@ -8,7 +8,7 @@ use Rattle.std.proofs.lemmas.Nat.{and_shr, and_mod, or_shr, or_mod}
 use Rattle.std.proofs.Math.Dec.{eqb-zero-suc, eqb-suc-zero, eqb-suc-suc}
 use Rattle.std.specs.Float.Ieee.Fits.{eq→eqb}
 use Rattle.rights.specs.Rights.{has}
-use Rattle.rights.specs.Counters.{oneIf}
+use Rattle.rights.specs.Counters.{one_if}
 
 -- Is bit k set?
 abbrev pub bit : ℕ → ℕ → Bool
@@ -38,8 +38,8 @@ pub bit-and : (k a b : ℕ) → bit k (bit_and a b) ≡ (bit k a && bit k b)
 bit-and k a b = rw (and_shr a b k, and_mod (a / 2 ^ k) (b / 2 ^ k) 1) (and-lowest (a / 2 ^ k) (b / 2 ^ k))
 
 -- A bit as a number is the binary digit.
-pub bit-digit : (k a : ℕ) → oneIf (bit k a) ≡ a / 2 ^ k % 2
-bit-digit k a = lowest (λ x. oneIf (eqb x 1) ≡ x) refl refl (a / 2 ^ k)
+pub bit-digit : (k a : ℕ) → one_if (bit k a) ≡ a / 2 ^ k % 2
+bit-digit k a = lowest (λ x. one_if (eqb x 1) ≡ x) refl refl (a / 2 ^ k)
 
 bit-suc : (k a : ℕ) → bit (suc k) a ≡ bit k (a / 2)
 bit-suc k a = rw (← one-add k, ← shr-shr a 1 k)
@@ -63,7 +63,7 @@ same-below : (n a b : ℕ) → a ≤ n → b ≤ n → ((k : ℕ) → bit k a �
 same-below zero a b p q h = omega arith
 same-below (suc n) a b p q h =
     let halves = same-below n (a / 2) (b / 2) (half_le p) (half_le q) (λ k. sym (bit-suc k a) ∙ h (suc k) ∙ bit-suc k b) in
-    let lows : a / 1 % 2 ≡ b / 1 % 2 = sym (bit-digit 0 a) ∙ ap oneIf (h 0) ∙ bit-digit 0 b in
+    let lows : a / 1 % 2 ≡ b / 1 % 2 = sym (bit-digit 0 a) ∙ ap one_if (h 0) ∙ bit-digit 0 b in
     omega arith
 
 pub same_bits : (a b : ℕ) → ((k : ℕ) → bit k a ≡ bit k b) → a ≡ b

@@ -4,8 +4,8 @@ use Rattle.std.proofs.Common.{sym, ap, ◌∙◌, subst, eqb→eq}
 use Rattle.std.specs.Int.Bits.{bit_and}
 use Rattle.std.proofs.Math.Dec.{eqb_refl}
 use Rattle.std.specs.Float.Ieee.Fits.{and_l, eq→eqb}
-use Rattle.rights.specs.Rights.{READ, WRITE, EXEC, SUPER, HASH, CLEANUP, VITAL, UNCACHEABLE, union, contains, withExtras, allowed}
-use Rattle.rights.specs.Counters.{intersects, oneIf}
+use Rattle.rights.specs.Rights.{READ, WRITE, EXEC, SUPER, HASH, CLEANUP, VITAL, UNCACHEABLE, union, contains, with_extras, allowed}
+use Rattle.rights.specs.Counters.{intersects, one_if}
 use Rattle.rights.specs.Bits.{bit-or, bit-and, bit-digit, bit-power, same_bits, some-bit, bit}
 
 -- The flags are the bits 0 to 7.
@@ -36,14 +36,14 @@ intersects-bits a b = (
   λ w. (some-bit (bit_and a b)).1 (w.0, subst T (sym (bit-and w.0 a b)) w.1),
 )
 
-extras-bits : (k p : ℕ) → bit k (withExtras p) ≡ (bit k p || eqb k 4 || eqb k 5 || eqb k 6)
+extras-bits : (k p : ℕ) → bit k (with_extras p) ≡ (bit k p || eqb k 4 || eqb k 5 || eqb k 6)
 extras-bits k p = simp (bit-union, bit-power k 4, bit-power k 5, bit-power k 6)
 
 -- A child's rights are allowed exactly if each bit is the parent's, or is bit 4, 5 or 6: HASH, CLEANUP or VITAL.
 pub allowed-bits : (p c : ℕ) → T (allowed p c) ↔ ((k : ℕ) → T (bit k c) → T (bit k p || eqb k 4 || eqb k 5 || eqb k 6))
 allowed-bits p c = (
-  λ t k u. subst T (extras-bits k p) ((contains-bits (withExtras p) c).0 t k u),
-  λ h. (contains-bits (withExtras p) c).1 (λ k u. subst T (sym (extras-bits k p)) (h k u)),
+  λ t k u. subst T (extras-bits k p) ((contains-bits (with_extras p) c).0 t k u),
+  λ h. (contains-bits (with_extras p) c).1 (λ k u. subst T (sym (extras-bits k p)) (h k u)),
 )
 
 same_test : (x y : Bool) → (T x → T y) → (T y → T x) → x ≡ y
@@ -60,5 +60,5 @@ contains-flag k word =
     (λ t. (contains-bits word (2 ^ k)).1 (λ j u. rw (eqb→eq j k (subst T (bit-power j k) u)) t))
 
 -- A counter is its flag's binary digit.
-pub count-flag : (k word : ℕ) → oneIf (contains word (2 ^ k)) ≡ word / 2 ^ k % 2
-count-flag k word = ap oneIf (contains-flag k word) ∙ bit-digit k word
+pub count-flag : (k word : ℕ) → one_if (contains word (2 ^ k)) ≡ word / 2 ^ k % 2
+count-flag k word = ap one_if (contains-flag k word) ∙ bit-digit k word

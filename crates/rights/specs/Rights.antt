@@ -41,9 +41,9 @@ abbrev pub contains : ℕ → ℕ → Bool
 contains a b = eqb (bit_and a b) b
 
 -- The most rights that a child may have: its parent's plus HASH, CLEANUP, VITAL (**Alias**).
-abbrev pub withExtras : ℕ → ℕ
-withExtras parent = union (union (union parent HASH) CLEANUP) VITAL
+abbrev pub with_extras : ℕ → ℕ
+with_extras parent = union (union (union parent HASH) CLEANUP) VITAL
 
 -- The rule for a child's rights (**Alias**; `check_ops` of segment.rs).
 abbrev pub allowed : ℕ → ℕ → Bool
-allowed parent child = contains (withExtras parent) child
+allowed parent child = contains (with_extras parent) child

@@ -1,13 +1,13 @@
 // The rights word (document 01, "The call, from the entry down"): eight flags in eight bits, and their tests.
 ghost use Rattle.std.specs.Prelude.{◌≡◌};
 ghost use Rattle.rights.specs.Rights.{union, contains, allowed};
-ghost use Rattle.rights.specs.Counters.{intersects, oneIf, countersOf};
+ghost use Rattle.rights.specs.Counters.{intersects, one_if, counters_of};
 
-#[derive(Drop)]
+#[derive(Clone, Copy)]
 pub struct Rights(pub u8);
 
 // The right counts and the uncacheable count of a record that a gain makes (document 01, **Tracker**): each is 0 or 1.
-#[derive(Drop)]
+#[derive(Clone, Copy)]
 pub struct Counters {
     pub read_count: u64,
     pub write_count: u64,
@@ -58,14 +58,14 @@ impl Rights {
 
     // 1 if this word contains the flag, else 0.
     fn count(self, flag: Rights) -> u64
-        ensures { result ≡ oneIf (contains self.0 flag.0) }
+        ensures { result ≡ one_if (contains self.0 flag.0) }
     {
         if self.contains(flag) { 1 } else { 0 }
     }
 
     // The counts of a record that a gain with these rights makes (**Tracker**).
     pub fn counters(self) -> Counters
-        ensures { result ≡ countersOf self.0 }
+        ensures { result ≡ counters_of self.0 }
     {
         Counters {
             read_count: self.count(Rights::READ),

@@ -1,11 +1,11 @@
 -- What the ring's functions do, as functions of records (document 01, "Update ring").
 use Rattle.std.specs.Prelude.{ℕ, ◌+◌, ◌-◌, ◌<◌, ◌≡◌, Bool, true, false, not, get_or, set, ltb, eqb}
 use Rattle.std.proofs.Common.{sym, ◌∙◌, ltb-true}
-use Rattle.sizes.specs.Limits.{mostUpdates}
+use Rattle.sizes.specs.Limits.{most_updates}
 use Rattle.base.specs.Cases.{pick}
 use Rattle.base.specs.Tests.{both, both_true}
 use Rattle.tables.specs.Kinds.{PERMISSION, CLEANUP}
-use Rattle.tables.specs.Tables.{noUpdate}
+use Rattle.tables.specs.Tables.{no_update}
 use Rattle.ring.specs.declared.Entry.{Entry}
 use Rattle.ring.specs.declared.Ring.{Ring}
 use Rattle.ring.specs.declared.PushOut.{PushOut}
@@ -13,17 +13,17 @@ use Rattle.ring.specs.declared.PopOut.{PopOut}
 
 -- the places of the largest ring
 abbrev pub cap : ℕ
-cap = mostUpdates + 1
+cap = most_updates + 1
 
-abbrev pub noEntry : Entry
-noEntry = record { update = noUpdate; marks = 0 }
+abbrev pub no_entry : Entry
+no_entry = record { update = no_update; marks = 0 }
 
 -- domain d of generation g with core map c and marks m
-abbrev pub permissionOf : ℕ → ℕ → ℕ → ℕ → Entry
-permissionOf d g c m = record { update = record { kind = PERMISSION; a = d; b = g; c = c }; marks = m }
+abbrev pub permission_of : ℕ → ℕ → ℕ → ℕ → Entry
+permission_of d g c m = record { update = record { kind = PERMISSION; a = d; b = g; c = c }; marks = m }
 
-abbrev pub cleanupOf : ℕ → ℕ → Entry
-cleanupOf s e = record { update = record { kind = CLEANUP; a = s; b = e; c = 0 }; marks = 0 }
+abbrev pub cleanup_of : ℕ → ℕ → Entry
+cleanup_of s e = record { update = record { kind = CLEANUP; a = s; b = e; c = 0 }; marks = 0 }
 
 -- the place after i in a ring of n places
 unfoldable pub after_of : ℕ → ℕ → ℕ
@@ -36,23 +36,23 @@ abbrev pub put_in : Ring → Entry → Ring
 put_in r e = record { places = set r.places r.write e; read = r.read; write = after_of r.write r.size; size = r.size }
 
 -- the ring is full where the place after the write place is the read place
-abbrev pub roomB : Ring → Bool
-roomB r = both (not (eqb (after_of r.write r.size) r.read)) (ltb r.write cap)
+abbrev pub room_b : Ring → Bool
+room_b r = both (not (eqb (after_of r.write r.size) r.read)) (ltb r.write cap)
 
-unfoldable pub pushOf : Ring → Entry → PushOut
-pushOf r e = pick (roomB r) (record { ok = true; ring = put_in r e }) (record { ok = false; ring = r })
+unfoldable pub push_of : Ring → Entry → PushOut
+push_of r e = pick (room_b r) (record { ok = true; ring = put_in r e }) (record { ok = false; ring = r })
 
 -- the read place is cleared, and moves on
-abbrev pub takeOut : Ring → Ring
-takeOut r = record { places = set r.places r.read noEntry; read = after_of r.read r.size; write = r.write; size = r.size }
+abbrev pub take_out : Ring → Ring
+take_out r = record { places = set r.places r.read no_entry; read = after_of r.read r.size; write = r.write; size = r.size }
 
-abbrev pub someB : Ring → Bool
-someB r = both (not (eqb r.read r.write)) (ltb r.read cap)
+abbrev pub some_b : Ring → Bool
+some_b r = both (not (eqb r.read r.write)) (ltb r.read cap)
 
 unfoldable pub pop_of : Ring → PopOut
 pop_of r =
-    pick (someB r) (record { item = record { got = true; entry = get_or r.places r.read noEntry }; ring = takeOut r })
-    (record { item = record { got = false; entry = noEntry }; ring = r })
+    pick (some_b r) (record { item = record { got = true; entry = get_or r.places r.read no_entry }; ring = take_out r })
+    (record { item = record { got = false; entry = no_entry }; ring = r })
 
 -- a place that passed the test lies in the array
 pub inside : (m n i : ℕ) (b : Bool) → b ≡ both (not (eqb m n)) (ltb i cap) → b ≡ true → i < cap

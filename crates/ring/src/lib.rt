@@ -1,6 +1,6 @@
 // The update ring (document 01, "Update ring"), by value: each function gives the ring that it leaves. What goes by a search is crate `ring_search`'s.
 ghost use Rattle.std.specs.Prelude.{◌≡◌};
-ghost use Rattle.ring.specs.Ring.{noEntry, permissionOf, cleanupOf, after_of, pushOf, pop_of};
+ghost use Rattle.ring.specs.Ring.{no_entry, permission_of, cleanup_of, after_of, push_of, pop_of};
 
 use sizes::MOST_UPDATES;
 use tables::Update;
@@ -9,14 +9,14 @@ use tables::Update;
 pub const PLACES: usize = MOST_UPDATES + 1;
 
 // What stands in a place: an update, and the marks of the domain that it queues (document 02, request 4).
-#[derive(Drop)]
+#[derive(Clone, Copy)]
 pub struct Entry {
     pub update: Update,
     pub marks: u64,
 }
 
 // `size` places are in use, one more than the ring can hold; those past them are nothing.
-#[derive(Drop)]
+#[derive(Clone, Copy)]
 pub struct Ring {
     pub places: [Entry; PLACES],
     pub read: usize,
@@ -25,27 +25,27 @@ pub struct Ring {
 }
 
 // A ring that was pushed to. Where `ok` is false it was full, 14 RingFull, and it is as it was.
-#[derive(Drop)]
+#[derive(Clone, Copy)]
 pub struct PushOut {
     pub ok: bool,
     pub ring: Ring,
 }
 
 // What a pop gives: nothing where `got` is false.
-#[derive(Drop)]
+#[derive(Clone, Copy)]
 pub struct Item {
     pub got: bool,
     pub entry: Entry,
 }
 
-#[derive(Drop)]
+#[derive(Clone, Copy)]
 pub struct PopOut {
     pub item: Item,
     pub ring: Ring,
 }
 
 pub fn no_entry() -> Entry
-    ensures { result ≡ noEntry }
+    ensures { result ≡ no_entry }
 {
     Entry {
         update: tables::no_update(),
@@ -54,7 +54,7 @@ pub fn no_entry() -> Entry
 }
 
 pub fn permission(slot: u64, generation: u64, cores: u64, marks: u64) -> Entry
-    ensures { result ≡ permissionOf slot generation cores marks }
+    ensures { result ≡ permission_of slot generation cores marks }
 {
     let update = Update {
         kind: Update::PERMISSION,
@@ -66,7 +66,7 @@ pub fn permission(slot: u64, generation: u64, cores: u64, marks: u64) -> Entry
 }
 
 pub fn cleanup(start: u64, end: u64) -> Entry
-    ensures { result ≡ cleanupOf start end }
+    ensures { result ≡ cleanup_of start end }
 {
     let update = Update {
         kind: Update::CLEANUP,
@@ -92,7 +92,7 @@ pub fn after(i: usize, size: usize) -> usize
 
 // The ring is full where the place after the write place is the read place.
 pub fn pushed(ring: Ring, e: Entry) -> PushOut
-    ensures { result ≡ pushOf ring e }
+    ensures { result ≡ push_of ring e }
 {
     let write = ring.write;
     let next = after(write, ring.size);

@@ -1,24 +1,24 @@
 // The update ring: its places, their marks, and the two that the header names.
 ghost use Rattle.std.specs.Prelude.{◌≡◌, length};
-ghost use Rattle.sizes.specs.Sizes.{updateWidth};
-ghost use Rattle.tables.specs.Tables.{updateAt, markAt, withUpdate, withMark, withPlaces};
-ghost use Rattle.tables.specs.View.{view, Sized, Left, updateOf};
-ghost use Rattle.tables.specs.Accessors.{updatePlace, markPlace};
+ghost use Rattle.sizes.specs.Sizes.{update_width};
+ghost use Rattle.tables.specs.Tables.{update_at, mark_at, with_update, with_mark, with_places};
+ghost use Rattle.tables.specs.View.{view, Sized, Left, update_of};
+ghost use Rattle.tables.specs.Accessors.{update_place, mark_place};
 
 use sizes::{MARK_WIDTH, UPDATE_WIDTH};
 use tables::Update;
 
 fn update_at(t: &[u64], i: usize) -> usize
     requires { Sized t.now }
-    ensures { result ≡ updatePlace t.now i }
+    ensures { result ≡ update_place t.now i }
 {
     let z = sizes::read_sizes(t);
     tables::rows::row_at(t, sizes::ring_at(z), z.updates + 1, UPDATE_WIDTH, i)
 }
 
 fn update_of(p: &[u64]) -> Update
-    requires { length p.now ≡ updateWidth }
-    ensures { result ≡ updateOf p.now }
+    requires { length p.now ≡ update_width }
+    ensures { result ≡ update_of p.now }
 {
     Update {
         kind: p[0],
@@ -30,7 +30,7 @@ fn update_of(p: &[u64]) -> Update
 
 pub fn load_update(t: &[u64], i: usize) -> Update
     requires { Sized t.now }
-    ensures { result ≡ updateAt (view t.now) i }
+    ensures { result ≡ update_at (view t.now) i }
 {
     let p = words::run(t, update_at(t, i), UPDATE_WIDTH);
     if p.len() == UPDATE_WIDTH {
@@ -42,7 +42,7 @@ pub fn load_update(t: &[u64], i: usize) -> Update
 
 pub fn store_update(t: &mut [u64], i: usize, u: Update)
     requires { Sized t.old }
-    ensures { Left t.new (withUpdate (view t.old) i u) }
+    ensures { Left t.new (with_update (view t.old) i u) }
 {
     let a = update_at(t, i);
     words::store(t, a, &[u.kind, u.a, u.b, u.c]);
@@ -50,7 +50,7 @@ pub fn store_update(t: &mut [u64], i: usize, u: Update)
 
 fn mark_at(t: &[u64], i: usize) -> usize
     requires { Sized t.now }
-    ensures { result ≡ markPlace t.now i }
+    ensures { result ≡ mark_place t.now i }
 {
     let z = sizes::read_sizes(t);
     tables::rows::row_at(t, sizes::marks_at(z), z.updates + 1, MARK_WIDTH, i)
@@ -58,14 +58,14 @@ fn mark_at(t: &[u64], i: usize) -> usize
 
 pub fn load_mark(t: &[u64], i: usize) -> u64
     requires { Sized t.now }
-    ensures { result ≡ markAt (view t.now) i }
+    ensures { result ≡ mark_at (view t.now) i }
 {
     words::word(t, mark_at(t, i))
 }
 
 pub fn store_mark(t: &mut [u64], i: usize, m: u64)
     requires { Sized t.old }
-    ensures { Left t.new (withMark (view t.old) i m) }
+    ensures { Left t.new (with_mark (view t.old) i m) }
 {
     let a = mark_at(t, i);
     words::put(t, a, m);
@@ -85,7 +85,7 @@ pub fn write_place(t: &[u64]) -> u64
 
 pub fn set_places(t: &mut [u64], read: u64, write: u64)
     requires { Sized t.old }
-    ensures { Left t.new (withPlaces (view t.old) read write) }
+    ensures { Left t.new (with_places (view t.old) read write) }
 {
     words::store(t, sizes::READ, &[read, write]);
 }

@@ -1,6 +1,6 @@
 // The search for a domain in the update ring (document 01, "Update ring"), and a domain queued: one that is there already gathers marks, another is pushed.
 ghost use Rattle.std.specs.Prelude.{◌≡◌};
-ghost use Rattle.ring_search.specs.Queueing.{names_of, place_of, queueOf};
+ghost use Rattle.ring_search.specs.Queueing.{names_of, place_of, queue_of};
 
 use ring::{Entry, PLACES, PushOut, Ring};
 use tables::Update;
@@ -43,7 +43,7 @@ pub fn place_of(ring: Ring, slot: u64, generation: u64) -> usize
 // Queues the domain with its core map and marks. Where it is queued already, the marks join those that it has, and nothing else
 // changes: no room is asked.
 pub fn queued(ring: Ring, slot: u64, generation: u64, cores: u64, marks: u64) -> PushOut
-    ensures { result ≡ queueOf ring slot generation cores marks }
+    ensures { result ≡ queue_of ring slot generation cores marks }
 {
     let at = place_of(ring, slot, generation);
     if words::both(at != ring.write, at < PLACES) {

@@ -3,7 +3,7 @@ use Rattle.std.specs.Prelude.{◌≡◌, refl, ℕ, List, [], ◌∷◌, ◌++�
 use Rattle.std.proofs.Common.{sym, ap, subst, ◌∙◌}
 use Rattle.std.proofs.lemmas.List.{length-replicate}
 use Rattle.model.specs.State.{State}
-use Rattle.model.specs.Layout.{words, lengthFor}
+use Rattle.model.specs.Layout.{words, length_for}
 use Rattle.model.specs.Perform.{Call, Answer, step, run}
 use Rattle.model.specs.CallWords.{CallWords}
 use Rattle.model.specs.Memory.{Lent, NotMake, After, performed, zeroed}
@@ -29,7 +29,7 @@ lent-on s c t w n k l =
     record {
       sound = h;
       tables = refl;
-      work = length-replicate (length w) 0 ∙ l.work ∙ ap length l.tables ∙ words-length s l.sound ∙ ap lengthFor (sym (step_kept s c n).sizes) ∙ sym (words-length (step s c).1 h);
+      work = length-replicate (length w) 0 ∙ l.work ∙ ap length l.tables ∙ words-length s l.sound ∙ ap length_for (sym (step_kept s c n).sizes) ∙ sym (words-length (step s c).1 h);
     }
 
 pub led-end : (s : State) (cs : List Call) (t w : List ℕ) → Lent t w (run s cs).1 → (c : Call) → NotMake c → CallWords c → (y : Answer) (t₂ w₂ : List ℕ) → After t w c y t₂ w₂ → Lent t₂ w₂ (run s (cs ++ c ∷ [])).1

@@ -19,10 +19,10 @@ tag Short = 0
 tag Bad = 1
 tag (Done y) = 2
 
-abbrev sizeIn : Taken → ℕ
-sizeIn Short = 0
-sizeIn Bad = 0
-sizeIn (Done y) = y.size
+abbrev size_in : Taken → ℕ
+size_in Short = 0
+size_in Bad = 0
+size_in (Done y) = y.size
 
 -- The record that was run.
 pub record WasRun (b t w : List ℕ) (y : Ran) (t₂ w₂ : List ℕ) : Type 0 where
@@ -42,7 +42,7 @@ module _ (b t w t₂ w₂ : List ℕ) (x : Taken) where
   run_by : (y : Ran) → x ≡ Done y → (p : Parsed) → parsed b ≡ p → Takes p t w x t₂ w₂ → WasRun b t w y t₂ w₂
   run_by y e found.Short q h = absurd (omega (arith, ap tag (sym e ∙ h.taken)))
   run_by y e found.Bad q h = absurd (omega (arith, ap tag (sym e ∙ h.taken)))
-  run_by y e (found.Call r) q h = record { r = r; answer = h.returns.answer; stood = q; size = ap sizeIn (sym e ∙ h.taken); after = h.returns.after }
+  run_by y e (found.Call r) q h = record { r = r; answer = h.returns.answer; stood = q; size = ap size_in (sym e ∙ h.taken); after = h.returns.after }
 
   short-by : x ≡ Short → (p : Parsed) → parsed b ≡ p → Takes p t w x t₂ w₂ → NotRun found.Short b t w t₂ w₂
   short-by e found.Short q h = record { stood = q; tables = h.tables; work = h.work }

@@ -2,9 +2,9 @@
 use Rattle.std.specs.Prelude.{◌≡◌, refl, ℕ, List, T, length}
 use Rattle.std.proofs.Common.{sym, ap, subst, ◌∙◌}
 use Rattle.std.proofs.Math.Option.{Option, none, some}
-use Rattle.model.specs.State.{Sizes, noOptions}
-use Rattle.model.specs.Making.{goodSizes}
-use Rattle.model.specs.Layout.{lengthFor}
+use Rattle.model.specs.State.{Sizes, no_options}
+use Rattle.model.specs.Making.{good_sizes}
+use Rattle.model.specs.Layout.{length_for}
 use Rattle.model.specs.Perform.{Step, Call, Answer}
 use Rattle.model.specs.CallWords.{CallWords}
 use Rattle.model.specs.Memory.{After}
@@ -12,14 +12,14 @@ use Rattle.tables.specs.View.{Sized}
 use Rattle.decoded.specs.Words.{words-sized}
 use Rattle.book.specs.Book.{blank}
 use Rattle.replies.specs.declared.Reply.{Reply}
-use Rattle.replies.specs.Replies.{replyOf, Returns}
+use Rattle.replies.specs.Replies.{reply_of, Returns}
 use Rattle.promise.specs.Reached.{Leads, Reached, reached-claims, reached-made, leads-none, step-leads, pop-leads}
 use Rattle.script_records.specs.declared.Record.{Record}
 use Rattle.script_records.specs.declared.Parsed.{Parsed}
 use Rattle.script_records.specs.declared.Parsed.TheVariants as found
-use Rattle.script_records.specs.Script.{Kind, opening, root, alias, carve, send, revoke, makeRevoke, kind_of, managerOf}
-use Rattle.script_records.specs.Parsed.{handleIn, accessIn, callFor, call_in, parsed}
-use Rattle.bytes.specs.Numbers.{Bytes}
+use Rattle.script_records.specs.Script.{Kind, opening, root, alias, carve, send, revoke, make_revoke, kind_of, manager_of}
+use Rattle.script_records.specs.Parsed.{handle_in, access_in, call_for, call_in, parsed}
+use Rattle.byte_numbers.specs.Numbers.{Bytes}
 use Rattle.script_records.specs.Words.{call-words}
 use Rattle.running.specs.declared.scripts.Taken.{Taken}
 use Rattle.running.specs.Takes.{Takes}
@@ -29,15 +29,15 @@ use Rattle.running.specs.Made.{Makes, makes}
 -- ---- a record
 
 module _ {t w : List ℕ} {a : Answer} {t₂ w₂ : List ℕ} where
-  kind-leads : (k : Option Kind) (r : Record) → CallWords (callFor k r) → After t w (callFor k r) a t₂ w₂ → Leads t t₂
+  kind-leads : (k : Option Kind) (r : Record) → CallWords (call_for k r) → After t w (call_for k r) a t₂ w₂ → Leads t t₂
   kind-leads none r u h = pop-leads h
-  kind-leads (some opening) r u h = step-leads (Step.Open (managerOf r.a r.b) r.c) u h
-  kind-leads (some root) r u h = step-leads (Step.Root (handleIn r) (accessIn r.c r.d r.e)) u h
-  kind-leads (some alias) r u h = step-leads (Step.Alias (handleIn r) r.c (accessIn r.d r.e r.f)) u h
-  kind-leads (some carve) r u h = step-leads (Step.Carve (handleIn r) r.c (accessIn r.d r.e r.f)) u h
-  kind-leads (some send) r u h = step-leads (Step.Send (handleIn r) r.c r.d noOptions) u h
-  kind-leads (some revoke) r u h = step-leads (Step.Revoke (handleIn r) r.c) u h
-  kind-leads (some makeRevoke) r u h = step-leads (Step.CreateRevokeCapa (handleIn r) r.c) u h
+  kind-leads (some opening) r u h = step-leads (Step.Open (manager_of r.a r.b) r.c) u h
+  kind-leads (some root) r u h = step-leads (Step.Root (handle_in r) (access_in r.c r.d r.e)) u h
+  kind-leads (some alias) r u h = step-leads (Step.Alias (handle_in r) r.c (access_in r.d r.e r.f)) u h
+  kind-leads (some carve) r u h = step-leads (Step.Carve (handle_in r) r.c (access_in r.d r.e r.f)) u h
+  kind-leads (some send) r u h = step-leads (Step.Send (handle_in r) r.c r.d no_options) u h
+  kind-leads (some revoke) r u h = step-leads (Step.Revoke (handle_in r) r.c) u h
+  kind-leads (some make_revoke) r u h = step-leads (Step.CreateRevokeCapa (handle_in r) r.c) u h
 
   record-leads : (r : Record) → CallWords (call_in r) → After t w (call_in r) a t₂ w₂ → Leads t t₂
   unfolding call_in
@@ -58,12 +58,12 @@ module _ (b t w t₂ w₂ : List ℕ) (x : Taken) (known : Bytes b) where
 
 -- ---- the making
 
-accepted : (t w : List ℕ) (z : Sizes) (y : Answer) (t₁ w₁ : List ℕ) → Fit t w z → Makes t w z y t₁ w₁ → (replyOf y).refusal ≡ 0
+accepted : (t w : List ℕ) (z : Sizes) (y : Answer) (t₁ w₁ : List ℕ) → Fit t w z → Makes t w z y t₁ w₁ → (reply_of y).refusal ≡ 0
 accepted t w z y t₁ w₁ f (Makes.fits g) = refl
 accepted t w z y t₁ w₁ f (Makes.unfit g) = absurd (g f)
 
 -- Sizes within their limits and memory of the right lengths: the making is accepted.
-pub made-reached : {t w : List ℕ} {z : Sizes} {r : Reply} {t₁ w₁ : List ℕ} → T (goodSizes z) → length t ≡ lengthFor z → length w ≡ lengthFor z → Returns replyOf t w (Call.Make z) r t₁ w₁ → Reached z t₁
+pub made-reached : {t w : List ℕ} {z : Sizes} {r : Reply} {t₁ w₁ : List ℕ} → T (good_sizes z) → length t ≡ length_for z → length w ≡ length_for z → Returns reply_of t w (Call.Make z) r t₁ w₁ → Reached z t₁
 made-reached {t} {w} {z} {t₁ = t₁} {w₁ = w₁} g e k h = reached-made h (ap (λ (x : Reply). x.refusal) h.reply ∙ accepted t w z h.answer t₁ w₁ (record { tables = e; work = k }) (makes t w z h.answer t₁ w₁ g h.after))
 
 -- ---- reached tables

@@ -3,17 +3,17 @@ use Rattle.std.specs.Prelude.{◌≡◌, refl, ℕ, ◌+◌, ◌-◌, ◌≤◌,
 use Rattle.std.proofs.Common.{sym, ap, subst, ◌∙◌, append-nil, append_assoc, arith, length-append, length-drop, drop_of_length-le, take_all, drop-drop, get_or-drop}
 use Rattle.std.proofs.Math.Option.{Option, none, some}
 use Rattle.std.proofs.lemmas.List.{length-replicate}
-use Rattle.refusals.specs.Refusals.{number, badRecord}
+use Rattle.refusals.specs.Refusals.{number, bad_record}
 use Rattle.model.specs.Lists.{Each, if◌then◌else◌}
 use Rattle.model.specs.Perform.{Call, Answer, run}
 use Rattle.model.specs.CallWords.{CallWords}
 use Rattle.model.specs.State.{State}
-use Rattle.model.specs.Memory.{Lent, NotMake, After, made, notSound, performed, zeroed}
+use Rattle.model.specs.Memory.{Lent, NotMake, After, made, not_sound, performed, zeroed}
 use Rattle.script_records.specs.declared.Record.{Record}
 use Rattle.script_records.specs.declared.Parsed.TheVariants as found
-use Rattle.script_records.specs.Script.{Kind, opening, root, alias, carve, send, revoke, makeRevoke, kind_of, ahead, scriptCalls}
-use Rattle.script_records.specs.Parsed.{size_of, callFor, call_in, parsed}
-use Rattle.bytes.specs.Numbers.{Bytes}
+use Rattle.script_records.specs.Script.{Kind, opening, root, alias, carve, send, revoke, make_revoke, kind_of, ahead, script_calls}
+use Rattle.script_records.specs.Parsed.{size_of, call_for, call_in, parsed}
+use Rattle.byte_numbers.specs.Numbers.{Bytes}
 use Rattle.script_records.specs.Words.{call-size, call-words, bytes_drop}
 use Rattle.script_records.specs.Scripts.{script-ended}
 use Rattle.script_records.specs.Streams.{stream-call, stream-bad, stream-cut}
@@ -24,7 +24,7 @@ use Rattle.book.specs.Lent.{Chain}
 use Rattle.running.specs.Chains.{chain-end, each-end}
 use Rattle.running.specs.Led.{led-start, led-end}
 use Rattle.running.specs.Outcomes.{WasRun, NotRun}
-use Rattle.running.specs.RunScript.{scriptReply}
+use Rattle.running.specs.RunScript.{script_reply}
 use Rattle.running.specs.BetweenRecords.{followed, BetweenRecords, RunsAll}
 
 -- ---- bytes, and the work area
@@ -36,7 +36,7 @@ part-rest b at = take_all (length b - at) (drop at b) (omega (arith, length-drop
 -- every call leaves the work area all zero
 after-clear : (t w : List ℕ) (c : Call) (y : Answer) (t₂ w₂ : List ℕ) → After t w c y t₂ w₂ → w₂ ≡ zeroed w
 after-clear t w c y t₂ w₂ (made z) = refl
-after-clear t w c y t₂ w₂ (notSound d q n) = refl
+after-clear t w c y t₂ w₂ (not_sound d q n) = refl
 after-clear t w c y t₂ w₂ (performed d s q l) = refl
 
 zeroed-twice : (w : List ℕ) → zeroed (zeroed w) ≡ zeroed w
@@ -45,7 +45,7 @@ zeroed-twice w = ap (λ (n : ℕ). replicate n 0) (length-replicate (length w) 0
 -- ---- calls
 
 -- no record is a making
-kind-not-make : (k : Option Kind) (r : Record) → NotMake (callFor k r)
+kind-not-make : (k : Option Kind) (r : Record) → NotMake (call_for k r)
 kind-not-make none r = tt
 kind-not-make (some opening) r = tt
 kind-not-make (some root) r = tt
@@ -53,20 +53,20 @@ kind-not-make (some alias) r = tt
 kind-not-make (some carve) r = tt
 kind-not-make (some send) r = tt
 kind-not-make (some revoke) r = tt
-kind-not-make (some makeRevoke) r = tt
+kind-not-make (some make_revoke) r = tt
 
 not-make : (r : Record) → NotMake (call_in r)
 unfolding call_in
 not-make r = kind-not-make (kind_of r.kind) r
 
 -- the bytes of the script are all at hand
-call-first : (b : List ℕ) (r : Record) → parsed b ≡ found.Call r → scriptCalls b ≡ ahead (call_in r) (scriptCalls (drop (size_of r.kind) b))
+call-first : (b : List ℕ) (r : Record) → parsed b ≡ found.Call r → script_calls b ≡ ahead (call_in r) (script_calls (drop (size_of r.kind) b))
 call-first b r e =
-    ap scriptCalls (sym (append-nil b)) ∙ stream-call b [] r e
-    ∙ ap (λ (l : List ℕ). ahead (call_in r) (scriptCalls l)) (append-nil (drop (size_of r.kind) b))
+    ap script_calls (sym (append-nil b)) ∙ stream-call b [] r e
+    ∙ ap (λ (l : List ℕ). ahead (call_in r) (script_calls l)) (append-nil (drop (size_of r.kind) b))
 
-bad-first : (b : List ℕ) → parsed b ≡ found.Bad → scriptCalls b ≡ ([], true)
-bad-first b e = ap scriptCalls (sym (append-nil b)) ∙ stream-bad b [] e
+bad-first : (b : List ℕ) → parsed b ≡ found.Bad → script_calls b ≡ ([], true)
+bad-first b e = ap script_calls (sym (append-nil b)) ∙ stream-bad b [] e
 
 followed-one : (cs : List Call) (c : Call) (r : List Call × Bool) → followed cs (ahead c r) ≡ followed (cs ++ c ∷ []) r
 followed-one cs c r = ap (λ (l : List Call). (l, r.1)) (sym (append_assoc cs (c ∷ []) r.0))
@@ -79,30 +79,30 @@ module _ (b t₀ w₀ : List ℕ) where
 
   module _ (n at : ℕ) (t w : List ℕ) (h : BetweenRecords b t₀ w₀ n at t w) where
     -- what follows is the end, or a bad record
-    ended : (bad : Bool) → scriptCalls (drop at b) ≡ ([], bad) → RunsAll b t₀ w₀ (record { refusal = if bad then number badRecord else 0; value = n }) t w
+    ended : (bad : Bool) → script_calls (drop at b) ≡ ([], bad) → RunsAll b t₀ w₀ (record { refusal = if bad then number bad_record else 0; value = n }) t w
     ended bad e =
-        let q : scriptCalls b ≡ (h.calls, bad) = h.rest ∙ ap (followed h.calls) e ∙ ap (λ (l : List Call). (l, bad)) (append-nil h.calls) in
+        let q : script_calls b ≡ (h.calls, bad) = h.rest ∙ ap (followed h.calls) e ∙ ap (λ (l : List Call). (l, bad)) (append-nil h.calls) in
         record {
           answers = h.answers;
           chain = subst (λ (r : List Call × Bool). Chain t₀ r.0 h.answers t) (sym q) h.chain;
           led = λ s l. subst (λ (r : List Call × Bool). Lent t w (run s r.0).1) (sym q) (h.led s l);
           words = subst (λ (r : List Call × Bool). Each CallWords r.0) (sym q) h.words;
-          reply = ap (λ (m : ℕ). record { refusal = if bad then number badRecord else 0; value = m }) h.count ∙ ap scriptReply (sym q);
+          reply = ap (λ (m : ℕ). record { refusal = if bad then number bad_record else 0; value = m }) h.count ∙ ap script_reply (sym q);
           work = h.work;
         }
 
     pub half-ended : length b ≤ at → RunsAll b t₀ w₀ (record { refusal = 0; value = n }) t w
-    half-ended k = ended false (ap scriptCalls (drop_of_length-le b k) ∙ script-ended)
+    half-ended k = ended false (ap script_calls (drop_of_length-le b k) ∙ script-ended)
 
     -- p is at hand
     module _ (p : List ℕ) (e : p ≡ drop at b) (t₂ w₂ : List ℕ) where
-      pub half-short : at < length b → NotRun found.Short p t w t₂ w₂ → (r : Reply) → r ≡ record { refusal = number badRecord; value = n } → RunsAll b t₀ w₀ r t₂ w₂
+      pub half-short : at < length b → NotRun found.Short p t w t₂ w₂ → (r : Reply) → r ≡ record { refusal = number bad_record; value = n } → RunsAll b t₀ w₀ r t₂ w₂
       half-short k x r d =
           let m : 0 < length p = omega (arith, ap length e, length-drop at b) in
-          rw (d, x.tables, x.work) (ended true (ap scriptCalls (sym e) ∙ stream-cut p m x.stood))
+          rw (d, x.tables, x.work) (ended true (ap script_calls (sym e) ∙ stream-cut p m x.stood))
 
-      pub half-bad : NotRun found.Bad p t w t₂ w₂ → (r : Reply) → r ≡ record { refusal = number badRecord; value = n } → RunsAll b t₀ w₀ r t₂ w₂
-      half-bad x r d = rw (d, x.tables, x.work) (ended true (ap scriptCalls (sym e) ∙ bad-first p x.stood))
+      pub half-bad : NotRun found.Bad p t w t₂ w₂ → (r : Reply) → r ≡ record { refusal = number bad_record; value = n } → RunsAll b t₀ w₀ r t₂ w₂
+      half-bad x r d = rw (d, x.tables, x.work) (ended true (ap script_calls (sym e) ∙ bad-first p x.stood))
 
       half-next : Bytes b → (y : Ran) → WasRun p t w y t₂ w₂ → BetweenRecords b t₀ w₀ (n + 1) (at + y.size) t₂ w₂
       half-next known y x =
@@ -120,8 +120,8 @@ module _ (b t₀ w₀ : List ℕ) where
             led = λ i l. led-end i h.calls t w (h.led i l) c (not-make x.r) u x.answer t₂ w₂ x.after;
             words = each-end h.calls c h.words u;
             rest =
-                h.rest ∙ ap (λ (q : List ℕ). followed h.calls (scriptCalls q)) (sym e) ∙ ap (followed h.calls) (call-first p x.r x.stood)
-                ∙ followed-one h.calls c (scriptCalls (drop (size_of x.r.kind) p)) ∙ ap (λ (q : List ℕ). followed (h.calls ++ c ∷ []) (scriptCalls q)) m;
+                h.rest ∙ ap (λ (q : List ℕ). followed h.calls (script_calls q)) (sym e) ∙ ap (followed h.calls) (call-first p x.r x.stood)
+                ∙ followed-one h.calls c (script_calls (drop (size_of x.r.kind) p)) ∙ ap (λ (q : List ℕ). followed (h.calls ++ c ∷ []) (script_calls q)) m;
             count = omega (arith, h.count, length-append h.calls (c ∷ []));
             few = omega (arith, h.few);
             inside = omega arith;

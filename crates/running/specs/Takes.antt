@@ -6,14 +6,14 @@ use Rattle.script_records.specs.declared.Parsed.{Parsed}
 use Rattle.script_records.specs.declared.Parsed.TheVariants as parsed
 use Rattle.script_records.specs.Parsed.{size_of, call_in}
 use Rattle.replies.specs.declared.Reply.{Reply}
-use Rattle.replies.specs.Replies.{replyOf, Returns}
+use Rattle.replies.specs.Replies.{reply_of, Returns}
 use Rattle.running.specs.declared.scripts.Taken.{Taken}
 use Rattle.running.specs.declared.scripts.Taken.TheVariants.{Short, Bad, Done}
 
 -- The record r is run: its call returned `reply`, and its bytes are told.
 pub record Runs (r : Record) (t w : List ℕ) (x : Taken) (t' w' : List ℕ) : Type 0 where
   pub reply : Reply
-  pub returns : Returns replyOf t w (call_in r) reply t' w'
+  pub returns : Returns reply_of t w (call_in r) reply t' w'
   pub taken : x ≡ Done (record { reply = reply; size = size_of r.kind })
 
 -- Nothing is run, and the lent memory is as it was.
@@ -36,7 +36,7 @@ module _ (q p : Parsed) (found : p ≡ q) (t w : List ℕ) where
   pub left-bad : p ≡ parsed.Bad → Takes q t w Bad t w
   left-bad e = subst (λ (o : Parsed). Takes o t w Bad t w) (sym e ∙ found) (record { taken = refl; tables = refl; work = refl })
 
-  pub record-runs : (r : Record) → p ≡ parsed.Call r → (y : Reply) (t₂ w₂ : List ℕ) → Returns replyOf t w (call_in r) y t₂ w₂ → (n : ℕ) → n ≡ size_of r.kind
+  pub record-runs : (r : Record) → p ≡ parsed.Call r → (y : Reply) (t₂ w₂ : List ℕ) → Returns reply_of t w (call_in r) y t₂ w₂ → (n : ℕ) → n ≡ size_of r.kind
       → Takes q t w (Done (record { reply = y; size = n })) t₂ w₂
   record-runs r e y t₂ w₂ h n m =
       subst (λ (o : Parsed). Takes o t w (Done (record { reply = y; size = n })) t₂ w₂) (sym e ∙ found)

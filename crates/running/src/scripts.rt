@@ -10,7 +10,7 @@ use script_progress::{Place, Ran};
 use script_records::Parsed;
 
 // What became of the bytes at hand.
-#[derive(Drop)]
+#[derive(Clone, Copy)]
 pub enum Taken {
     // Part of a record that can still be a call: more bytes are needed.
     Short,

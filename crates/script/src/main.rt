@@ -6,18 +6,18 @@
 // write that failed, is seen in `hand_over` and `write` of crate output. That a read or a write that fails is said on standard error is tested
 // (tests/script).
 ghost use Rattle.std.specs.Prelude.{◌≡◌, ◌+◌, ◌≤◌, length};
-ghost use Rattle.model.specs.Lists.{atSlot};
+ghost use Rattle.model.specs.Lists.{at_slot};
 ghost use Rattle.model.specs.State.{State};
-ghost use Rattle.model.specs.Making.{scriptSizes};
+ghost use Rattle.model.specs.Making.{script_sizes};
 ghost use Rattle.model.specs.Memory.{Lent};
 ghost use Rattle.tables.specs.View.{Sized};
 ghost use Rattle.promise.specs.Reached.{Leads};
 ghost use Rattle.script_records.specs.Parsed.{parsed};
-ghost use Rattle.listing.specs.Lines.{slotLines, domainLines};
+ghost use Rattle.listing.specs.Lines.{slot_lines, domain_lines};
 ghost use Rattle.running.specs.RunScript.{ScriptTables, Fit};
-ghost use Rattle.output.specs.Text.{callLine, Puts};
+ghost use Rattle.output.specs.Text.{call_line, Puts};
 ghost use Rattle.output.specs.Printed.{Prints};
-ghost use Rattle.script_text.specs.ScriptText.{badReply, domainText, queueText, Output};
+ghost use Rattle.script_text.specs.ScriptText.{bad_reply, domain_text, queue_text, Output};
 ghost use Rattle.script_text.specs.Turns.{Turns};
 ghost use Rattle.script_text.specs.Records.{RanAll};
 ghost use Rattle.script_text.specs.Domains.{Holds};
@@ -54,7 +54,7 @@ const WORDS: usize = sizes::HEADER_WIDTH
 const BYTES: usize = 16384;
 
 // What a record left: the bytes of output, and how many it took of the input, 0 where reading ends.
-#[derive(Drop)]
+#[derive(Clone, Copy)]
 struct Step {
     n: usize,
     size: usize,
@@ -64,7 +64,7 @@ struct Step {
 fn bad(text: &mut [u8], n: usize, k: u64) -> Step
     requires { n + 128 ≤ length text.old }
     ensures n_bound { (result.n ≤ n + 128) × (result.size ≡ 0) }
-    ensures puts { Puts text.old n (callLine k badReply) result.n text.new }
+    ensures puts { Puts text.old n (call_line k bad_reply) result.n text.new }
 {
     let y = Reply {
         refusal: Refusal::BAD_RECORD.0,
@@ -97,7 +97,7 @@ fn turn(b: &[u8], text: &mut [u8], n: usize, k: u64, t: &mut [u64], w: &mut [u64
 }
 
 // What the records left: the output that is yet to be written, and the input behind them.
-#[derive(Drop)]
+#[derive(Clone, Copy)]
 struct Ran {
     text: Pending,
     input: Buffered,
@@ -146,7 +146,7 @@ fn list_domain(text: &mut [u8], p: Pending, t: &[u64], d: usize) -> Pending
     requires in_bounds { 128 ≤ length text.old }
     requires sized { Sized t.now }
     ensures n_in_bounds_2 { result.n ≤ length text.old }
-    ensures prints { (s : State) → Holds t.now s → Prints text.old p (domainText (slotLines d (atSlot s.domains d))) text.new result }
+    ensures prints { (s : State) → Holds t.now s → Prints text.old p (domain_text (slot_lines d (at_slot s.domains d))) text.new result }
 {
     let mut run = [0u64; 5 * RECORDS];
     let lines = listing::fill_lines(t, d, &mut run);
@@ -166,7 +166,7 @@ fn list_domains(text: &mut [u8], p: Pending, t: &[u64]) -> Pending
     requires in_bounds { 128 ≤ length text.old }
     requires script_tables { ScriptTables t.now }
     ensures n_in_bounds_2 { result.n ≤ length text.old }
-    ensures prints { (s : State) → Holds t.now s → Prints text.old p (domainText (domainLines s)) text.new result }
+    ensures prints { (s : State) → Holds t.now s → Prints text.old p (domain_text (domain_lines s)) text.new result }
 {
     let mut q = p;
     let mut d = 0;
@@ -184,7 +184,7 @@ fn list_queue(text: &mut [u8], p: Pending, t: &mut [u64], w: &mut [u64]) -> Pend
     requires script_tables { ScriptTables t.old }
     ensures n_in_bounds_2 { result.n ≤ length text.old }
     ensures script_tables_2 { ScriptTables t.new }
-    ensures prints { (s : State) → Lent t.old w.old s → s.sizes ≡ scriptSizes → Prints text.old p (queueText s.queue.items) text.new result }
+    ensures prints { (s : State) → Lent t.old w.old s → s.sizes ≡ script_sizes → Prints text.old p (queue_text s.queue.items) text.new result }
 {
     let mut q = p;
     let mut left: usize = UPDATES;
@@ -203,7 +203,7 @@ fn list_queue(text: &mut [u8], p: Pending, t: &mut [u64], w: &mut [u64]) -> Pend
 // A whole script, from the making of its tables on: all that is printed, the last of it yet to be written.
 fn run(b: &mut [u8], text: &mut [u8], t: &mut [u64], w: &mut [u64]) -> Ran
     requires in_bounds { 128 ≤ length text.old }
-    requires fit { Fit t.old w.old scriptSizes }
+    requires fit { Fit t.old w.old script_sizes }
     ensures n_in_bounds { result.text.n ≤ length text.old }
     ensures script_tables { ScriptTables t.new }
     ensures output { Output text.new result.text result.input }

@@ -1,20 +1,20 @@
 // How far a script is: the bytes that are passed and the calls that were run, and the reply where a bad record ends it (document 01, "The script
 // program").
 ghost use Rattle.std.specs.Prelude.{◌≡◌, ◌+◌, ◌<◌, ◌^◌};
-ghost use Rattle.refusals.specs.Refusals.{number, badRecord};
+ghost use Rattle.refusals.specs.Refusals.{number, bad_record};
 
 use refusals::Refusal;
 use replies::Reply;
 
 // A record that was run: what its call replied, and the bytes that it took.
-#[derive(Drop)]
+#[derive(Clone, Copy)]
 pub struct Ran {
     pub reply: Reply,
     pub size: usize,
 }
 
 // A place between two records: the bytes before it, and the calls run by then.
-#[derive(Drop)]
+#[derive(Clone, Copy)]
 pub struct Place {
     pub at: usize,
     pub calls: u64,
@@ -33,7 +33,7 @@ pub fn behind(p: Place, x: Ran) -> Place
 
 // The reply to a script that a bad record ends: 17, and the number of calls run before it.
 pub fn bad_record(calls: u64) -> Reply
-    ensures { result ≡ record { refusal = number badRecord; value = calls } }
+    ensures { result ≡ record { refusal = number bad_record; value = calls } }
 {
     Reply {
         refusal: Refusal::BAD_RECORD.0,

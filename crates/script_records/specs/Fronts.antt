@@ -16,30 +16,30 @@ use Rattle.model.specs.Perform.{Call}
 use Rattle.script_records.specs.declared.Record.{Record}
 use Rattle.script_records.specs.declared.Parsed.{Parsed}
 use Rattle.script_records.specs.declared.Parsed.TheVariants.{Short, Bad, Call as Whole}
-use Rattle.script_records.specs.Script.{Kind, opening, root, alias, carve, send, revoke, makeRevoke, field_at, kind_of, fieldCount, call_of, callWith, bodyCall, Front, ended, bad, call, frontFor, frontOf}
-use Rattle.bytes.specs.Numbers.{number}
-use Rattle.script_records.specs.Parsed.{size_for, size_of, recordIn, rightsFor, rightsIn, callFor, call_in, judged, whole, ofKind, parsed}
+use Rattle.script_records.specs.Script.{Kind, opening, root, alias, carve, send, revoke, make_revoke, field_at, kind_of, field_count, call_of, call_with, body_call, Front, ended, bad, call, front_for, front_of}
+use Rattle.byte_numbers.specs.Numbers.{number}
+use Rattle.script_records.specs.Parsed.{size_for, size_of, record_in, rights_for, rights_in, call_for, call_in, judged, whole, of_kind, parsed}
 
 -- ---- what follows a length
 
 -- the front behind a length of n
 abbrev behind : ℕ → List ℕ → Front
-behind n w = if ltb (length w) n then bad else frontFor (bodyCall (take n w)) (drop n w)
+behind n w = if ltb (length w) n then bad else front_for (body_call (take n w)) (drop n w)
 
 -- no call where the length does not fit the kind
-misfit-none : (o : Option Kind) (body : List ℕ) → (length body + 2 ≡ size_for o → ⊥) → callWith o body ≡ none
+misfit-none : (o : Option Kind) (body : List ℕ) → (length body + 2 ≡ size_for o → ⊥) → call_with o body ≡ none
 misfit-none none body d = refl
-misfit-none (some k) body d = rw (ne_eqb (length body) (2 + 8 * fieldCount k) (λ e. d (omega arith)))
+misfit-none (some k) body d = rw (ne_eqb (length body) (2 + 8 * field_count k) (λ e. d (omega arith)))
 
-short_none : (o : Option Kind) (body : List ℕ) → length body < 2 → callWith o body ≡ none
+short_none : (o : Option Kind) (body : List ℕ) → length body < 2 → call_with o body ≡ none
 short_none none body h = refl
-short_none (some k) body h = rw (ne_eqb (length body) (2 + 8 * fieldCount k) (λ e. omega arith))
+short_none (some k) body h = rw (ne_eqb (length body) (2 + 8 * field_count k) (λ e. omega arith))
 
 -- cut, or with no call in it
-by-body : (n : ℕ) (w : List ℕ) → (n ≤ length w → bodyCall (take n w) ≡ none) → behind n w ≡ bad
+by-body : (n : ℕ) (w : List ℕ) → (n ≤ length w → body_call (take n w) ≡ none) → behind n w ≡ bad
 by-body n w h = elim (cmp (length w) n) [
   | lt c ↦ rw (lt-ltb (length w) n c)
-  | ge c ↦ rw (le-ltb (length w) n c) (ap (λ (o : Option Call). frontFor o (drop n w)) (h c))
+  | ge c ↦ rw (le-ltb (length w) n c) (ap (λ (o : Option Call). front_for o (drop n w)) (h c))
 ]
 
 -- fewer than two bytes have no kind
@@ -47,7 +47,7 @@ short-bad : (n : ℕ) (w : List ℕ) → length w < 2 → behind n w ≡ bad
 short-bad n w h = by-body n w (λ c. short_none (kind_of (number (take 2 (take n w)))) (take n w) (omega (arith, length-take n w)))
 
 module _ (u v : ℕ) (w : List ℕ) where
-  misfit-body : (n : ℕ) → (n + 2 ≡ size_of (number (u ∷ v ∷ [])) → ⊥) → n ≤ length (u ∷ v ∷ w) → bodyCall (take n (u ∷ v ∷ w)) ≡ none
+  misfit-body : (n : ℕ) → (n + 2 ≡ size_of (number (u ∷ v ∷ [])) → ⊥) → n ≤ length (u ∷ v ∷ w) → body_call (take n (u ∷ v ∷ w)) ≡ none
   unfolding size_of
   misfit-body zero d c = short_none (kind_of 0) [] (omega arith)
   misfit-body (suc zero) d c = short_none (kind_of (number (u ∷ []))) (u ∷ []) (omega arith)
@@ -60,35 +60,35 @@ module _ (u v : ℕ) (w : List ℕ) where
   cut-bad : (n : ℕ) → length (u ∷ v ∷ w) < n → behind n (u ∷ v ∷ w) ≡ bad
   cut-bad n h = rw (lt-ltb (length (u ∷ v ∷ w)) n h)
 
-  fits-call : (k : Kind) (m : ℕ) → m ≡ 8 * fieldCount k → kind_of (number (u ∷ v ∷ [])) ≡ some k → m ≤ length w → bodyCall (u ∷ v ∷ take m w) ≡ call_of k (field_at (take m w))
+  fits-call : (k : Kind) (m : ℕ) → m ≡ 8 * field_count k → kind_of (number (u ∷ v ∷ [])) ≡ some k → m ≤ length w → body_call (u ∷ v ∷ take m w) ≡ call_of k (field_at (take m w))
   fits-call k m e c h =
-      ap (λ (o : Option Kind). callWith o (u ∷ v ∷ take m w)) c
-      ∙ rw (eq-eqb (length (u ∷ v ∷ take m w)) (2 + 8 * fieldCount k) (omega (arith, length-take m w)))
+      ap (λ (o : Option Kind). call_with o (u ∷ v ∷ take m w)) c
+      ∙ rw (eq-eqb (length (u ∷ v ∷ take m w)) (2 + 8 * field_count k) (omega (arith, length-take m w)))
 
-  fits-front : (k : Kind) (m : ℕ) → m ≡ 8 * fieldCount k → kind_of (number (u ∷ v ∷ [])) ≡ some k → m ≤ length w
-      → behind (suc (suc m)) (u ∷ v ∷ w) ≡ frontFor (call_of k (field_at (take m w))) (drop m w)
+  fits-front : (k : Kind) (m : ℕ) → m ≡ 8 * field_count k → kind_of (number (u ∷ v ∷ [])) ≡ some k → m ≤ length w
+      → behind (suc (suc m)) (u ∷ v ∷ w) ≡ front_for (call_of k (field_at (take m w))) (drop m w)
   fits-front k m e c h =
-      rw (le-ltb (length (u ∷ v ∷ w)) (suc (suc m)) (omega arith)) (ap (λ (o : Option Call). frontFor o (drop m w)) (fits-call k m e c h))
+      rw (le-ltb (length (u ∷ v ∷ w)) (suc (suc m)) (omega arith)) (ap (λ (o : Option Call). front_for o (drop m w)) (fits-call k m e c h))
 
 -- ---- a whole record
 
 -- what a record's rights make of its call
-narrow : (k : Kind) (n : ℕ) (l : List ℕ) → call_of k (field_at l) ≡ (if ltb 255 (rightsFor (some k) (recordIn n l)) then none else some (callFor (some k) (recordIn n l)))
+narrow : (k : Kind) (n : ℕ) (l : List ℕ) → call_of k (field_at l) ≡ (if ltb 255 (rights_for (some k) (record_in n l)) then none else some (call_for (some k) (record_in n l)))
 narrow opening n l = refl
 narrow root n l = refl
 narrow alias n l = refl
 narrow carve n l = refl
 narrow send n l = refl
 narrow revoke n l = refl
-narrow makeRevoke n l = refl
+narrow make_revoke n l = refl
 
 -- ---- the laws
 
 -- What each finding says of the whole script.
 abbrev Agrees : List ℕ → List ℕ → Parsed → Type 0
-Agrees b more Short = more ≡ [] → 0 < length b → frontOf b ≡ bad
-Agrees b more Bad = frontOf (b ++ more) ≡ bad
-Agrees b more (Whole r) = frontOf (b ++ more) ≡ call (call_in r) (drop (size_of r.kind) b ++ more)
+Agrees b more Short = more ≡ [] → 0 < length b → front_of b ≡ bad
+Agrees b more Bad = front_of (b ++ more) ≡ bad
+Agrees b more (Whole r) = front_of (b ++ more) ≡ call (call_in r) (drop (size_of r.kind) b ++ more)
 
 module _ (x y u v : ℕ) (l more : List ℕ) where
   abbrev n : ℕ
@@ -102,24 +102,24 @@ module _ (x y u v : ℕ) (l more : List ℕ) where
 
   -- a length that fits no kind or another
   agrees-bad : (n + 2 ≡ size_of kind → ⊥) → Agrees b more Bad
-  unfolding frontOf
+  unfolding front_of
   agrees-bad d = misfit-bad u v (l ++ more) n d
 
   agrees-cut : length b < n + 2 → Agrees b more Short
-  unfolding frontOf
+  unfolding front_of
   agrees-cut h e g = cut-bad u v l n (omega arith)
 
   -- the record is there
-  module _ (k : Kind) (c : kind_of kind ≡ some k) (m : ℕ) (em : m ≡ 8 * fieldCount k) (en : n ≡ suc (suc m)) (h : m ≤ length l) where
+  module _ (k : Kind) (c : kind_of kind ≡ some k) (m : ℕ) (em : m ≡ 8 * field_count k) (en : n ≡ suc (suc m)) (h : m ≤ length l) where
     abbrev r : Record
-    r = recordIn kind (take m l)
+    r = record_in kind (take m l)
 
-    there : frontOf (b ++ more) ≡ frontFor (if ltb 255 (rightsIn r) then none else some (call_in r)) (drop m l ++ more)
-    unfolding frontOf rightsIn call_in
+    there : front_of (b ++ more) ≡ front_for (if ltb 255 (rights_in r) then none else some (call_in r)) (drop m l ++ more)
+    unfolding front_of rights_in call_in
     there =
         ap (λ (i : ℕ). behind i (u ∷ v ∷ l ++ more)) en
         ∙ fits-front u v (l ++ more) k m em c (omega (arith, length-append l more))
-        ∙ rw (take-append-le m l more h, drop-append-le m l more h, c) (ap (λ (o : Option Call). frontFor o (drop m l ++ more)) (narrow k kind (take m l)))
+        ∙ rw (take-append-le m l more h, drop-append-le m l more h, c) (ap (λ (o : Option Call). front_for o (drop m l ++ more)) (narrow k kind (take m l)))
 
     size_is : size_of kind ≡ suc (suc (suc (suc m)))
     unfolding size_of
@@ -127,7 +127,7 @@ module _ (x y u v : ℕ) (l more : List ℕ) where
 
     agrees-judged : Agrees b more (judged r)
     unfolding judged
-    agrees-judged = elim (test (ltb 255 (rightsIn r))) [
+    agrees-judged = elim (test (ltb 255 (rights_in r))) [
       | holds t ↦ rw t (there ∙ rw t)
       | fails t ↦ rw t (there ∙ rw (t, size_is))
     ]
@@ -141,14 +141,14 @@ module _ (x y u v : ℕ) (l more : List ℕ) where
   unfolding size_of
   agrees-some k c e = elim (cmp (length b) (size_for (some k))) [
     | lt h ↦ rw (c, lt-ltb (length b) (size_for (some k)) h) (agrees-cut (omega arith))
-    | ge h ↦ agrees-whole k c (8 * fieldCount k) refl (omega arith) (omega arith)
+    | ge h ↦ agrees-whole k c (8 * field_count k) refl (omega arith) (omega arith)
   ]
 
   agrees-fit : (o : Option Kind) → kind_of kind ≡ o → n + 2 ≡ size_for o → Agrees b more (whole kind b)
   agrees-fit none c e = absurd (omega arith)
   agrees-fit (some k) c e = agrees-some k c e
 
-  agrees-kind : Agrees b more (ofKind kind b)
+  agrees-kind : Agrees b more (of_kind kind b)
   unfolding size_of
   agrees-kind = elim (test (eqb (n + 2) (size_of kind))) [
     | holds t ↦ rw t (agrees-fit (kind_of kind) refl (eqb-true (n + 2) (size_of kind) t))
@@ -160,22 +160,22 @@ module _ (x y u v : ℕ) (l more : List ℕ) where
   agrees-four = rw (le-ltb (length b) 4 (omega arith)) agrees-kind
 
 agrees : (b more : List ℕ) → Agrees b more (parsed b)
-unfolding parsed frontOf
+unfolding parsed front_of
 agrees [] more = λ e h. absurd (omega arith)
 agrees (x ∷ []) more = λ e h. refl
 agrees (x ∷ y ∷ []) more = λ e h. short-bad (number (x ∷ y ∷ [])) [] (omega arith)
 agrees (x ∷ y ∷ u ∷ []) more = λ e h. short-bad (number (x ∷ y ∷ [])) (u ∷ []) (omega arith)
 agrees (x ∷ y ∷ u ∷ v ∷ l) more = agrees-four x y u v l more
 
-pub front-ended : frontOf [] ≡ ended
-unfolding frontOf
+pub front-ended : front_of [] ≡ ended
+unfolding front_of
 front-ended = refl
 
-pub front-call : (b more : List ℕ) (r : Record) → parsed b ≡ Whole r → frontOf (b ++ more) ≡ call (call_in r) (drop (size_of r.kind) b ++ more)
+pub front-call : (b more : List ℕ) (r : Record) → parsed b ≡ Whole r → front_of (b ++ more) ≡ call (call_in r) (drop (size_of r.kind) b ++ more)
 front-call b more r e = subst (Agrees b more) e (agrees b more)
 
-pub front-bad : (b more : List ℕ) → parsed b ≡ Bad → frontOf (b ++ more) ≡ bad
+pub front-bad : (b more : List ℕ) → parsed b ≡ Bad → front_of (b ++ more) ≡ bad
 front-bad b more e = subst (Agrees b more) e (agrees b more)
 
-pub front_cut : (b : List ℕ) → 0 < length b → parsed b ≡ Short → frontOf b ≡ bad
+pub front_cut : (b : List ℕ) → 0 < length b → parsed b ≡ Short → front_of b ≡ bad
 front_cut b h e = subst (Agrees b []) e (agrees b []) refl h

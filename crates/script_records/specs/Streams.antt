@@ -3,20 +3,20 @@
 use Rattle.std.specs.Prelude.{◌≡◌, ℕ, ◌<◌, true, List, [], ◌++◌, length, drop}
 use Rattle.script_records.specs.declared.Record.{Record}
 use Rattle.script_records.specs.declared.Parsed.TheVariants.{Short, Bad, Call as Whole}
-use Rattle.script_records.specs.Script.{ahead, scriptCalls}
+use Rattle.script_records.specs.Script.{ahead, script_calls}
 use Rattle.script_records.specs.Parsed.{size_of, call_in, parsed}
 use Rattle.script_records.specs.Fronts.{front-call, front-bad, front_cut}
 use Rattle.script_records.specs.Scripts.{script-bad, script-call}
 
 module _ (b : List ℕ) where
   -- a call, whose bytes are then taken off
-  pub stream-call : (more : List ℕ) (r : Record) → parsed b ≡ Whole r → scriptCalls (b ++ more) ≡ ahead (call_in r) (scriptCalls (drop (size_of r.kind) b ++ more))
+  pub stream-call : (more : List ℕ) (r : Record) → parsed b ≡ Whole r → script_calls (b ++ more) ≡ ahead (call_in r) (script_calls (drop (size_of r.kind) b ++ more))
   stream-call more r e = script-call (b ++ more) (call_in r) (drop (size_of r.kind) b ++ more) (front-call b more r e)
 
   -- a bad record, whatever follows
-  pub stream-bad : (more : List ℕ) → parsed b ≡ Bad → scriptCalls (b ++ more) ≡ ([], true)
+  pub stream-bad : (more : List ℕ) → parsed b ≡ Bad → script_calls (b ++ more) ≡ ([], true)
   stream-bad more e = script-bad (b ++ more) (front-bad b more e)
 
   -- a record that is cut, where no more follows
-  pub stream-cut : 0 < length b → parsed b ≡ Short → scriptCalls b ≡ ([], true)
+  pub stream-cut : 0 < length b → parsed b ≡ Short → script_calls b ≡ ([], true)
   stream-cut h e = script-bad b (front_cut b h e)

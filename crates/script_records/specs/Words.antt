@@ -9,10 +9,10 @@ use Rattle.model.specs.CallWords.{CallWords}
 use Rattle.script_records.specs.declared.Record.{Record}
 use Rattle.script_records.specs.declared.Parsed.{Parsed}
 use Rattle.script_records.specs.declared.Parsed.TheVariants.{Short, Bad, Call as Whole}
-use Rattle.script_records.specs.Script.{Kind, opening, root, alias, carve, send, revoke, makeRevoke, kind_of}
-use Rattle.bytes.specs.Numbers.{number}
-use Rattle.script_records.specs.Parsed.{size_for, size_of, recordIn, rightsFor, rightsIn, callFor, call_in, judged, whole, ofKind, parsed}
-use Rattle.bytes.specs.Numbers.{Bytes, eight_fits}
+use Rattle.script_records.specs.Script.{Kind, opening, root, alias, carve, send, revoke, make_revoke, kind_of}
+use Rattle.byte_numbers.specs.Numbers.{number}
+use Rattle.script_records.specs.Parsed.{size_for, size_of, record_in, rights_for, rights_in, call_for, call_in, judged, whole, of_kind, parsed}
+use Rattle.byte_numbers.specs.Numbers.{Bytes, eight_fits}
 
 -- ---- a part of bytes
 
@@ -36,10 +36,10 @@ pub record RecordWords (r : Record) : Type 0 where
   pub e : Word r.e
   pub f : Word r.f
 
-fields_fit : (k : ℕ) (l : List ℕ) → Bytes l → RecordWords (recordIn k l)
+fields_fit : (k : ℕ) (l : List ℕ) → Bytes l → RecordWords (record_in k l)
 fields_fit k l h = record { a = eight_fits l h 0; b = eight_fits l h 8; c = eight_fits l h 16; d = eight_fits l h 24; e = eight_fits l h 32; f = eight_fits l h 40 }
 
-words-for : (o : Option Kind) (r : Record) → RecordWords r → rightsFor o r ≤ 255 → CallWords (callFor o r)
+words-for : (o : Option Kind) (r : Record) → RecordWords r → rights_for o r ≤ 255 → CallWords (call_for o r)
 words-for none r w h = tt
 words-for (some opening) r w h = elim (test (eqb r.a (2 ^ 64 - 1))) [ holds t ↦ rw t w.c | fails t ↦ rw t ((w.a, w.b), w.c) ]
 words-for (some root) r w h = ((w.a, w.b), (w.c, w.d, omega arith))
@@ -47,7 +47,7 @@ words-for (some alias) r w h = ((w.a, w.b), w.c, (w.d, w.e, omega arith))
 words-for (some carve) r w h = ((w.a, w.b), w.c, (w.d, w.e, omega arith))
 words-for (some send) r w h = ((w.a, w.b), w.c, w.d, (tt, tt))
 words-for (some revoke) r w h = ((w.a, w.b), w.c)
-words-for (some makeRevoke) r w h = ((w.a, w.b), w.c)
+words-for (some make_revoke) r w h = ((w.a, w.b), w.c)
 
 -- What is known of each finding in bytes b.
 record Known (b : List ℕ) (r : Record) : Type 0 where
@@ -70,14 +70,14 @@ size-bounds (some alias) = (λ h. omega arith, omega arith)
 size-bounds (some carve) = (λ h. omega arith, omega arith)
 size-bounds (some send) = (λ h. omega arith, omega arith)
 size-bounds (some revoke) = (λ h. omega arith, omega arith)
-size-bounds (some makeRevoke) = (λ h. omega arith, omega arith)
+size-bounds (some make_revoke) = (λ h. omega arith, omega arith)
 
 module _ (b : List ℕ) (k : ℕ) where
-  says-judged : (l : List ℕ) → (Bytes b → Bytes l) → 4 ≤ size_of k → size_of k ≤ length b → Says b (judged (recordIn k l))
-  unfolding judged rightsIn call_in
-  says-judged l part h g = elim (test (ltb 255 (rightsIn (recordIn k l)))) [
+  says-judged : (l : List ℕ) → (Bytes b → Bytes l) → 4 ≤ size_of k → size_of k ≤ length b → Says b (judged (record_in k l))
+  unfolding judged rights_in call_in
+  says-judged l part h g = elim (test (ltb 255 (rights_in (record_in k l)))) [
     | holds t ↦ rw t tt
-    | fails t ↦ rw t (record { least = h; there = g; words = λ y. words-for (kind_of k) (recordIn k l) (fields_fit k l (part y)) (ltb-false _ _ t) })
+    | fails t ↦ rw t (record { least = h; there = g; words = λ y. words-for (kind_of k) (record_in k l) (fields_fit k l (part y)) (ltb-false _ _ t) })
   ]
 
   says-whole : 4 ≤ size_of k → size_of k ≤ 52 → Says b (whole k b)
@@ -86,7 +86,7 @@ module _ (b : List ℕ) (k : ℕ) where
     | ge c ↦ rw (le-ltb (length b) (size_of k) c) (says-judged (take (size_of k - 4) (drop 4 b)) (λ y. bytes_take (size_of k - 4) (drop 4 b) (bytes_drop 4 b y)) h c)
   ]
 
-  says-kind : Says b (ofKind k b)
+  says-kind : Says b (of_kind k b)
   unfolding size_of
   says-kind =
       let n = number (take 2 (drop 0 b)) in

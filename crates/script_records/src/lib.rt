@@ -1,9 +1,9 @@
 // Records of a script, read from the bytes at hand (document 01, "The script program").
 ghost use Rattle.std.specs.Prelude.{◌≡◌};
-ghost use Rattle.script_records.specs.Parsed.{size_of, recordIn, rightsIn, judged, parsed};
+ghost use Rattle.script_records.specs.Parsed.{size_of, record_in, rights_in, judged, parsed};
 
 // A record: its kind and its fields, 0 where its kind has fewer.
-#[derive(Drop)]
+#[derive(Clone, Copy)]
 pub struct Record {
     pub kind: u64,
     pub a: u64,
@@ -15,7 +15,7 @@ pub struct Record {
 }
 
 // What stands at the front of the bytes at hand.
-#[derive(Drop)]
+#[derive(Clone, Copy)]
 pub enum Parsed {
     // Part of a record that can still be a call: more bytes are needed.
     Short,
@@ -44,22 +44,22 @@ pub fn size_of(kind: u64) -> usize
 
 // The fields that stand in these bytes.
 fn record_in(kind: u64, b: &[u8]) -> Record
-    ensures { result ≡ recordIn kind b.now }
+    ensures { result ≡ record_in kind b.now }
 {
     Record {
         kind,
-        a: bytes::eight(b, 0),
-        b: bytes::eight(b, 8),
-        c: bytes::eight(b, 16),
-        d: bytes::eight(b, 24),
-        e: bytes::eight(b, 32),
-        f: bytes::eight(b, 40),
+        a: byte_numbers::eight(b, 0),
+        b: byte_numbers::eight(b, 8),
+        c: byte_numbers::eight(b, 16),
+        d: byte_numbers::eight(b, 24),
+        e: byte_numbers::eight(b, 32),
+        f: byte_numbers::eight(b, 40),
     }
 }
 
 // The rights that a record names; 0 for a kind that names none.
 fn rights_in(r: Record) -> u64
-    ensures { result ≡ rightsIn r }
+    ensures { result ≡ rights_in r }
 {
     let kind = r.kind;
     match kind {
@@ -87,9 +87,9 @@ pub fn parse(b: &[u8]) -> Parsed
     if b.len() < 4 {
         return Parsed::Short;
     }
-    let kind = bytes::two(b, 2);
+    let kind = byte_numbers::two(b, 2);
     let size = size_of(kind);
-    if bytes::two(b, 0) as usize + 2 != size {
+    if byte_numbers::two(b, 0) as usize + 2 != size {
         return Parsed::Bad;
     }
     if b.len() < size {

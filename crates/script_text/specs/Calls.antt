@@ -8,9 +8,9 @@ use Rattle.model.specs.CallWords.{CallWords}
 use Rattle.model.specs.Memory.{Lent, NotMake, After, performed}
 use Rattle.laws.specs.AfterUnique.{after-unique}
 use Rattle.laws.specs.SoundKept.{step-sound}
-use Rattle.replies.specs.Replies.{replyOf}
-use Rattle.output.specs.Text.{callLine}
-use Rattle.script_text.specs.ScriptText.{callLines}
+use Rattle.replies.specs.Replies.{reply_of}
+use Rattle.output.specs.Text.{call_line}
+use Rattle.script_text.specs.ScriptText.{call_lines}
 
 -- ---- on the words of a sound state
 
@@ -35,10 +35,10 @@ unfolding run
 answers-length s [] = refl
 answers-length s (c ∷ cs) = ap suc (answers-length (step s c).1 cs)
 
-pub lines_more : (k : ℕ) (l : List Answer) (a : Answer) → callLines k (l ++ (a ∷ [])) ≡ callLines k l ++ callLine (k + length l) (replyOf a)
-unfolding callLines
-lines_more k [] a = let e : k ≡ k + 0 = omega arith in append-nil (callLine k (replyOf a)) ∙ ap (λ (j : ℕ). callLine j (replyOf a)) e
+pub lines_more : (k : ℕ) (l : List Answer) (a : Answer) → call_lines k (l ++ (a ∷ [])) ≡ call_lines k l ++ call_line (k + length l) (reply_of a)
+unfolding call_lines
+lines_more k [] a = let e : k ≡ k + 0 = omega arith in append-nil (call_line k (reply_of a)) ∙ ap (λ (j : ℕ). call_line j (reply_of a)) e
 lines_more k (b ∷ l) a =
     let e : suc k + length l ≡ k + suc (length l) = omega arith in
-    ap (λ (x : List ℕ). callLine k (replyOf b) ++ x) (lines_more (suc k) l a ∙ ap (λ (j : ℕ). callLines (suc k) l ++ callLine j (replyOf a)) e)
-    ∙ sym (append_assoc (callLine k (replyOf b)) (callLines (suc k) l) (callLine (k + suc (length l)) (replyOf a)))
+    ap (λ (x : List ℕ). call_line k (reply_of b) ++ x) (lines_more (suc k) l a ∙ ap (λ (j : ℕ). call_lines (suc k) l ++ call_line j (reply_of a)) e)
+    ∙ sym (append_assoc (call_line k (reply_of b)) (call_lines (suc k) l) (call_line (k + suc (length l)) (reply_of a)))

@@ -6,8 +6,8 @@ use Rattle.input.specs.declared.Buffered.{Buffered}
 use Rattle.input.specs.Buffered.{Within, Keeps}
 
 -- the bytes from `at` up to `end` of b
-abbrev pub handOf : Buffered → List ℕ → List ℕ
-handOf h b = take (h.end - h.at) (drop h.at b)
+abbrev pub hand_of : Buffered → List ℕ → List ℕ
+hand_of h b = take (h.end - h.at) (drop h.at b)
 
 -- ---- read on: the bytes that were at hand are the first
 
@@ -29,7 +29,7 @@ module _ (h : Buffered) (b : List ℕ) (r : Buffered) (b₁ : List ℕ) (w : Wit
       let m : i < n = omega (arith, u, e, k) in
       get_or-take n l i 0 m ∙ hand_at r b₁ i (omega (arith, keeps.as_many)) ∙ keeps.same i m ∙ sym (hand_at h b i m))
 
-  pub hand-grows : handOf r b₁ ≡ handOf h b ++ drop (h.end - h.at) (handOf r b₁)
+  pub hand-grows : hand_of r b₁ ≡ hand_of h b ++ drop (h.end - h.at) (hand_of r b₁)
   hand-grows = sym (take-append-drop (h.end - h.at) (take (r.end - r.at) (drop r.at b₁))) ∙ ap (λ (l : List ℕ). l ++ drop (h.end - h.at) (take (r.end - r.at) (drop r.at b₁))) first-same
 
 -- ---- taken off
@@ -41,14 +41,14 @@ drop-take (suc n) (suc m) [] = sym (take-nil {A = ℕ} (suc m - suc n))
 drop-take (suc n) (suc m) (x ∷ l) = let e : m - n ≡ suc m - suc n = omega arith in drop-take n m l ∙ ap (λ (j : ℕ). take j (drop n l)) e
 
 -- the part that is lent, with `size` bytes taken off
-pub hand-taken : (h : Buffered) (b : List ℕ) (size : ℕ) → drop size (handOf h b) ≡ handOf (record { at = h.at + size; end = h.end; more = h.more; failed = h.failed }) b
+pub hand-taken : (h : Buffered) (b : List ℕ) (size : ℕ) → drop size (hand_of h b) ≡ hand_of (record { at = h.at + size; end = h.end; more = h.more; failed = h.failed }) b
 hand-taken h b size =
     let e : h.end - h.at - size ≡ h.end - (h.at + size) = omega arith in
     drop-take size (h.end - h.at) (drop h.at b) ∙ ap (take (h.end - h.at - size)) (drop-drop size h.at b) ∙ ap (λ (j : ℕ). take j (drop (h.at + size) b)) e
 
 -- nothing at hand
-pub hand-none : (h : Buffered) (b : List ℕ) → h.end ≤ h.at → handOf h b ≡ []
+pub hand-none : (h : Buffered) (b : List ℕ) → h.end ≤ h.at → hand_of h b ≡ []
 hand-none h b u = let e : h.end - h.at ≡ 0 = omega arith in ap (λ (j : ℕ). take j (drop h.at b)) e
 
-pub hand-some : (h : Buffered) (b : List ℕ) → Within h (length b) → h.at < h.end → 0 < length (handOf h b)
+pub hand-some : (h : Buffered) (b : List ℕ) → Within h (length b) → h.at < h.end → 0 < length (hand_of h b)
 hand-some h b w u = omega (arith, hand-length h b w)

@@ -10,13 +10,13 @@ use Rattle.input.specs.Buffered.{Within, Keeps, Whole}
 use Rattle.script_records.specs.Parsed.{parsed}
 use Rattle.output.specs.declared.Pending.{Pending}
 use Rattle.output.specs.Printed.{Prints}
-use Rattle.script_text.specs.Hand.{handOf, hand-grows, hand-taken, hand-none, hand-some}
+use Rattle.script_text.specs.Hand.{hand_of, hand-grows, hand-taken, hand-none, hand-some}
 use Rattle.script_text.specs.Turns.{Turns}
 use Rattle.script_text.specs.Records.{Between, RanAll, between_none, between-read, between-room, between_more, ran-bad, ran-end}
 
 -- Between two records, with the bytes of b that h says at hand.
 pub record At (s : State) (k : ℕ) (h : Buffered) (b t w text : List ℕ) (p : Pending) : Type 0 where
-  pub between : Between s k (handOf h b) t w text p
+  pub between : Between s k (hand_of h b) t w text p
 
 pub at_none : {s : State} {t w : List ℕ} (h : Buffered) (b text : List ℕ) → h.end ≤ h.at → Lent t w s → At s 1 h b t w text (record { n = 0; failed = false })
 at_none {s} {t} {w} h b text u l = record { between = subst (λ (x : List ℕ). Between s 1 x t w text (record { n = 0; failed = false })) (sym (hand-none h b u)) (between_none text l) }
@@ -35,12 +35,12 @@ no_more h v e = elim (test h.more) [ holds t ↦ absurd (omega (arith, v t, e)) 
 
 module _ {s : State} {k : ℕ} {h : Buffered} {b t w text : List ℕ} {p : Pending} (x : At s k h b t w text p) where
   -- it is run
-  pub at_more : {size n : ℕ} {t₁ w₁ text₁ : List ℕ} → Turns (parsed (handOf h b)) k p.n t w text n size t₁ w₁ text₁ → (size ≡ 0 → ⊥) → n ≤ length text → length t₁ ≡ length t
+  pub at_more : {size n : ℕ} {t₁ w₁ text₁ : List ℕ} → Turns (parsed (hand_of h b)) k p.n t w text n size t₁ w₁ text₁ → (size ≡ 0 → ⊥) → n ≤ length text → length t₁ ≡ length t
       → At s (k + 1) (record { at = h.at + size; end = h.end; more = h.more; failed = h.failed }) b t₁ w₁ text₁ (record { n = n; failed = p.failed })
   at_more {size} {n} {t₁} {w₁} {text₁} y z room long = record { between = subst (λ (l : List ℕ). Between s (k + 1) l t₁ w₁ text₁ (record { n = n; failed = p.failed })) (hand-taken h b size) (between_more x.between room long y z) }
 
   -- it is a bad one
-  pub at-bad : {m : ℕ} {size n : ℕ} {t₁ w₁ text₁ : List ℕ} → Within h m → length b ≡ m → (h.at ≡ h.end → ⊥) → Turns (parsed (handOf h b)) k p.n t w text n size t₁ w₁ text₁ → size ≡ 0 → n ≤ length text → length t₁ ≡ length t
+  pub at-bad : {m : ℕ} {size n : ℕ} {t₁ w₁ text₁ : List ℕ} → Within h m → length b ≡ m → (h.at ≡ h.end → ⊥) → Turns (parsed (hand_of h b)) k p.n t w text n size t₁ w₁ text₁ → size ≡ 0 → n ≤ length text → length t₁ ≡ length t
       → (i : Buffered) → RanAll s t₁ w₁ text₁ (record { n = n; failed = p.failed }) i
   at-bad v e u y z room long i =
       let v₁ : Within h (length b) = record { rising = v.rising; inside = omega (arith, v.inside) } in

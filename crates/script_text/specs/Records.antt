@@ -11,22 +11,22 @@ use Rattle.model.specs.Perform.{Call, Answer, step, run}
 use Rattle.model.specs.CallWords.{CallWords}
 use Rattle.model.specs.Memory.{Lent, NotMake}
 use Rattle.laws.specs.KeptCalls.{run-kept}
-use Rattle.replies.specs.Replies.{replyOf}
+use Rattle.replies.specs.Replies.{reply_of}
 use Rattle.script_records.specs.declared.Record.{Record}
 use Rattle.script_records.specs.declared.Parsed.{Parsed}
 use Rattle.script_records.specs.declared.Parsed.TheVariants as found
-use Rattle.script_records.specs.Script.{Kind, opening, root, alias, carve, send, revoke, makeRevoke, kind_of, ahead, scriptCalls}
-use Rattle.script_records.specs.Parsed.{size_of, callFor, call_in, parsed}
+use Rattle.script_records.specs.Script.{Kind, opening, root, alias, carve, send, revoke, make_revoke, kind_of, ahead, script_calls}
+use Rattle.script_records.specs.Parsed.{size_of, call_for, call_in, parsed}
 use Rattle.script_records.specs.Words.{call-size}
 use Rattle.script_records.specs.Scripts.{script-ended}
 use Rattle.script_records.specs.Streams.{stream-call, stream-bad, stream-cut}
 use Rattle.running.specs.BetweenRecords.{followed}
 use Rattle.input.specs.declared.Buffered.{Buffered}
 use Rattle.output.specs.declared.Pending.{Pending}
-use Rattle.output.specs.Text.{callLine, Puts}
+use Rattle.output.specs.Text.{call_line, Puts}
 use Rattle.output.specs.Printed.{Printed, Prints}
 use Rattle.output.specs.Printing.{printed-none, prints-line}
-use Rattle.script_text.specs.ScriptText.{callLines, badReply, badLine}
+use Rattle.script_text.specs.ScriptText.{call_lines, bad_reply, bad_line}
 use Rattle.script_text.specs.Calls.{step-answer, step-lent, run_more, answers-length, lines_more}
 use Rattle.script_text.specs.Turns.{Called, Turns}
 
@@ -36,10 +36,10 @@ pub record Between (s₀ : State) (k : ℕ) (hand t w text : List ℕ) (p : Pend
   pub read : List ℕ
   pub calls : List Call
   pub steps : Each NotMake calls
-  pub rest : (more : List ℕ) → scriptCalls (read ++ more) ≡ followed calls (scriptCalls (hand ++ more))
+  pub rest : (more : List ℕ) → script_calls (read ++ more) ≡ followed calls (script_calls (hand ++ more))
   pub count : k ≡ suc (length calls)
   pub lent : Lent t w (run s₀ calls).1
-  pub printed : Printed (callLines 1 (run s₀ calls).0) text p
+  pub printed : Printed (call_lines 1 (run s₀ calls).0) text p
 
 -- What all records left: `calls` are those of the bytes that were read, and `bad` says whether a bad record ended reading; else no more may come behind h.
 -- Where a write failed, or after 2^64 − 2 calls, they are the first ones of these.
@@ -48,17 +48,17 @@ pub record RanAll (s₀ : State) (t w text : List ℕ) (p : Pending) (h : Buffer
   pub calls : List Call
   pub bad : Bool
   pub later : List Call × Bool
-  pub first : scriptCalls read ≡ followed calls later
-  pub all : p.failed ≡ false → length calls < 18446744073709551614 → scriptCalls read ≡ (calls, bad)
+  pub first : script_calls read ≡ followed calls later
+  pub all : p.failed ≡ false → length calls < 18446744073709551614 → script_calls read ≡ (calls, bad)
   pub ended : p.failed ≡ false → length calls < 18446744073709551614 → bad ≡ false → h.more ≡ false
   pub lent : Lent t w (run s₀ calls).1
   pub sizes : (run s₀ calls).1.sizes ≡ s₀.sizes
-  pub printed : Printed (callLines 1 (run s₀ calls).0 ++ badLine (suc (length calls)) bad) text p
+  pub printed : Printed (call_lines 1 (run s₀ calls).0 ++ bad_line (suc (length calls)) bad) text p
 
 -- ---- to the first record, and reading on
 
 pub between_none : {s₀ : State} {t w : List ℕ} (text : List ℕ) → Lent t w s₀ → Between s₀ 1 [] t w text (record { n = 0; failed = false })
-unfolding run callLines
+unfolding run call_lines
 between_none text l = record { read = []; calls = []; steps = tt; rest = λ more. refl; count = refl; lent = l; printed = printed-none text }
 
 module _ {s₀ : State} {k : ℕ} {hand t w text : List ℕ} {p : Pending} (h : Between s₀ k hand t w text p) where
@@ -68,9 +68,9 @@ module _ {s₀ : State} {k : ℕ} {hand t w text : List ℕ} {p : Pending} (h : 
     calls = h.calls;
     steps = h.steps;
     rest = λ more.
-        ap scriptCalls (append_assoc h.read new more)
+        ap script_calls (append_assoc h.read new more)
         ∙ h.rest (new ++ more)
-        ∙ ap (λ (l : List ℕ). followed h.calls (scriptCalls l)) (sym (append_assoc hand new more) ∙ ap (λ (l : List ℕ). l ++ more) (sym e));
+        ∙ ap (λ (l : List ℕ). followed h.calls (script_calls l)) (sym (append_assoc hand new more) ∙ ap (λ (l : List ℕ). l ++ more) (sym e));
     count = h.count;
     lent = h.lent;
     printed = h.printed;
@@ -84,12 +84,12 @@ module _ {s₀ : State} {k : ℕ} {hand t w text : List ℕ} {p : Pending} (h : 
     rest = h.rest;
     count = h.count;
     lent = h.lent;
-    printed = subst (λ (l : List ℕ). Printed l text q) (append-nil (callLines 1 (run s₀ h.calls).0)) (x.behind _ h.printed);
+    printed = subst (λ (l : List ℕ). Printed l text q) (append-nil (call_lines 1 (run s₀ h.calls).0)) (x.behind _ h.printed);
   }
 
   -- ---- one call more
 
-  no-making : (o : Option Kind) (r : Record) → NotMake (callFor o r)
+  no-making : (o : Option Kind) (r : Record) → NotMake (call_for o r)
   no-making none r = tt
   no-making (some opening) r = tt
   no-making (some root) r = tt
@@ -97,7 +97,7 @@ module _ {s₀ : State} {k : ℕ} {hand t w text : List ℕ} {p : Pending} (h : 
   no-making (some carve) r = tt
   no-making (some send) r = tt
   no-making (some revoke) r = tt
-  no-making (some makeRevoke) r = tt
+  no-making (some make_revoke) r = tt
 
   no-make : (r : Record) → NotMake (call_in r)
   unfolding call_in
@@ -126,16 +126,16 @@ module _ {s₀ : State} {k : ℕ} {hand t w text : List ℕ} {p : Pending} (h : 
           rest = λ more.
               h.rest more
               ∙ ap (followed cs) (stream-call hand more r e)
-              ∙ followed-one cs c (scriptCalls (drop (size_of r.kind) hand ++ more))
-              ∙ ap (λ (l : List ℕ). followed (cs ++ (c ∷ [])) (scriptCalls (l ++ more))) z;
+              ∙ followed-one cs c (script_calls (drop (size_of r.kind) hand ++ more))
+              ∙ ap (λ (l : List ℕ). followed (cs ++ (c ∷ [])) (script_calls (l ++ more))) z;
           count = omega (arith, h.count, length-append cs (c ∷ []));
           lent = subst (λ (s : State). Lent t₁ w₁ s) (sym (ap (λ (o : List Answer × State). o.1) m)) (step-lent h.lent (no-make r) x.after x.words long);
           printed =
               subst (λ (l : List ℕ). Printed l text₁ (record { n = n; failed = p.failed }))
-              (ap (λ (i : ℕ). callLines 1 (run s₀ cs).0 ++ callLine i (replyOf x.answer)) j
-              ∙ ap (λ (y : Answer). callLines 1 (run s₀ cs).0 ++ callLine (1 + length (run s₀ cs).0) (replyOf y)) a
+              (ap (λ (i : ℕ). call_lines 1 (run s₀ cs).0 ++ call_line i (reply_of x.answer)) j
+              ∙ ap (λ (y : Answer). call_lines 1 (run s₀ cs).0 ++ call_line (1 + length (run s₀ cs).0) (reply_of y)) a
               ∙ sym (lines_more 1 (run s₀ cs).0 (step (run s₀ cs).1 c).0)
-              ∙ ap (λ (o : List Answer × State). callLines 1 o.0) (sym m))
+              ∙ ap (λ (o : List Answer × State). call_lines 1 o.0) (sym m))
               ((prints-line x.line room).behind _ h.printed);
         }
 
@@ -149,11 +149,11 @@ module _ {s₀ : State} {k : ℕ} {hand t w text : List ℕ} {p : Pending} (h : 
 
     -- ---- to the end
 
-    bad-end : {q : Pending} (o : Buffered) → scriptCalls (hand ++ []) ≡ ([], true) → (t₁ ≡ t) → (w₁ ≡ w) → Puts text p.n (callLine k badReply) n text₁ → q ≡ record { n = n; failed = p.failed } → RanAll s₀ t₁ w₁ text₁ q o
-    unfolding badLine
+    bad-end : {q : Pending} (o : Buffered) → script_calls (hand ++ []) ≡ ([], true) → (t₁ ≡ t) → (w₁ ≡ w) → Puts text p.n (call_line k bad_reply) n text₁ → q ≡ record { n = n; failed = p.failed } → RanAll s₀ t₁ w₁ text₁ q o
+    unfolding bad_line
     bad-end {q} o b e f x g =
         let cs = h.calls in
-        let y : scriptCalls h.read ≡ (cs, true) = ap scriptCalls (sym (append-nil h.read)) ∙ h.rest [] ∙ ap (followed cs) b ∙ ap (λ (l : List Call). (l, true)) (append-nil cs) in
+        let y : script_calls h.read ≡ (cs, true) = ap script_calls (sym (append-nil h.read)) ∙ h.rest [] ∙ ap (followed cs) b ∙ ap (λ (l : List Call). (l, true)) (append-nil cs) in
         record {
           read = h.read;
           calls = cs;
@@ -165,13 +165,13 @@ module _ {s₀ : State} {k : ℕ} {hand t w text : List ℕ} {p : Pending} (h : 
           lent = subst (λ (o : List ℕ). Lent o w₁ (run s₀ cs).1) (sym e) (subst (λ (o : List ℕ). Lent t o (run s₀ cs).1) (sym f) h.lent);
           sizes = (run-kept s₀ cs h.steps).sizes;
           printed =
-              subst (λ (o : Pending). Printed (callLines 1 (run s₀ cs).0 ++ callLine (suc (length cs)) badReply) text₁ o) (sym g)
-              (subst (λ (i : ℕ). Printed (callLines 1 (run s₀ cs).0 ++ callLine i badReply) text₁ (record { n = n; failed = p.failed })) h.count
+              subst (λ (o : Pending). Printed (call_lines 1 (run s₀ cs).0 ++ call_line (suc (length cs)) bad_reply) text₁ o) (sym g)
+              (subst (λ (i : ℕ). Printed (call_lines 1 (run s₀ cs).0 ++ call_line i bad_reply) text₁ (record { n = n; failed = p.failed })) h.count
               ((prints-line x room).behind _ h.printed));
         }
 
     refused_as : {q : Pending} {size : ℕ} (i : Buffered) → q ≡ record { n = n; failed = p.failed } → 0 < length hand → (o : Parsed) → parsed hand ≡ o → Turns o k p.n t w text n size t₁ w₁ text₁ → size ≡ 0 → RanAll s₀ t₁ w₁ text₁ q i
-    refused_as i g u found.Short e x z = bad-end i (ap scriptCalls (append-nil hand) ∙ stream-cut hand u e) x.tables x.work x.line g
+    refused_as i g u found.Short e x z = bad-end i (ap script_calls (append-nil hand) ∙ stream-cut hand u e) x.tables x.work x.line g
     refused_as i g u found.Bad e x z = bad-end i (stream-bad hand [] e) x.tables x.work x.line g
     refused_as i g u (found.Call r) e x z = absurd (omega (arith, call-size hand r e, x.taken, z))
 
@@ -181,19 +181,19 @@ module _ {s₀ : State} {k : ℕ} {hand t w text : List ℕ} {p : Pending} (h : 
 
   -- where none is at hand, a write failed, or no more can be numbered
   pub ran-end : (o : Buffered) → (p.failed ≡ false → length h.calls < 18446744073709551614 → (hand ≡ []) × (o.more ≡ false)) → RanAll s₀ t w text p o
-  unfolding badLine
+  unfolding bad_line
   ran-end o end =
       let cs = h.calls in
-      let y : scriptCalls h.read ≡ followed cs (scriptCalls (hand ++ [])) = ap scriptCalls (sym (append-nil h.read)) ∙ h.rest [] in
+      let y : script_calls h.read ≡ followed cs (script_calls (hand ++ [])) = ap script_calls (sym (append-nil h.read)) ∙ h.rest [] in
       record {
         read = h.read;
         calls = cs;
         bad = false;
-        later = scriptCalls (hand ++ []);
+        later = script_calls (hand ++ []);
         first = y;
-        all = λ f u. y ∙ ap (λ (l : List ℕ). followed cs (scriptCalls (l ++ []))) (end f u).0 ∙ ap (followed cs) script-ended ∙ ap (λ (l : List Call). (l, false)) (append-nil cs);
+        all = λ f u. y ∙ ap (λ (l : List ℕ). followed cs (script_calls (l ++ []))) (end f u).0 ∙ ap (followed cs) script-ended ∙ ap (λ (l : List Call). (l, false)) (append-nil cs);
         ended = λ f u _. (end f u).1;
         lent = h.lent;
         sizes = (run-kept s₀ cs h.steps).sizes;
-        printed = subst (λ (l : List ℕ). Printed l text p) (sym (append-nil (callLines 1 (run s₀ cs).0))) h.printed;
+        printed = subst (λ (l : List ℕ). Printed l text p) (sym (append-nil (call_lines 1 (run s₀ cs).0))) h.printed;
       }

@@ -4,35 +4,35 @@ use Rattle.std.proofs.Common.{sym, ap, ◌∙◌, arith}
 use Rattle.model.specs.Perform.{Answer}
 use Rattle.model.specs.CallWords.{CallWords}
 use Rattle.model.specs.Memory.{After}
-use Rattle.bytes.specs.Numbers.{Bytes}
+use Rattle.byte_numbers.specs.Numbers.{Bytes}
 use Rattle.script_records.specs.declared.Record.{Record}
 use Rattle.script_records.specs.declared.Parsed.{Parsed}
 use Rattle.script_records.specs.declared.Parsed.TheVariants as found
 use Rattle.script_records.specs.Parsed.{size_of, call_in, parsed}
 use Rattle.script_records.specs.Words.{call-words}
 use Rattle.replies.specs.declared.Reply.{Reply}
-use Rattle.replies.specs.Replies.{replyOf}
+use Rattle.replies.specs.Replies.{reply_of}
 use Rattle.script_progress.specs.declared.Ran.{Ran}
 use Rattle.running.specs.declared.scripts.Taken.{Taken}
 use Rattle.running.specs.declared.scripts.Taken.TheVariants.{Short, Bad, Done}
 use Rattle.running.specs.Takes.{Takes}
-use Rattle.output.specs.Text.{callLine, Puts}
+use Rattle.output.specs.Text.{call_line, Puts}
 use Rattle.output.specs.Puts.{puts-same}
-use Rattle.script_text.specs.ScriptText.{badReply}
+use Rattle.script_text.specs.ScriptText.{bad_reply}
 
 -- The record r is run as the k-th call: `answer` is its answer, and the line of that stands behind the n bytes of the run; `size` bytes are taken.
 pub record Called (r : Record) (k n : ℕ) (t w run : List ℕ) (n' size : ℕ) (t' w' run' : List ℕ) : Type 0 where
   pub answer : Answer
   pub after : After t w (call_in r) answer t' w'
   pub words : CallWords (call_in r)
-  pub line : Puts run n (callLine k (replyOf answer)) n' run'
+  pub line : Puts run n (call_line k (reply_of answer)) n' run'
   pub taken : size ≡ size_of r.kind
 
 -- A bad record, or part of one: nothing is run and no byte taken, and the line of 17 stands behind the n bytes.
 pub record Refused (k n : ℕ) (t w run : List ℕ) (n' size : ℕ) (t' w' run' : List ℕ) : Type 0 where
   pub tables : t' ≡ t
   pub work : w' ≡ w
-  pub line : Puts run n (callLine k badReply) n' run'
+  pub line : Puts run n (call_line k bad_reply) n' run'
   pub taken : size ≡ 0
 
 abbrev pub Turns : Parsed → ℕ → ℕ → List ℕ → List ℕ → List ℕ → ℕ → ℕ → List ℕ → List ℕ → List ℕ → Type 0
@@ -47,34 +47,34 @@ tag Short = 0
 tag Bad = 1
 tag (Done y) = 2
 
-abbrev ranIn : Ran → Taken → Ran
-ranIn d Short = d
-ranIn d Bad = d
-ranIn d (Done y) = y
+abbrev ran_in : Ran → Taken → Ran
+ran_in d Short = d
+ran_in d Bad = d
+ran_in d (Done y) = y
 
 module _ (b t w t₂ w₂ : List ℕ) (x : Taken) (k n : ℕ) (run : List ℕ) (n' : ℕ) (run' : List ℕ) where
-  run-as : Bytes b → (y : Ran) → x ≡ Done y → (p : Parsed) → parsed b ≡ p → Takes p t w x t₂ w₂ → Puts run n (callLine k y.reply) n' run' → Turns p k n t w run n' y.size t₂ w₂ run'
+  run-as : Bytes b → (y : Ran) → x ≡ Done y → (p : Parsed) → parsed b ≡ p → Takes p t w x t₂ w₂ → Puts run n (call_line k y.reply) n' run' → Turns p k n t w run n' y.size t₂ w₂ run'
   run-as known y e found.Short q h l = absurd (omega (arith, ap tag (sym e ∙ h.taken)))
   run-as known y e found.Bad q h l = absurd (omega (arith, ap tag (sym e ∙ h.taken)))
   run-as known y e (found.Call r) q h l =
-      let f = ap (ranIn y) (sym e ∙ h.taken) in
+      let f = ap (ran_in y) (sym e ∙ h.taken) in
       record {
         answer = h.returns.answer;
         after = h.returns.after;
         words = call-words b r known q;
-        line = puts-same (ap (callLine k) (ap (λ (z : Ran). z.reply) f ∙ h.returns.reply)) l;
+        line = puts-same (ap (call_line k) (ap (λ (z : Ran). z.reply) f ∙ h.returns.reply)) l;
         taken = ap (λ (z : Ran). z.size) f;
       }
 
-  pub turns-run : Bytes b → (y : Ran) → x ≡ Done y → Takes (parsed b) t w x t₂ w₂ → Puts run n (callLine k y.reply) n' run' → Turns (parsed b) k n t w run n' y.size t₂ w₂ run'
+  pub turns-run : Bytes b → (y : Ran) → x ≡ Done y → Takes (parsed b) t w x t₂ w₂ → Puts run n (call_line k y.reply) n' run' → Turns (parsed b) k n t w run n' y.size t₂ w₂ run'
   turns-run known y e h l = run-as known y e (parsed b) refl h l
 
-  left_as : (tag x ≡ 2 → ⊥) → (p : Parsed) → Takes p t w x t₂ w₂ → Puts run n (callLine k badReply) n' run' → (size : ℕ) → size ≡ 0 → Turns p k n t w run n' size t₂ w₂ run'
+  left_as : (tag x ≡ 2 → ⊥) → (p : Parsed) → Takes p t w x t₂ w₂ → Puts run n (call_line k bad_reply) n' run' → (size : ℕ) → size ≡ 0 → Turns p k n t w run n' size t₂ w₂ run'
   left_as m found.Short h l size z = record { tables = h.tables; work = h.work; line = l; taken = z }
   left_as m found.Bad h l size z = record { tables = h.tables; work = h.work; line = l; taken = z }
   left_as m (found.Call r) h l size z = absurd (m (ap tag h.taken))
 
-  module _ (h : Takes (parsed b) t w x t₂ w₂) (l : Puts run n (callLine k badReply) n' run') (size : ℕ) (z : size ≡ 0) where
+  module _ (h : Takes (parsed b) t w x t₂ w₂) (l : Puts run n (call_line k bad_reply) n' run') (size : ℕ) (z : size ≡ 0) where
     pub turns-short : x ≡ Short → Turns (parsed b) k n t w run n' size t₂ w₂ run'
     turns-short e = left_as (λ f. omega (arith, f, ap tag e)) (parsed b) h l size z
 

@@ -5,10 +5,10 @@ use Rattle.std.proofs.Common.{◌∙◌}
 use native.Mathlib.Omega.{arith}
 use Rattle.words.specs.Runs.{part, part-part, fetched, fetched-in}
 use Rattle.tables.specs.Tables.{Arena}
-use Rattle.tables.specs.View.{view, Sized, arenaOf}
+use Rattle.tables.specs.View.{view, Sized, arena_of}
 use Rattle.pools.specs.declared.Pool.{Pool}
 use Rattle.pools.specs.declared.Span.{Span}
-use Rattle.pools.specs.Pools.{poolOf, PoolAt, pool-read}
+use Rattle.pools.specs.Pools.{pool_of, PoolAt, pool-read}
 
 module _ (t : List ℕ) (q : Pool) (r : Span) (s : Sized t) (at : PoolAt t q r) where
   -- n words from o on of the pool's words
@@ -16,12 +16,12 @@ module _ (t : List ℕ) (q : Pool) (r : Span) (s : Sized t) (at : PoolAt t q r) 
   unfolding part
   within o n h = fetched-in t (r.start + o) n (omega (arith, at.inside)) ∙ sym (part-part t r.start (r.end - r.start) o n h)
 
-  pub links-lent : fetched t (r.start + 2) r.slots ≡ (poolOf (view t) q).links
-  unfolding arenaOf
+  pub links-lent : fetched t (r.start + 2) r.slots ≡ (pool_of (view t) q).links
+  unfolding arena_of
   links-lent = within 2 r.slots (omega (arith, at.end)) ∙ ap (λ (a : Arena). a.links) (pool-read t q r s at)
 
-  pub generations-lent : fetched t (r.start + 2 + r.slots) r.slots ≡ (poolOf (view t) q).gens
-  unfolding arenaOf
+  pub generations-lent : fetched t (r.start + 2 + r.slots) r.slots ≡ (pool_of (view t) q).gens
+  unfolding arena_of
   generations-lent =
       let e : r.start + 2 + r.slots ≡ r.start + (2 + r.slots) = omega arith in
       rw e (within (2 + r.slots) r.slots (omega (arith, at.end))) ∙ ap (λ (a : Arena). a.gens) (pool-read t q r s at)

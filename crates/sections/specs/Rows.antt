@@ -1,4 +1,4 @@
--- Rows of a section that is lent as a slice of its own. A row that is not there is read as all zero, as `regionAt` and the others do.
+-- Rows of a section that is lent as a slice of its own. A row that is not there is read as all zero, as `region_at` and the others do.
 use Rattle.std.specs.Prelude.{◌≡◌, List, [], ℕ, suc, ◌+◌, ◌-◌, ◌*◌, ◌/◌, ◌≤◌, ◌<◌, length, get_or, take, drop}
 use Rattle.std.proofs.Common.{sym, ◌∙◌, mul-le-mul_right, le-div_iff_mul-le, div-lt_iff_lt-mul, arith}
 use Rattle.std.proofs.Math.Path.{ap}
@@ -6,32 +6,32 @@ use Rattle.std.proofs.Math.ListN.{get_or-eq_default}
 use Rattle.base.specs.Cases.{cmp, lt, ge}
 use Rattle.words.specs.Runs.{part, fetched, fetched-in, fetched-out, none-fetched}
 use Rattle.words.specs.Rows.{rows, length-rows, get_d_rows}
-use Rattle.sizes.specs.Sizes.{slotWidth, regionWidth, recordWidth, hashWidth, interfaceWidth}
+use Rattle.sizes.specs.Sizes.{slot_width, region_width, record_width, hash_width, interface_width}
 use Rattle.tables.specs.declared.Slot.{Slot}
 use Rattle.tables.specs.declared.RegionCapa.{RegionCapa}
 use Rattle.tables.specs.declared.Region.{Region}
 use Rattle.tables.specs.declared.RegionHash.{RegionHash}
 use Rattle.tables.specs.declared.Interface.{Interface}
-use Rattle.tables.specs.View.{slot_of, regionOf, recordOf, hashOf, interfaceOf}
+use Rattle.tables.specs.View.{slot_of, region_of, record_of, hash_of, interface_of}
 
 -- row i of w words, read by f
 unfoldable pub row_in : {A : Type 0} → (List ℕ → A) → ℕ → List ℕ → ℕ → A
 row_in f w p i = f (fetched p (i * w) w)
 
-abbrev pub slotIn : List ℕ → ℕ → Slot
-slotIn p i = row_in slot_of slotWidth p i
+abbrev pub slot_in : List ℕ → ℕ → Slot
+slot_in p i = row_in slot_of slot_width p i
 
-abbrev pub regionIn : List ℕ → ℕ → RegionCapa
-regionIn p i = row_in regionOf regionWidth p i
+abbrev pub region_in : List ℕ → ℕ → RegionCapa
+region_in p i = row_in region_of region_width p i
 
-abbrev pub recordIn : List ℕ → ℕ → Region
-recordIn p i = row_in recordOf recordWidth p i
+abbrev pub record_in : List ℕ → ℕ → Region
+record_in p i = row_in record_of record_width p i
 
-abbrev pub hashIn : List ℕ → ℕ → RegionHash
-hashIn p i = row_in hashOf hashWidth p i
+abbrev pub hash_in : List ℕ → ℕ → RegionHash
+hash_in p i = row_in hash_of hash_width p i
 
-abbrev pub interfaceIn : List ℕ → ℕ → Interface
-interfaceIn p i = row_in interfaceOf interfaceWidth p i
+abbrev pub interface_in : List ℕ → ℕ → Interface
+interface_in p i = row_in interface_of interface_width p i
 
 -- a row below the number of rows lies in the words, another does not
 module _ (n w i : ℕ) (hw : 0 < w) where

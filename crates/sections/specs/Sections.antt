@@ -5,41 +5,41 @@ use mathlib.Core.List.{List}
 use Rattle.words.specs.Runs.{part, fetched, fetched-in}
 use Rattle.words.specs.Cuts.{cuts, offset, cuts-part}
 use Rattle.sizes.specs.declared.Sizes.{Sizes}
-use Rattle.sizes.specs.Sizes.{sizesOf, widths, regionsSection, recordsSection, hashSection, interfaceSection, slotWidth, regionWidth, recordWidth, hashWidth, interfaceWidth}
-use Rattle.tables.specs.Tables.{regionAt, recordAt, hashAt, interfaceAt}
-use Rattle.tables.specs.View.{view, ofParts, Sized, regionOf, recordOf, hashOf, interfaceOf}
+use Rattle.sizes.specs.Sizes.{sizes_of, widths, regions_section, records_section, hash_section, interface_section, slot_width, region_width, record_width, hash_width, interface_width}
+use Rattle.tables.specs.Tables.{region_at, record_at, hash_at, interface_at}
+use Rattle.tables.specs.View.{view, of_parts, Sized, region_of, record_of, hash_of, interface_of}
 use Rattle.tables.specs.Sections.{section, section-length, section-inside, section-lent}
-use Rattle.sections.specs.Rows.{row_in, regionIn, recordIn, hashIn, interfaceIn, row_listed}
+use Rattle.sections.specs.Rows.{row_in, region_in, record_in, hash_in, interface_in, row_listed}
 
 -- what `run` lends of section k
-pub section-run : (t : List ℕ) (k a n : ℕ) → Sized t → a ≡ offset (widths (sizesOf t)) k → n ≡ get_or (widths (sizesOf t)) k 0 → fetched t a n ≡ section t k
+pub section-run : (t : List ℕ) (k a n : ℕ) → Sized t → a ≡ offset (widths (sizes_of t)) k → n ≡ get_or (widths (sizes_of t)) k 0 → fetched t a n ≡ section t k
 unfolding part
 section-run t k a n s ea en =
     let e : a + n - a ≡ n = omega arith in
     fetched-in t a n (omega (arith, section-inside t k s)) ∙ rw e at (section-lent t k a (a + n) s ea (omega arith))
 
 -- the rows of what is lent of each section, at the sizes z that the header holds
-module _ (t p : List ℕ) (z : Sizes) (a : ℕ) (s : Sized t) (ez : z ≡ sizesOf t) where
-  pub regions-lent : a ≡ offset (widths z) regionsSection → p ≡ fetched t a (z.regions * regionWidth) → regionIn p ≡ regionAt (view t)
-  unfolding regionAt view ofParts
+module _ (t p : List ℕ) (z : Sizes) (a : ℕ) (s : Sized t) (ez : z ≡ sizes_of t) where
+  pub regions-lent : a ≡ offset (widths z) regions_section → p ≡ fetched t a (z.regions * region_width) → region_in p ≡ region_at (view t)
+  unfolding region_at view of_parts
   regions-lent ea ep =
-      let e : p ≡ section t regionsSection = ep ∙ section-run t regionsSection a (z.regions * regionWidth) s (rw ez at ea) (rw ez) in
-      λ j i. (ap (λ (x : List ℕ). regionIn x i) e ∙ row_listed regionOf regionWidth (section t regionsSection) i (sizesOf t).regions (section-length t regionsSection s) (omega arith)) j
+      let e : p ≡ section t regions_section = ep ∙ section-run t regions_section a (z.regions * region_width) s (rw ez at ea) (rw ez) in
+      λ j i. (ap (λ (x : List ℕ). region_in x i) e ∙ row_listed region_of region_width (section t regions_section) i (sizes_of t).regions (section-length t regions_section s) (omega arith)) j
 
-  pub records-lent : a ≡ offset (widths z) recordsSection → p ≡ fetched t a (z.records * recordWidth) → recordIn p ≡ recordAt (view t)
-  unfolding recordAt view ofParts
+  pub records-lent : a ≡ offset (widths z) records_section → p ≡ fetched t a (z.records * record_width) → record_in p ≡ record_at (view t)
+  unfolding record_at view of_parts
   records-lent ea ep =
-      let e : p ≡ section t recordsSection = ep ∙ section-run t recordsSection a (z.records * recordWidth) s (rw ez at ea) (rw ez) in
-      λ j i. (ap (λ (x : List ℕ). recordIn x i) e ∙ row_listed recordOf recordWidth (section t recordsSection) i (sizesOf t).records (section-length t recordsSection s) (omega arith)) j
+      let e : p ≡ section t records_section = ep ∙ section-run t records_section a (z.records * record_width) s (rw ez at ea) (rw ez) in
+      λ j i. (ap (λ (x : List ℕ). record_in x i) e ∙ row_listed record_of record_width (section t records_section) i (sizes_of t).records (section-length t records_section s) (omega arith)) j
 
-  pub hashes-lent : a ≡ offset (widths z) hashSection → p ≡ fetched t a (z.regions * hashWidth) → hashIn p ≡ hashAt (view t)
-  unfolding hashAt view ofParts
+  pub hashes-lent : a ≡ offset (widths z) hash_section → p ≡ fetched t a (z.regions * hash_width) → hash_in p ≡ hash_at (view t)
+  unfolding hash_at view of_parts
   hashes-lent ea ep =
-      let e : p ≡ section t hashSection = ep ∙ section-run t hashSection a (z.regions * hashWidth) s (rw ez at ea) (rw ez) in
-      λ j i. (ap (λ (x : List ℕ). hashIn x i) e ∙ row_listed hashOf hashWidth (section t hashSection) i (sizesOf t).regions (section-length t hashSection s) (omega arith)) j
+      let e : p ≡ section t hash_section = ep ∙ section-run t hash_section a (z.regions * hash_width) s (rw ez at ea) (rw ez) in
+      λ j i. (ap (λ (x : List ℕ). hash_in x i) e ∙ row_listed hash_of hash_width (section t hash_section) i (sizes_of t).regions (section-length t hash_section s) (omega arith)) j
 
-  pub interfaces-lent : a ≡ offset (widths z) interfaceSection → p ≡ fetched t a (z.domains * interfaceWidth) → interfaceIn p ≡ interfaceAt (view t)
-  unfolding interfaceAt view ofParts
+  pub interfaces-lent : a ≡ offset (widths z) interface_section → p ≡ fetched t a (z.domains * interface_width) → interface_in p ≡ interface_at (view t)
+  unfolding interface_at view of_parts
   interfaces-lent ea ep =
-      let e : p ≡ section t interfaceSection = ep ∙ section-run t interfaceSection a (z.domains * interfaceWidth) s (rw ez at ea) (rw ez) in
-      λ j i. (ap (λ (x : List ℕ). interfaceIn x i) e ∙ row_listed interfaceOf interfaceWidth (section t interfaceSection) i (sizesOf t).domains (section-length t interfaceSection s) (omega arith)) j
+      let e : p ≡ section t interface_section = ep ∙ section-run t interface_section a (z.domains * interface_width) s (rw ez at ea) (rw ez) in
+      λ j i. (ap (λ (x : List ℕ). interface_in x i) e ∙ row_listed interface_of interface_width (section t interface_section) i (sizes_of t).domains (section-length t interface_section s) (omega arith)) j

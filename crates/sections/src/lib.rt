@@ -1,10 +1,10 @@
 // Sections of the tables lent as slices of their own: a place is worked out once, not at each access. A row is read from its section by its
 // number; one that is not there is all zero.
 ghost use Rattle.std.specs.Prelude.{◌≡◌};
-ghost use Rattle.tables.specs.Tables.{slot_at, regionAt, recordAt, hashAt, interfaceAt};
+ghost use Rattle.tables.specs.Tables.{slot_at, region_at, record_at, hash_at, interface_at};
 ghost use Rattle.tables.specs.View.{view, Sized};
-ghost use Rattle.pools.specs.Pools.{poolOf};
-ghost use Rattle.sections.specs.Rows.{slotIn, regionIn, recordIn, hashIn, interfaceIn};
+ghost use Rattle.pools.specs.Pools.{pool_of};
+ghost use Rattle.sections.specs.Rows.{slot_in, region_in, record_in, hash_in, interface_in};
 
 use pools::Pool;
 use sizes::{HASH_WIDTH, INTERFACE_WIDTH, POOL_HEAD, RECORD_WIDTH, REGION_WIDTH};
@@ -17,7 +17,7 @@ pub use slots::slots_of;
 
 pub fn regions_of<'a>(t: &'a [u64]) -> &'a [u64]
     requires { Sized t.now }
-    ensures { regionIn result.now ≡ regionAt (view t.now) }
+    ensures { region_in result.now ≡ region_at (view t.now) }
 {
     let z = sizes::read_sizes(t);
     words::run(t, sizes::regions_at(z), z.regions * REGION_WIDTH)
@@ -25,7 +25,7 @@ pub fn regions_of<'a>(t: &'a [u64]) -> &'a [u64]
 
 pub fn records_of<'a>(t: &'a [u64]) -> &'a [u64]
     requires { Sized t.now }
-    ensures { recordIn result.now ≡ recordAt (view t.now) }
+    ensures { record_in result.now ≡ record_at (view t.now) }
 {
     let z = sizes::read_sizes(t);
     words::run(t, sizes::records_at(z), z.records * RECORD_WIDTH)
@@ -33,7 +33,7 @@ pub fn records_of<'a>(t: &'a [u64]) -> &'a [u64]
 
 pub fn hashes_of<'a>(t: &'a [u64]) -> &'a [u64]
     requires { Sized t.now }
-    ensures { hashIn result.now ≡ hashAt (view t.now) }
+    ensures { hash_in result.now ≡ hash_at (view t.now) }
 {
     let z = sizes::read_sizes(t);
     words::run(t, sizes::hashes_at(z), z.regions * HASH_WIDTH)
@@ -41,7 +41,7 @@ pub fn hashes_of<'a>(t: &'a [u64]) -> &'a [u64]
 
 pub fn interfaces_of<'a>(t: &'a [u64]) -> &'a [u64]
     requires { Sized t.now }
-    ensures { interfaceIn result.now ≡ interfaceAt (view t.now) }
+    ensures { interface_in result.now ≡ interface_at (view t.now) }
 {
     let z = sizes::read_sizes(t);
     words::run(t, sizes::interfaces_at(z), z.domains * INTERFACE_WIDTH)
@@ -51,7 +51,7 @@ pub fn interfaces_of<'a>(t: &'a [u64]) -> &'a [u64]
 
 pub fn links_of<'a>(t: &'a [u64], q: Pool) -> &'a [u64]
     requires { Sized t.now }
-    ensures { result.now ≡ (poolOf (view t.now) q).links }
+    ensures { result.now ≡ (pool_of (view t.now) q).links }
 {
     let s = pools::span_of(t, q);
     words::run(t, s.start + POOL_HEAD, s.slots)
@@ -59,7 +59,7 @@ pub fn links_of<'a>(t: &'a [u64], q: Pool) -> &'a [u64]
 
 pub fn generations_of<'a>(t: &'a [u64], q: Pool) -> &'a [u64]
     requires { Sized t.now }
-    ensures { result.now ≡ (poolOf (view t.now) q).gens }
+    ensures { result.now ≡ (pool_of (view t.now) q).gens }
 {
     let s = pools::span_of(t, q);
     words::run(t, s.start + POOL_HEAD + s.slots, s.slots)

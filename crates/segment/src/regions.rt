@@ -1,7 +1,7 @@
 // A region comes and goes; what a domain gains and loses with it.
 ghost use Rattle.std.specs.Prelude.{◌≡◌};
 ghost use Rattle.tables.specs.View.{view, Sized, Left};
-ghost use Rattle.segment.specs.Regions.{access, capaFor, newRegion, freedRegion, movePiece};
+ghost use Rattle.segment.specs.Regions.{access, capa_for, new_region, freed_region, move_piece};
 
 use answers::Answer;
 use arena::{Freed, Given};
@@ -19,7 +19,7 @@ pub fn access(start: u64, end: u64, rights: u64) -> AccessRights
 
 // A region of domain d, with that kind and that link to its parent.
 pub fn capa_for(d: usize, kind: u64, parent: u64, a: AccessRights) -> RegionCapa
-    ensures { result ≡ capaFor d kind parent a }
+    ensures { result ≡ capa_for d kind parent a }
 {
     let ops = a.ops;
     RegionCapa {
@@ -37,8 +37,8 @@ pub fn capa_for(d: usize, kind: u64, parent: u64, a: AccessRights) -> RegionCapa
 // In a slot of its own, which is the answer; 11 where none is free.
 pub fn new_region(t: &mut [u64], r: RegionCapa) -> Answer
     requires { Sized t.old }
-    ensures value { result ≡ (newRegion r (view t.old)).answer }
-    ensures left { Left t.new (newRegion r (view t.old)).tables }
+    ensures value { result ≡ (new_region r (view t.old)).answer }
+    ensures left { Left t.new (new_region r (view t.old)).tables }
 {
     match pools::allocate_region(t) {
         Given::At(h) => {
@@ -52,8 +52,8 @@ pub fn new_region(t: &mut [u64], r: RegionCapa) -> Answer
 // 16 where its generation is spent.
 pub fn free_region(t: &mut [u64], i: usize) -> Answer
     requires { Sized t.old }
-    ensures value { result ≡ (freedRegion i (view t.old)).answer }
-    ensures left { Left t.new (freedRegion i (view t.old)).tables }
+    ensures value { result ≡ (freed_region i (view t.old)).answer }
+    ensures left { Left t.new (freed_region i (view t.old)).tables }
 {
     match pools::free_region(t, i) {
         Freed::Done => Answer::Done(0),
@@ -65,8 +65,8 @@ pub fn free_region(t: &mut [u64], i: usize) -> Answer
 // The range from x up to y, where it is not empty, leaves domain `old` and joins domain `new`.
 pub fn move_piece(t: &mut [u64], old: usize, new: usize, rights: u64, x: u64, y: u64) -> Answer
     requires { Sized t.old }
-    ensures value { result ≡ (movePiece old new rights x y (view t.old)).answer }
-    ensures left { Left t.new (movePiece old new rights x y (view t.old)).tables }
+    ensures value { result ≡ (move_piece old new rights x y (view t.old)).answer }
+    ensures left { Left t.new (move_piece old new rights x y (view t.old)).tables }
 {
     if x < y {
         let a = access(x, y, rights);

@@ -1,7 +1,7 @@
 // **Send** (document 01): a region's effective ranges go from one domain to another.
 ghost use Rattle.std.specs.Prelude.{◌≡◌};
 ghost use Rattle.tables.specs.View.{view, Sized, Left};
-ghost use Rattle.segment.specs.Regions.{sendFrom, sendRegion};
+ghost use Rattle.segment.specs.Regions.{send_from, send_region};
 
 use crate::regions;
 use answers::Answer;
@@ -20,8 +20,8 @@ fn send_from(
     first: u64,
 ) -> Answer
     requires { Sized t.old }
-    ensures value { result ≡ (sendFrom old new rights end limit start first (view t.old)).answer }
-    ensures left { Left t.new (sendFrom old new rights end limit start first (view t.old)).tables }
+    ensures value { result ≡ (send_from old new rights end limit start first (view t.old)).answer }
+    ensures left { Left t.new (send_from old new rights end limit start first (view t.old)).tables }
 {
     let mut left = limit;
     let mut x = start;
@@ -49,8 +49,8 @@ fn send_from(
 // Region i becomes domain `new`'s. Its children stay where they are.
 pub fn send_region(t: &mut [u64], i: usize, new: usize) -> Answer
     requires { Sized t.old }
-    ensures value { result ≡ (sendRegion i new (view t.old)).answer }
-    ensures left { Left t.new (sendRegion i new (view t.old)).tables }
+    ensures value { result ≡ (send_region i new (view t.old)).answer }
+    ensures left { Left t.new (send_region i new (view t.old)).tables }
 {
     let limit = words::size(t, sizes::REGIONS) + 1;
     let g = region_rows::load_region(t, i);

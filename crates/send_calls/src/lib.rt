@@ -1,7 +1,7 @@
 // Capabilities sent.
 ghost use Rattle.std.specs.Prelude.{◌≡◌};
 ghost use Rattle.tables.specs.View.{view, Sized, Left};
-ghost use Rattle.send_calls.specs.Calls.{sendHeld, sendCapa, send};
+ghost use Rattle.send_calls.specs.Calls.{send_held, send_capa, send};
 ghost use Rattle.send_calls.specs.Parts.{passed};
 
 use answers::Answer;
@@ -12,8 +12,8 @@ use tables::{Handle, Interface, Slot};
 // 6, 18, 19, and the region's effective ranges; then what the options say is done.
 fn send_held(t: &mut [u64], h: Handle, to: usize, o: SendOptions) -> Answer
     requires { Sized t.old }
-    ensures value { result ≡ (sendHeld h to o (view t.old)).answer }
-    ensures left { Left t.new (sendHeld h to o (view t.old)).tables }
+    ensures value { result ≡ (send_held h to o (view t.old)).answer }
+    ensures left { Left t.new (send_held h to o (view t.old)).tables }
 {
     match checks::live_region(t, h) {
         Answer::Done(i) => match send_options::check_options(o) {
@@ -33,8 +33,8 @@ fn send_held(t: &mut [u64], h: Handle, to: usize, o: SendOptions) -> Answer
 // 4, 10, and for a region 6, 18, 19; for other capabilities the options are ignored.
 fn send_capa(t: &mut [u64], x: Slot, to: usize, o: SendOptions) -> Answer
     requires { Sized t.old }
-    ensures value { result ≡ (sendCapa x to o (view t.old)).answer }
-    ensures left { Left t.new (sendCapa x to o (view t.old)).tables }
+    ensures value { result ≡ (send_capa x to o (view t.old)).answer }
+    ensures left { Left t.new (send_capa x to o (view t.old)).tables }
 {
     let handle = x.handle;
     if x.kind == Slot::FREE {

@@ -5,23 +5,23 @@ use Rattle.rights.specs.Rights.{union}
 use Rattle.rights.specs.declared.Rights.{Rights}
 use Rattle.tables.specs.declared.RegionCapa.{RegionCapa}
 use Rattle.tables.specs.declared.RegionHash.{RegionHash}
-use Rattle.tables.specs.Tables.{Tables, noHash, hashGiven, regionAt, withRegion, withHash}
+use Rattle.tables.specs.Tables.{Tables, no_hash, hash_given, region_at, with_region, with_hash}
 use Rattle.send_options.specs.declared.SendOptions.{SendOptions}
 use Rattle.send_options.specs.declared.SendOptions.TheVariants as options
 
-abbrev pub withRights : RegionCapa → ℕ → RegionCapa
-withRights r k = record { kind = r.kind; owner = r.owner; parent = r.parent; start = r.start; end = r.end; rights = k; child = r.child; next = r.next }
+abbrev pub with_rights : RegionCapa → ℕ → RegionCapa
+with_rights r k = record { kind = r.kind; owner = r.owner; parent = r.parent; start = r.start; end = r.end; rights = k; child = r.child; next = r.next }
 
 -- the flags join the rights of region i
-unfoldable pub addHcv : ℕ → Rights → Tables → Tables
-addHcv i f s = let g = regionAt s i in withRegion s i (withRights g (union (g.rights % 256) f.0))
+unfoldable pub add_hcv : ℕ → Rights → Tables → Tables
+add_hcv i f s = let g = region_at s i in with_region s i (with_rights g (union (g.rights % 256) f.0))
 
 -- the flags join the rights of region i, and its hash becomes x
-unfoldable pub withOptions : ℕ → Rights → RegionHash → Tables → Tables
-withOptions i f x s = withHash (addHcv i f s) i x
+unfoldable pub with_options : ℕ → Rights → RegionHash → Tables → Tables
+with_options i f x s = with_hash (add_hcv i f s) i x
 
--- region i as the options leave it (the model's applyOptions)
-unfoldable pub applyOptions : ℕ → SendOptions → Tables → Tables
-applyOptions i options.None s = s
-applyOptions i (options.Flags f) s = withOptions i f noHash s
-applyOptions i (options.Hashed f h) s = withOptions i f (hashGiven h) s
+-- region i as the options leave it (the model's apply_options)
+unfoldable pub apply_options : ℕ → SendOptions → Tables → Tables
+apply_options i options.None s = s
+apply_options i (options.Flags f) s = with_options i f no_hash s
+apply_options i (options.Hashed f h) s = with_options i f (hash_given h) s

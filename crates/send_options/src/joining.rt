@@ -1,8 +1,8 @@
 // What a send says besides joins the region that was sent (document 02, request 1).
 ghost use Rattle.std.specs.Prelude.{◌≡◌};
-ghost use Rattle.tables.specs.Tables.{hashGiven};
+ghost use Rattle.tables.specs.Tables.{hash_given};
 ghost use Rattle.tables.specs.View.{view, Sized, Left};
-ghost use Rattle.send_options.specs.Joining.{addHcv, withOptions, applyOptions};
+ghost use Rattle.send_options.specs.Joining.{add_hcv, with_options, apply_options};
 
 use crate::SendOptions;
 use rights::Rights;
@@ -11,7 +11,7 @@ use tables::{Hash, RegionHash};
 // The flags join the rights of region i.
 fn add_hcv(t: &mut [u64], i: usize, flags: Rights)
     requires { Sized t.old }
-    ensures { Left t.new (addHcv i flags (view t.old)) }
+    ensures { Left t.new (add_hcv i flags (view t.old)) }
 {
     let mut r = region_rows::load_region(t, i);
     let ops = children::rights_of(r.rights).union(flags);
@@ -21,7 +21,7 @@ fn add_hcv(t: &mut [u64], i: usize, flags: Rights)
 
 // The row of a hash that was given.
 fn hash_given(h: Hash) -> RegionHash
-    ensures { result ≡ hashGiven h }
+    ensures { result ≡ hash_given h }
 {
     RegionHash {
         given: 1,
@@ -35,7 +35,7 @@ fn hash_given(h: Hash) -> RegionHash
 // The flags join the rights of region i, and its hash becomes `hash`.
 fn set_options(t: &mut [u64], i: usize, flags: Rights, hash: RegionHash)
     requires { Sized t.old }
-    ensures { Left t.new (withOptions i flags hash (view t.old)) }
+    ensures { Left t.new (with_options i flags hash (view t.old)) }
 {
     add_hcv(t, i, flags);
     hash_rows::store_hash(t, i, hash);
@@ -45,7 +45,7 @@ fn set_options(t: &mut [u64], i: usize, flags: Rights, hash: RegionHash)
 // absent; without one nothing is done, so that the stored hash stays.
 pub fn apply_options(t: &mut [u64], i: usize, o: SendOptions)
     requires { Sized t.old }
-    ensures { Left t.new (applyOptions i o (view t.old)) }
+    ensures { Left t.new (apply_options i o (view t.old)) }
 {
     match o {
         SendOptions::None => (),

@@ -2,7 +2,7 @@
 pub mod joining;
 
 ghost use Rattle.std.specs.Prelude.{◌≡◌};
-ghost use Rattle.send_options.specs.Options.{flagsAnswer, optionsAnswer};
+ghost use Rattle.send_options.specs.Options.{flags_answer, options_answer};
 
 use answers::Answer;
 pub use joining::apply_options;
@@ -11,7 +11,7 @@ use rights::Rights;
 use tables::Hash;
 
 // No flag word, one without a hash, or one with a hash.
-#[derive(Drop)]
+#[derive(Clone, Copy)]
 pub enum SendOptions {
     None,
     Flags(Rights),
@@ -21,7 +21,7 @@ pub enum SendOptions {
 // 18: a flag other than HASH, CLEANUP or VITAL (document 02, request 1), which are what a child may add to no rights;
 // 19: HASH in the flag word, and no hash.
 fn check_flags(flags: Rights, hashed: bool) -> Answer
-    ensures { result ≡ flagsAnswer flags hashed }
+    ensures { result ≡ flags_answer flags hashed }
 {
     if Rights::NONE.allows(flags) {
         if hashed {
@@ -36,7 +36,7 @@ fn check_flags(flags: Rights, hashed: bool) -> Answer
 }
 
 pub fn check_options(o: SendOptions) -> Answer
-    ensures { result ≡ optionsAnswer o }
+    ensures { result ≡ options_answer o }
 {
     match o {
         SendOptions::None => Answer::Done(0),

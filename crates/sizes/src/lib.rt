@@ -1,9 +1,9 @@
 // The sizes that the tables' header holds, and where the sections start.
 ghost use Rattle.std.specs.Prelude.{◌≡◌};
 ghost use Rattle.words.specs.Cuts.{offset};
-ghost use Rattle.sizes.specs.Limits.{Limits, withinB, limitsB};
-ghost use Rattle.sizes.specs.Tests.{sizedB};
-ghost use Rattle.sizes.specs.Sizes.{sizesOf, stride, regionPoolSection, recordPoolSection, domainsSection, regionsSection, recordsSection, ringSection, hashSection, interfaceSection, markSection, widths, total};
+ghost use Rattle.sizes.specs.Limits.{Limits, within_b, limits_b};
+ghost use Rattle.sizes.specs.Tests.{sized_b};
+ghost use Rattle.sizes.specs.Sizes.{sizes_of, stride, region_pool_section, record_pool_section, domains_section, regions_section, records_section, ring_section, hash_section, interface_section, mark_section, widths, total};
 
 // ---- The header's words: five sizes, and the ring's two places
 
@@ -69,7 +69,7 @@ pub const MOST_WORDS: usize = HEADER_WIDTH
     + (MOST_UPDATES + 1) * MARK_WIDTH;
 
 // How many of each the tables hold; `slots` in each domain.
-#[derive(Drop)]
+#[derive(Clone, Copy)]
 pub struct Sizes {
     pub domains: usize,
     pub slots: usize,
@@ -79,7 +79,7 @@ pub struct Sizes {
 }
 
 pub fn read_sizes(t: &[u64]) -> Sizes
-    ensures { result ≡ sizesOf t.now }
+    ensures { result ≡ sizes_of t.now }
 {
     Sizes {
         domains: words::size(t, DOMAINS),
@@ -91,14 +91,14 @@ pub fn read_sizes(t: &[u64]) -> Sizes
 }
 
 fn within(n: usize, high: usize) -> bool
-    ensures { result ≡ withinB n high }
+    ensures { result ≡ within_b n high }
 {
     words::both(1 <= n, n <= high)
 }
 
 // Whether each size lies in its limits (document 01, "Memory and who can be refused").
 pub fn limits_hold(z: Sizes) -> bool
-    ensures { result ≡ limitsB z }
+    ensures { result ≡ limits_b z }
 {
     let domains = words::both(within(z.domains, MOST_DOMAINS), within(z.slots, MOST_SLOTS));
     let pools = words::both(
@@ -120,63 +120,63 @@ pub fn domain_width(z: Sizes) -> usize
 
 pub fn region_pool_at(z: Sizes) -> usize
     requires { Limits z }
-    ensures { result ≡ offset (widths z) regionPoolSection }
+    ensures { result ≡ offset (widths z) region_pool_section }
 {
     HEADER_WIDTH + (POOL_HEAD + 2 * z.domains)
 }
 
 pub fn record_pool_at(z: Sizes) -> usize
     requires { Limits z }
-    ensures { result ≡ offset (widths z) recordPoolSection }
+    ensures { result ≡ offset (widths z) record_pool_section }
 {
     region_pool_at(z) + (POOL_HEAD + 2 * z.regions)
 }
 
 pub fn domains_at(z: Sizes) -> usize
     requires { Limits z }
-    ensures { result ≡ offset (widths z) domainsSection }
+    ensures { result ≡ offset (widths z) domains_section }
 {
     record_pool_at(z) + (POOL_HEAD + 2 * z.records)
 }
 
 pub fn regions_at(z: Sizes) -> usize
     requires { Limits z }
-    ensures { result ≡ offset (widths z) regionsSection }
+    ensures { result ≡ offset (widths z) regions_section }
 {
     domains_at(z) + z.domains * domain_width(z)
 }
 
 pub fn records_at(z: Sizes) -> usize
     requires { Limits z }
-    ensures { result ≡ offset (widths z) recordsSection }
+    ensures { result ≡ offset (widths z) records_section }
 {
     regions_at(z) + z.regions * REGION_WIDTH
 }
 
 pub fn ring_at(z: Sizes) -> usize
     requires { Limits z }
-    ensures { result ≡ offset (widths z) ringSection }
+    ensures { result ≡ offset (widths z) ring_section }
 {
     records_at(z) + z.records * RECORD_WIDTH
 }
 
 pub fn hashes_at(z: Sizes) -> usize
     requires { Limits z }
-    ensures { result ≡ offset (widths z) hashSection }
+    ensures { result ≡ offset (widths z) hash_section }
 {
     ring_at(z) + (z.updates + 1) * UPDATE_WIDTH
 }
 
 pub fn interfaces_at(z: Sizes) -> usize
     requires { Limits z }
-    ensures { result ≡ offset (widths z) interfaceSection }
+    ensures { result ≡ offset (widths z) interface_section }
 {
     hashes_at(z) + z.regions * HASH_WIDTH
 }
 
 pub fn marks_at(z: Sizes) -> usize
     requires { Limits z }
-    ensures { result ≡ offset (widths z) markSection }
+    ensures { result ≡ offset (widths z) mark_section }
 {
     interfaces_at(z) + z.domains * INTERFACE_WIDTH
 }
@@ -190,7 +190,7 @@ pub fn total_of(z: Sizes) -> usize
 
 // Whether the words are as many as the sizes in their header ask.
 pub fn is_sized(t: &[u64]) -> bool
-    ensures { result ≡ sizedB t.now }
+    ensures { result ≡ sized_b t.now }
 {
     let z = read_sizes(t);
     if limits_hold(z) {

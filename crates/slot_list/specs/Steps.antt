@@ -9,28 +9,28 @@ use Rattle.tables.specs.declared.Slot.{Slot}
 use Rattle.tables.specs.Tables.{no_slot}
 use Rattle.slot_list.specs.declared.SlotList.{SlotList}
 use Rattle.slot_list.specs.declared.Inserted.TheVariants.{At, Full}
-use Rattle.slot_list.specs.Lists.{freeSlot, isFreeB, slotIn, put_in, givesB, giveSlot}
+use Rattle.slot_list.specs.Lists.{free_slot, is_free_b, slot_in, put_in, gives_b, give_slot}
 
 -- ---- a list by value
 
 module _ (l : SlotList) (i : ℕ) where
-  pub slot-here : i < l.size → i < length l.slots → get_or l.slots i no_slot ≡ slotIn l i
-  unfolding slotIn
-  slot-here h hl = get_d_any l.slots i no_slot (freeSlot 0) hl ∙ sym (get_or-take l.size l.slots i (freeSlot 0) h)
+  pub slot-here : i < l.size → i < length l.slots → get_or l.slots i no_slot ≡ slot_in l i
+  unfolding slot_in
+  slot-here h hl = get_d_any l.slots i no_slot (free_slot 0) hl ∙ sym (get_or-take l.size l.slots i (free_slot 0) h)
 
-  pub slot-past : length (take l.size l.slots) ≤ i → freeSlot 0 ≡ slotIn l i
-  unfolding slotIn
-  slot-past h = sym (get_or-eq_default (take l.size l.slots) (freeSlot 0) h)
+  pub slot-past : length (take l.size l.slots) ≤ i → free_slot 0 ≡ slot_in l i
+  unfolding slot_in
+  slot-past h = sym (get_or-eq_default (take l.size l.slots) (free_slot 0) h)
 
 -- what giving reads and tests
-module _ (l : SlotList) (x : Slot) (room free b : Bool) (ex : x ≡ slotIn l l.head) (er : room ≡ both (ltb l.head l.size) (ltb l.count l.size)) (ef : free ≡ isFreeB x) (eb : b ≡ both room free) where
-  gives-is : b ≡ givesB l
-  unfolding givesB
+module _ (l : SlotList) (x : Slot) (room free b : Bool) (ex : x ≡ slot_in l l.head) (er : room ≡ both (ltb l.head l.size) (ltb l.count l.size)) (ef : free ≡ is_free_b x) (eb : b ≡ both room free) where
+  gives-is : b ≡ gives_b l
+  unfolding gives_b
   gives-is = rw (eb, ef, er, ex)
 
   pub give-some : (m : SlotList) (z : Slot) → b ≡ true → z ≡ no_slot → m ≡ put_in l l.head z
-      → record { at = At l.head; list = record { slots = m.slots; head = x.handle.slot; count = l.count + 1; size = m.size } } ≡ giveSlot l
-  unfolding giveSlot
+      → record { at = At l.head; list = record { slots = m.slots; head = x.handle.slot; count = l.count + 1; size = m.size } } ≡ give_slot l
+  unfolding give_slot
   give-some m z h ez em = rw (← gives-is, h, em, ez, ex)
 
   pub give-room : b ≡ true → l.count < l.size
@@ -39,6 +39,6 @@ module _ (l : SlotList) (x : Slot) (room free b : Bool) (ex : x ≡ slotIn l l.h
       let g = both_true (ltb l.head l.size) (ltb l.count l.size) (sym er ∙ f.0) in
       ltb-true l.count l.size g.1
 
-  pub give-none : b ≡ false → record { at = Full; list = l } ≡ giveSlot l
-  unfolding giveSlot
+  pub give-none : b ≡ false → record { at = Full; list = l } ≡ give_slot l
+  unfolding give_slot
   give-none h = rw (← gives-is, h)

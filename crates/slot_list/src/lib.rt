@@ -1,13 +1,13 @@
 // A domain's slot list by value (free_list.rs). Free slots form a stack by their handles' slots; 0 stands behind the last (`FreeList`).
 ghost use Rattle.std.specs.Prelude.{◌≡◌, ◌-◌};
-ghost use Rattle.slot_list.specs.Lists.{freeSlot, isFreeB, slotIn, put_in, emptySlot, giveSlot, takeSlot};
+ghost use Rattle.slot_list.specs.Lists.{free_slot, is_free_b, slot_in, put_in, empty_slot, give_slot, take_slot};
 
 use sizes::MOST_SLOTS;
 use tables::{Handle, Slot};
 
 // The list with its free list: `head` is the free slot that is given next, `count` the slots in use.
 // The places past `size` hold the slot that is all zero.
-#[derive(Drop)]
+#[derive(Clone, Copy)]
 pub struct SlotList {
     pub slots: [Slot; MOST_SLOTS],
     pub head: u64,
@@ -16,14 +16,14 @@ pub struct SlotList {
 }
 
 // What inserting answers.
-#[derive(Drop)]
+#[derive(Clone, Copy)]
 pub enum Inserted {
     At(usize),
     Full,
 }
 
 // What giving answers: the slot, and the list where it is in use.
-#[derive(Drop)]
+#[derive(Clone, Copy)]
 pub struct Given {
     pub at: Inserted,
     pub list: SlotList,
@@ -31,7 +31,7 @@ pub struct Given {
 
 // A free slot, with the free slot `next` after it.
 pub fn free_slot(next: u64) -> Slot
-    ensures { result ≡ freeSlot next }
+    ensures { result ≡ free_slot next }
 {
     let handle = Handle {
         slot: next,
@@ -44,7 +44,7 @@ pub fn free_slot(next: u64) -> Slot
 }
 
 pub fn is_free(x: Slot) -> bool
-    ensures { result ≡ isFreeB x }
+    ensures { result ≡ is_free_b x }
 {
     x.kind == Slot::FREE
 }
@@ -57,7 +57,7 @@ pub fn less_one(n: u64) -> u64
 
 // Slot i; a number too large answers a free slot.
 pub fn slot_of(list: SlotList, i: usize) -> Slot
-    ensures { result ≡ slotIn list i }
+    ensures { result ≡ slot_in list i }
 {
     if i < list.size {
         if i < MOST_SLOTS {
@@ -80,7 +80,7 @@ pub fn put(list: SlotList, i: usize, x: Slot) -> SlotList
 
 // `Capa::None` into slot i, where that is in use.
 pub fn empty(list: SlotList, i: usize) -> SlotList
-    ensures { result ≡ emptySlot list i }
+    ensures { result ≡ empty_slot list i }
 {
     if is_free(slot_of(list, i)) {
         return list;
@@ -90,7 +90,7 @@ pub fn empty(list: SlotList, i: usize) -> SlotList
 
 // `FreeList::allocate`: the slot at the head, which holds None until a capability is put there.
 pub fn give(list: SlotList) -> Given
-    ensures { result ≡ giveSlot list }
+    ensures { result ≡ give_slot list }
 {
     let i = list.head as usize;
     let x = slot_of(list, i);
@@ -112,7 +112,7 @@ pub fn give(list: SlotList) -> Given
 
 // `FreeList::free`: slot i is the head, with the old head behind it; nothing where it is not in use.
 pub fn take(list: SlotList, i: usize) -> SlotList
-    ensures { result ≡ takeSlot list i }
+    ensures { result ≡ take_slot list i }
 {
     if is_free(slot_of(list, i)) {
         return list;

@@ -5,33 +5,33 @@ use Prim.Native.Nat.{ℕ, suc, ◌+◌, ◌-◌, ◌≤◌, ◌<◌}
 use Rattle.std.proofs.Math.Numerals.{add-one}
 use native.Mathlib.Omega.{arith}
 use Rattle.std.proofs.Math.ListN.{get_or-eq_default}
-use Rattle.sizes.specs.Limits.{mostSlots}
+use Rattle.sizes.specs.Limits.{most_slots}
 use Rattle.base.specs.Cases.{cmp, lt, ge}
 use Rattle.base.specs.Tests.{both}
 use Rattle.tables.specs.declared.Slot.{Slot}
 use Rattle.tables.specs.Tables.{no_slot}
 use Rattle.slot_list.specs.declared.SlotList.{SlotList}
 use Rattle.slot_list.specs.Lists.{freed}
-use Rattle.slot_sweep.specs.Sweep.{by_kind, sweepSlot, sweepFrom}
+use Rattle.slot_sweep.specs.Sweep.{by_kind, sweep_slot, sweep_from}
 
 -- ---- a turn of the sweep
 
 module _ (bad : Slot → Bool) (l : SlotList) (i : ℕ) where
-  pub sweep-turn : (m : SlotList) → i < mostSlots → m ≡ sweepSlot bad l i → sweepFrom bad (mostSlots - (i + 1)) (i + 1) m ≡ sweepFrom bad (mostSlots - i) i l
-  unfolding sweepFrom
-  sweep-turn m h e = let n : mostSlots - i ≡ suc (mostSlots - suc i) = omega arith in rw (n, add-one, e)
+  pub sweep-turn : (m : SlotList) → i < most_slots → m ≡ sweep_slot bad l i → sweep_from bad (most_slots - (i + 1)) (i + 1) m ≡ sweep_from bad (most_slots - i) i l
+  unfolding sweep_from
+  sweep-turn m h e = let n : most_slots - i ≡ suc (most_slots - suc i) = omega arith in rw (n, add-one, e)
 
-  pub sweep-end : mostSlots ≤ i → sweepFrom bad (mostSlots - i) i l ≡ l
-  unfolding sweepFrom
-  sweep-end h = let n : mostSlots - i ≡ 0 = omega arith in rw n
+  pub sweep-end : most_slots ≤ i → sweep_from bad (most_slots - i) i l ≡ l
+  unfolding sweep_from
+  sweep-end h = let n : most_slots - i ≡ 0 = omega arith in rw n
 
   module _ (b c : Bool) (x : Slot) (ex : x ≡ get_or l.slots i no_slot) (ec : c ≡ bad x) (eb : b ≡ both (ltb i l.size) c) where
-    pub sweep-freed : b ≡ true → freed l i ≡ sweepSlot bad l i
-    unfolding sweepSlot
+    pub sweep-freed : b ≡ true → freed l i ≡ sweep_slot bad l i
+    unfolding sweep_slot
     sweep-freed h = rw (← ex, ← ec, ← eb, h)
 
-    pub sweep-left : b ≡ false → l ≡ sweepSlot bad l i
-    unfolding sweepSlot
+    pub sweep-left : b ≡ false → l ≡ sweep_slot bad l i
+    unfolding sweep_slot
     sweep-left h = rw (← ex, ← ec, ← eb, h)
 
 -- ---- the kinds

@@ -1,7 +1,7 @@
 // **Sweep** (domain.rs; document 01) of a domain's slot list: slots that hold None or a dead handle are freed in rising order.
 ghost use Rattle.std.specs.Prelude.{◌≡◌};
 ghost use Rattle.tables.specs.View.{view, Sized};
-ghost use Rattle.slot_sweep.specs.Sweep.{isInvalidB, swept};
+ghost use Rattle.slot_sweep.specs.Sweep.{is_invalid_b, swept};
 
 use sizes::MOST_SLOTS;
 use slot_list::SlotList;
@@ -10,7 +10,7 @@ use tables::Slot;
 // None, or a dead handle. A kind that is no capability's, a free slot's too, is not invalid.
 pub fn is_invalid(t: &[u64], x: Slot) -> bool
     requires { Sized t.now }
-    ensures { result ≡ isInvalidB (view t.now) x }
+    ensures { result ≡ is_invalid_b (view t.now) x }
 {
     let kind = x.kind;
     let handle = x.handle;

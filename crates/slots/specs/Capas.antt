@@ -6,34 +6,34 @@ use Rattle.tables.specs.Tables.{Tables}
 use Rattle.slot_list.specs.declared.SlotList.{SlotList}
 use Rattle.slot_list.specs.declared.Inserted.{Inserted}
 use Rattle.slot_list.specs.declared.Inserted.TheVariants.{At, Full}
-use Rattle.slot_list.specs.Lists.{freeSlot, put_in, emptySlot, giveSlot, takeSlot}
+use Rattle.slot_list.specs.Lists.{free_slot, put_in, empty_slot, give_slot, take_slot}
 use Rattle.slot_sweep.specs.Sweep.{swept}
-use Rattle.stored_slots.specs.Record.{domainOr, listAt, with_list}
+use Rattle.stored_slots.specs.Record.{domain_or, list_at, with_list}
 
 -- the list of domain d has a free slot
-unfoldable pub roomB : Tables → ℕ → Bool
-roomB s d = ltb (listAt s d).count (listAt s d).size
+unfoldable pub room_b : Tables → ℕ → Bool
+room_b s d = ltb (list_at s d).count (list_at s d).size
 
--- a full list is swept (the model's hasCapacity)
-unfoldable pub withCapacity : Tables → ℕ → Tables
-withCapacity s d = pick (roomB s d) s (with_list s d (swept s (listAt s d)))
+-- a full list is swept (the model's has_capacity)
+unfoldable pub with_capacity : Tables → ℕ → Tables
+with_capacity s d = pick (room_b s d) s (with_list s d (swept s (list_at s d)))
 
-abbrev insertedAt : Tables → ℕ → SlotList → Slot → Inserted → Tables
-insertedAt s d l x (At i) = with_list s d (put_in l i x)
-insertedAt s d l x Full = s
+abbrev inserted_at : Tables → ℕ → SlotList → Slot → Inserted → Tables
+inserted_at s d l x (At i) = with_list s d (put_in l i x)
+inserted_at s d l x Full = s
 
--- the capability is in the slot that is given (the model's insertCapa)
-unfoldable pub withCapa : Tables → ℕ → Slot → Tables
-withCapa s d x = insertedAt s d (giveSlot (listAt s d)).list x (giveSlot (listAt s d)).at
+-- the capability is in the slot that is given (the model's insert_capa)
+unfoldable pub with_capa : Tables → ℕ → Slot → Tables
+with_capa s d x = inserted_at s d (give_slot (list_at s d)).list x (give_slot (list_at s d)).at
 
--- slot i is freed (the model's removeCapa)
-unfoldable pub withoutCapa : Tables → ℕ → ℕ → Tables
-withoutCapa s d i = with_list s d (takeSlot (listAt s d) i)
+-- slot i is freed (the model's remove_capa)
+unfoldable pub without_capa : Tables → ℕ → ℕ → Tables
+without_capa s d i = with_list s d (take_slot (list_at s d) i)
 
--- slot i is None, and in use (the model's emptyCapa)
-unfoldable pub withEmpty : Tables → ℕ → ℕ → Tables
-withEmpty s d i = with_list s d (emptySlot (listAt s d) i)
+-- slot i is None, and in use (the model's empty_capa)
+unfoldable pub with_empty : Tables → ℕ → ℕ → Tables
+with_empty s d i = with_list s d (empty_slot (list_at s d) i)
 
--- what slot i holds (the model's capaAt)
-unfoldable pub capaAt : Tables → ℕ → ℕ → Slot
-capaAt s d i = get_or (domainOr s d).slots i (freeSlot 0)
+-- what slot i holds (the model's capa_at)
+unfoldable pub capa_at : Tables → ℕ → ℕ → Slot
+capa_at s d i = get_or (domain_or s d).slots i (free_slot 0)

@@ -1,9 +1,9 @@
 // The capabilities of domain d, by the numbers of their slots.
 ghost use Rattle.std.specs.Prelude.{◌≡◌};
 ghost use Rattle.tables.specs.View.{view, Sized, Left};
-ghost use Rattle.slot_list.specs.Lists.{giveSlot};
-ghost use Rattle.stored_slots.specs.Record.{listAt};
-ghost use Rattle.slots.specs.Capas.{roomB, withCapacity, withCapa, withoutCapa, withEmpty, capaAt};
+ghost use Rattle.slot_list.specs.Lists.{give_slot};
+ghost use Rattle.stored_slots.specs.Record.{list_at};
+ghost use Rattle.slots.specs.Capas.{room_b, with_capacity, with_capa, without_capa, with_empty, capa_at};
 
 use slot_list::Inserted;
 use tables::Slot;
@@ -11,7 +11,7 @@ use tables::Slot;
 // Whether a slot is free.
 fn has_room(t: &[u64], d: usize) -> bool
     requires { Sized t.now }
-    ensures { result ≡ roomB (view t.now) d }
+    ensures { result ≡ room_b (view t.now) d }
 {
     let h = domain_rows::load_head(t, d);
     let room = (h.count as usize) < words::size(t, sizes::SLOTS);
@@ -21,8 +21,8 @@ fn has_room(t: &[u64], d: usize) -> bool
 // Whether a slot is free, a full list being swept first (document 01, 12 NoLocal).
 pub fn has_capacity_for(t: &mut [u64], d: usize) -> bool
     requires { Sized t.old }
-    ensures value { result ≡ roomB (withCapacity (view t.old) d) d }
-    ensures left { Left t.new (withCapacity (view t.old) d) }
+    ensures value { result ≡ room_b (with_capacity (view t.old) d) d }
+    ensures left { Left t.new (with_capacity (view t.old) d) }
 {
     if has_room(t, d) {
         return true;
@@ -35,8 +35,8 @@ pub fn has_capacity_for(t: &mut [u64], d: usize) -> bool
 // The capability into the first free slot. Nothing is swept here: `has_capacity_for` comes before.
 pub fn insert_capa(t: &mut [u64], d: usize, capa: Slot) -> Inserted
     requires { Sized t.old }
-    ensures value { result ≡ (giveSlot (listAt (view t.old) d)).at }
-    ensures left { Left t.new (withCapa (view t.old) d capa) }
+    ensures value { result ≡ (give_slot (list_at (view t.old) d)).at }
+    ensures left { Left t.new (with_capa (view t.old) d capa) }
 {
     let g = slot_list::give(stored_slots::load_list(t, d));
     let at = g.at;
@@ -51,7 +51,7 @@ pub fn insert_capa(t: &mut [u64], d: usize, capa: Slot) -> Inserted
 // Frees slot i (document 01, **Send**).
 pub fn remove_capa(t: &mut [u64], d: usize, i: usize)
     requires { Sized t.old }
-    ensures { Left t.new (withoutCapa (view t.old) d i) }
+    ensures { Left t.new (without_capa (view t.old) d i) }
 {
     let list = slot_list::take(stored_slots::load_list(t, d), i);
     stored_slots::store_list(t, d, list);
@@ -60,7 +60,7 @@ pub fn remove_capa(t: &mut [u64], d: usize, i: usize)
 // Slot i becomes None, still in use until a sweep (document 01, **Revoke**).
 pub fn empty_capa(t: &mut [u64], d: usize, i: usize)
     requires { Sized t.old }
-    ensures { Left t.new (withEmpty (view t.old) d i) }
+    ensures { Left t.new (with_empty (view t.old) d i) }
 {
     let list = slot_list::empty(stored_slots::load_list(t, d), i);
     stored_slots::store_list(t, d, list);
@@ -69,7 +69,7 @@ pub fn empty_capa(t: &mut [u64], d: usize, i: usize)
 // What slot i holds; a number too large answers a free slot.
 pub fn capa_at(t: &[u64], d: usize, i: usize) -> Slot
     requires { Sized t.now }
-    ensures { result ≡ capaAt (view t.now) d i }
+    ensures { result ≡ capa_at (view t.now) d i }
 {
     if words::both(
         d < words::size(t, sizes::DOMAINS),

@@ -1,14 +1,14 @@
 // The test of lent tables (document 01, **Sound**): whether the words are those of a sound state.
 ghost use Rattle.std.specs.Prelude.{◌≡◌, length, replicate};
 ghost use Rattle.tables.specs.View.{view, Sized};
-ghost use Rattle.sound.specs.Test.{trackedHolds, isSound};
+ghost use Rattle.sound.specs.Test.{tracked_holds, is_sound};
 
 // What the test asks of the trackers and their pool.
 fn tracked_holds(t: &[u64], w: &mut [u64]) -> bool
     requires sized { Sized t.now }
     requires w_len { length w.old ≡ length t.now }
     requires w_value { w.old ≡ replicate (length w.old) 0 }
-    ensures value { result ≡ trackedHolds (view t.now) }
+    ensures value { result ≡ tracked_holds (view t.now) }
     ensures w_unchanged { w.new ≡ w.old }
 {
     let pool = sound_pools::record_pool_holds(t, w);
@@ -23,7 +23,7 @@ fn tracked_holds(t: &[u64], w: &mut [u64]) -> bool
 pub fn is_sound(t: &[u64], w: &mut [u64]) -> bool
     requires w_len { length w.old ≡ length t.now }
     requires w_value { w.old ≡ replicate (length w.old) 0 }
-    ensures value { result ≡ isSound t.now }
+    ensures value { result ≡ is_sound t.now }
     ensures w_unchanged { w.new ≡ w.old }
 {
     let sized = sizes::is_sized(t);

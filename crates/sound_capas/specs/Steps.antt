@@ -7,16 +7,16 @@ use Rattle.words.specs.Cuts.{offset}
 use Rattle.words.specs.Zeros.{take-zeros}
 use Rattle.tables.specs.Tables.{Tables}
 use Rattle.sizes.specs.declared.Sizes.{Sizes}
-use Rattle.tables.specs.View.{view, ofParts, Sized}
-use Rattle.sizes.specs.Sizes.{sizesOf, total}
-use Rattle.arena.specs.Arena.{capacityOf}
-use Rattle.claims.specs.Claims.{claimsHold}
-use Rattle.sound_capas.specs.Capas.{capaClaim, capasHold}
+use Rattle.tables.specs.View.{view, of_parts, Sized}
+use Rattle.sizes.specs.Sizes.{sizes_of, total}
+use Rattle.arena.specs.Arena.{capacity_of}
+use Rattle.claims.specs.Claims.{claims_hold}
+use Rattle.sound_capas.specs.Capas.{capa_claim, capas_hold}
 
 -- ---- sizes
 
-pub sizes-seen : (t : List ℕ) → sizesOf t ≡ (view t).sizes
-unfolding view ofParts
+pub sizes-seen : (t : List ℕ) → sizes_of t ≡ (view t).sizes
+unfolding view of_parts
 sizes-seen t = refl
 
 -- ---- the marks are a part of the work area
@@ -33,13 +33,13 @@ lent-clear w m e h =
 pub lent_same : (w p : List ℕ) (m : ℕ) → p ≡ take (m - 0) (drop 0 w) → put_mid 0 (m - 0) w p ≡ w
 lent_same w p m e = ap (put_mid 0 (m - 0) w) e ∙ put_same 0 (m - 0) w
 
-pub marks-fit : (t : List ℕ) → Sized t → (sizesOf t).regions + (sizesOf t).domains ≤ length t
+pub marks-fit : (t : List ℕ) → Sized t → (sizes_of t).regions + (sizes_of t).domains ≤ length t
 unfolding total offset
 marks-fit t s = omega (arith, s.exact)
 
 -- ---- the test
 
-pub capas-are : (v : Tables) (z : Sizes) (r : Bool) (a used b want k : ℕ) → z ≡ v.sizes → a ≡ capacityOf v.regionPool → used ≡ z.regions + z.domains - a → b ≡ capacityOf v.domainPool → want ≡ used - b
-    → k ≡ z.regions + z.domains → r ≡ claimsHold (capaClaim v) k (v.sizes.domains * (v.sizes.slots + 1)) want → r ≡ capasHold v
-unfolding capasHold
+pub capas-are : (v : Tables) (z : Sizes) (r : Bool) (a used b want k : ℕ) → z ≡ v.sizes → a ≡ capacity_of v.region_pool → used ≡ z.regions + z.domains - a → b ≡ capacity_of v.domain_pool → want ≡ used - b
+    → k ≡ z.regions + z.domains → r ≡ claims_hold (capa_claim v) k (v.sizes.domains * (v.sizes.slots + 1)) want → r ≡ capas_hold v
+unfolding capas_hold
 capas-are v z r a used b want k ez ea eu eb ew ek er = rw (er, ek, ew, eu, ea, eb, ez)

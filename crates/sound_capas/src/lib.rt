@@ -2,8 +2,8 @@
 // A walk over all slots lets each claim what it names: a mark in the work area for each thing that may be named once.
 ghost use Rattle.std.specs.Prelude.{◌≡◌, ◌+◌, ◌*◌, length, replicate};
 ghost use Rattle.tables.specs.View.{view, Sized};
-ghost use Rattle.claims.specs.Claims.{claimsHold};
-ghost use Rattle.sound_capas.specs.Capas.{capaClaim, capasHold};
+ghost use Rattle.claims.specs.Claims.{claims_hold};
+ghost use Rattle.sound_capas.specs.Capas.{capa_claim, capas_hold};
 
 use pools::Pool;
 
@@ -13,7 +13,7 @@ pub mod walk;
 fn claims_hold(t: &[u64], m: &mut [u64], want: usize) -> bool
     requires sized { Sized t.now }
     requires m_value { m.old ≡ replicate (length m.old) 0 }
-    ensures value { result ≡ claimsHold (capaClaim (view t.now)) (length m.old) ((view t.now).sizes.domains * ((view t.now).sizes.slots + 1)) want }
+    ensures value { result ≡ claims_hold (capa_claim (view t.now)) (length m.old) ((view t.now).sizes.domains * ((view t.now).sizes.slots + 1)) want }
     ensures m_unchanged { m.new ≡ m.old }
 {
     let z = sizes::read_sizes(t);
@@ -32,7 +32,7 @@ pub fn capas_hold(t: &[u64], w: &mut [u64]) -> bool
     requires sized { Sized t.now }
     requires w_len { length w.old ≡ length t.now }
     requires w_value { w.old ≡ replicate (length w.old) 0 }
-    ensures value { result ≡ capasHold (view t.now) }
+    ensures value { result ≡ capas_hold (view t.now) }
     ensures w_unchanged { w.new ≡ w.old }
 {
     let z = sizes::read_sizes(t);

@@ -2,10 +2,10 @@
 ghost use Rattle.std.specs.Prelude.{◌≡◌, ◌+◌, true};
 ghost use Rattle.tables.specs.View.{view, Sized};
 ghost use Rattle.sizes.specs.Limits.{Limits};
-ghost use Rattle.sections.specs.Rows.{slotIn};
-ghost use Rattle.claims.specs.Walk.{marking, walked, rowsWalked};
-ghost use Rattle.capa_claims.specs.Lent.{lent, lent_of, listClaim};
-ghost use Rattle.sound_capas.specs.Capas.{rowClaim};
+ghost use Rattle.sections.specs.Rows.{slot_in};
+ghost use Rattle.claims.specs.Walk.{marking, walked, rows_walked};
+ghost use Rattle.capa_claims.specs.Lent.{lent, lent_of, list_claim};
+ghost use Rattle.sound_capas.specs.Capas.{row_claim};
 
 use claims::Tally;
 use sizes::Sizes;
@@ -25,7 +25,7 @@ fn list_walk(
     d: usize,
 ) -> Tally
     requires { Limits z }
-    ensures { marking m.new result ≡ walked (listClaim (lent z rl.now rg.now r.now dl.now dg.now p.now) d (slotIn s.now)) z.slots 0 (marking m.old y) }
+    ensures { marking m.new result ≡ walked (list_claim (lent z rl.now rg.now r.now dl.now dg.now p.now) d (slot_in s.now)) z.slots 0 (marking m.old y) }
 {
     let mut seen = y;
     let mut j = 0;
@@ -54,7 +54,7 @@ fn domain_walk(
     requires sized { Sized t.now }
     requires limits { Limits z }
     requires p_value { lent z rl.now rg.now r.now dl.now dg.now p.now ≡ lent_of (view t.now) }
-    ensures { marking m.new result ≡ walked (rowClaim (view t.now) d) (z.slots + 1) 0 (marking m.old y) }
+    ensures { marking m.new result ≡ walked (row_claim (view t.now) d) (z.slots + 1) 0 (marking m.old y) }
 {
     if 0 < words::word(dl, d) {
         return y;
@@ -80,7 +80,7 @@ pub fn walk(
     requires sized { Sized t.now }
     requires limits { Limits z }
     requires p_value { lent z rl.now rg.now r.now dl.now dg.now p.now ≡ lent_of (view t.now) }
-    ensures { marking m.new result ≡ rowsWalked (rowClaim (view t.now)) (z.slots + 1) z.domains 0 (marking m.old (record { fits = true; left = want })) }
+    ensures { marking m.new result ≡ rows_walked (row_claim (view t.now)) (z.slots + 1) z.domains 0 (marking m.old (record { fits = true; left = want })) }
 {
     let mut seen = Tally {
         fits: true,

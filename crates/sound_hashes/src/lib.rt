@@ -1,14 +1,14 @@
 // The test of the regions' hashes in lent tables (document 02, request 1). Any words may stand in the tables.
 ghost use Rattle.std.specs.Prelude.{◌≡◌};
 ghost use Rattle.tables.specs.View.{view, Sized};
-ghost use Rattle.sections.specs.Rows.{hashIn};
-ghost use Rattle.sound_hashes.specs.Hashes.{hashClear, hashFits, rowHolds, hashesHold};
+ghost use Rattle.sections.specs.Rows.{hash_in};
+ghost use Rattle.sound_hashes.specs.Hashes.{hash_clear, hash_fits, row_holds, hashes_hold};
 
 use pools::Pool;
 use tables::RegionHash;
 
 fn hash_clear(h: RegionHash) -> bool
-    ensures { result ≡ hashClear h }
+    ensures { result ≡ hash_clear h }
 {
     let first = words::both(h.word0 == 0, h.word1 == 0);
     let rest = words::both(h.word2 == 0, h.word3 == 0);
@@ -16,7 +16,7 @@ fn hash_clear(h: RegionHash) -> bool
 }
 
 fn hash_fits(free: bool, h: RegionHash) -> bool
-    ensures { result ≡ hashFits free h }
+    ensures { result ≡ hash_fits free h }
 {
     if free {
         return hash_clear(h);
@@ -28,7 +28,7 @@ fn hash_fits(free: bool, h: RegionHash) -> bool
 }
 
 fn row_holds(links: &[u64], p: &[u64], i: usize) -> bool
-    ensures { result ≡ rowHolds links.now (hashIn p.now) i }
+    ensures { result ≡ row_holds links.now (hash_in p.now) i }
 {
     let free = 0 < words::word(links, i);
     hash_fits(free, sections::hash_in(p, i))
@@ -37,7 +37,7 @@ fn row_holds(links: &[u64], p: &[u64], i: usize) -> bool
 // Whether each region in use has a hash or none, and each free slot none.
 pub fn hashes_hold(t: &[u64]) -> bool
     requires { Sized t.now }
-    ensures { result ≡ hashesHold (view t.now) }
+    ensures { result ≡ hashes_hold (view t.now) }
 {
     let n = words::size(t, sizes::REGIONS);
     let links = sections::links_of(t, Pool::Regions);

@@ -1,14 +1,14 @@
 // The test of the domains' interfaces in lent tables (document 02, request 2). Any words may stand in the tables.
 ghost use Rattle.std.specs.Prelude.{◌≡◌};
 ghost use Rattle.tables.specs.View.{view, Sized};
-ghost use Rattle.sections.specs.Rows.{interfaceIn};
-ghost use Rattle.sound_interfaces.specs.Interfaces.{interfaceFits, rowHolds, interfacesHold};
+ghost use Rattle.sections.specs.Rows.{interface_in};
+ghost use Rattle.sound_interfaces.specs.Interfaces.{interface_fits, row_holds, interfaces_hold};
 
 use pools::Pool;
 use tables::Interface;
 
 fn interface_fits(free: bool, x: Interface) -> bool
-    ensures { result ≡ interfaceFits free x }
+    ensures { result ≡ interface_fits free x }
 {
     if free {
         return words::both(x.word == 0, x.frozen == 0);
@@ -17,7 +17,7 @@ fn interface_fits(free: bool, x: Interface) -> bool
 }
 
 fn row_holds(links: &[u64], p: &[u64], i: usize) -> bool
-    ensures { result ≡ rowHolds links.now (interfaceIn p.now) i }
+    ensures { result ≡ row_holds links.now (interface_in p.now) i }
 {
     let free = 0 < words::word(links, i);
     interface_fits(free, sections::interface_in(p, i))
@@ -26,7 +26,7 @@ fn row_holds(links: &[u64], p: &[u64], i: usize) -> bool
 // Whether each domain in use has a word that is frozen or not, and each free slot two zeros.
 pub fn interfaces_hold(t: &[u64]) -> bool
     requires { Sized t.now }
-    ensures { result ≡ interfacesHold (view t.now) }
+    ensures { result ≡ interfaces_hold (view t.now) }
 {
     let n = words::size(t, sizes::DOMAINS);
     let links = sections::links_of(t, Pool::Domains);

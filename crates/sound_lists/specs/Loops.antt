@@ -5,13 +5,13 @@ use Rattle.std.proofs.Math.Option.{Option, none, some}
 use Rattle.base.specs.Cases.{pick}
 use Rattle.base.specs.Options.{none-some, some_same}
 use Rattle.base.specs.Tests.{both, both_true, both-i, true-false}
-use Rattle.marks.specs.Marks.{marked, withMark, wordsFor}
+use Rattle.marks.specs.Marks.{marked, with_mark, words_for}
 use Rattle.marks.specs.Laws.{mark-past}
 use Rattle.tables.specs.Tables.{Tables}
 use Rattle.list_links.specs.declared.Stack.{Stack}
 use Rattle.list_links.specs.declared.Step.{Step}
 use Rattle.list_links.specs.Walk.{fresh, met, ended}
-use Rattle.list_links.specs.Stacks.{slots_of, mayMeet, next_of, metIn, coveredIn}
+use Rattle.list_links.specs.Stacks.{slots_of, may_meet, next_of, met_in, covered_in}
 use Rattle.list_links.specs.Reads.{step_of}
 use Rattle.sound_lists.specs.declared.walks.Followed.{Followed}
 use Rattle.sound_lists.specs.Marks.{Marks, fresh-is, marks-more}
@@ -28,15 +28,15 @@ pub record Gone (ok : ℕ → Bool) (o : Option (List ℕ)) (m : ℕ) (r : Follo
 
 -- past the marks of n slots the words are as they were
 abbrev pub Beyond : ℕ → List ℕ → List ℕ → Type 0
-Beyond n w w' = (j : ℕ) → wordsFor n ≤ j → get_or w' j 0 ≡ get_or w j 0
+Beyond n w w' = (j : ℕ) → words_for n ≤ j → get_or w' j 0 ≡ get_or w j 0
 
 pub record Marked (v : Tables) (s : Stack) (e k l : ℕ) (w : List ℕ) (r : Followed) (w' : List ℕ) : Type 0 where
   pub beyond : Beyond (slots_of v s) w w'
-  pub goes : (vs : List ℕ) → Marks (mayMeet v s) w vs → Gone (mayMeet v s) (metIn v s e k l vs) (length vs) r w'
+  pub goes : (vs : List ℕ) → Marks (may_meet v s) w vs → Gone (may_meet v s) (met_in v s e k l vs) (length vs) r w'
 
 pub record Settled (v : Tables) (s : Stack) (x : Followed) (w : List ℕ) (r : Bool) (w' : List ℕ) : Type 0 where
-  pub answer : (o : Option (List ℕ)) → Gone (mayMeet v s) o 0 x w → r ≡ coveredIn v s o
-  pub clean : ((j : ℕ) → wordsFor (slots_of v s) ≤ j → get_or w j 0 ≡ 0) → w' ≡ replicate (length w) 0
+  pub answer : (o : Option (List ℕ)) → Gone (may_meet v s) o 0 x w → r ≡ covered_in v s o
+  pub clean : ((j : ℕ) → words_for (slots_of v s) ≤ j → get_or w j 0 ≡ 0) → w' ≡ replicate (length w) 0
 
 -- ---- a walk, turn by turn
 
@@ -50,12 +50,12 @@ pub record Rest (ok : ℕ → Bool) (o : Option (List ℕ)) (f : List ℕ → Op
 -- f links were followed, and l is the next
 pub record Going (v : Tables) (s : Stack) (e k l₀ : ℕ) (w₀ : List ℕ) (f l : ℕ) (w : List ℕ) : Type 0 where
   pub beyond : Beyond (slots_of v s) w₀ w
-  pub goes : (vs : List ℕ) → Marks (mayMeet v s) w₀ vs → Rest (mayMeet v s) (metIn v s e k l₀ vs) (metIn v s e (k - f) l) (length vs + f) w
+  pub goes : (vs : List ℕ) → Marks (may_meet v s) w₀ vs → Rest (may_meet v s) (met_in v s e k l₀ vs) (met_in v s e (k - f) l) (length vs + f) w
 
 pub going_start : (v : Tables) (s : Stack) (e k l : ℕ) (w : List ℕ) → Going v s e k l w 0 l w
 going_start v s e k l w =
     let z : k - 0 ≡ k = omega arith in
-    record { beyond = λ j h. refl; goes = λ vs m. record { us = vs; marks = m; rest = ap (λ x. metIn v s e x l vs) z; many = omega arith } }
+    record { beyond = λ j h. refl; goes = λ vs m. record { us = vs; marks = m; rest = ap (λ x. met_in v s e x l vs) z; many = omega arith } }
 
 met-go : (f : ℕ → ℕ) (ok : ℕ → Bool) (e k i : ℕ) (vs : List ℕ) → fresh ok i vs ≡ true → met f ok e (suc k) (suc i) vs ≡ met f ok e k (f i) (i ∷ vs)
 unfolding met
@@ -86,8 +86,8 @@ ended-gone : (ok : ℕ → Bool) (o : Option (List ℕ)) (us : List ℕ) (m f e 
 ended-gone ok o us m f e l w true eb k n y = some-gone ok o us m f w k n (sym y ∙ ap (λ q. pick q (some us) none) (sym eb))
 ended-gone ok o us m f e l w false eb k n y = none-gone ok o m f w (sym y ∙ ap (λ q. pick q (some us) none) (sym eb))
 
-pub may-inside : (v : Tables) (s : Stack) (i : ℕ) → mayMeet v s i ≡ true → i < slots_of v s
-unfolding mayMeet
+pub may-inside : (v : Tables) (s : Stack) (i : ℕ) → may_meet v s i ≡ true → i < slots_of v s
+unfolding may_meet
 may-inside v s i h = ltb-true i (slots_of v s) (both_true (ltb i (slots_of v s)) _ h).0
 
 -- ---- the code's turn
@@ -101,21 +101,21 @@ no_more f k l b e t hk hl = true-false (e ∙ both-i (ltb f k) (ltb 0 l) (lt-ltb
 
 module _ (v : Tables) (s : Stack) (e k l₀ : ℕ) (w₀ : List ℕ) (f l : ℕ) (w : List ℕ) (g : Going v s e k l₀ w₀ f l w) (b : Bool) (eb : b ≡ both (ltb f k) (ltb 0 l)) where
   abbrev ok : ℕ → Bool
-  ok = mayMeet v s
+  ok = may_meet v s
 
   module _ (tb : b ≡ true) (x : Step) (old new : Bool) (ex : x ≡ step_of v s (l - 1)) (eo : old ≡ marked w (l - 1)) (en : new ≡ both x.may (not old)) where
     new_is : (us : List ℕ) → Marks ok w us → new ≡ fresh ok (l - 1) us
     new_is us m = en ∙ ap (λ (y : Step). both y.may (not old)) ex ∙ ap (λ y. both (ok (l - 1)) (not y)) eo ∙ sym (fresh-is ok w us (l - 1) m)
 
     -- the walk of the definition is at this link
-    at-link : (us : List ℕ) → metIn v s e (k - f) l us ≡ metIn v s e (suc (k - (f + 1))) (suc (l - 1)) us
+    at-link : (us : List ℕ) → met_in v s e (k - f) l us ≡ met_in v s e (suc (k - (f + 1))) (suc (l - 1)) us
     at-link us =
         let z = more-to-follow f k l b eb tb in
         let zk : k - f ≡ suc (k - (f + 1)) = omega arith in
         let zl : l ≡ suc (l - 1) = omega arith in
-        ap (λ y. metIn v s e y l us) zk ∙ ap (λ y. metIn v s e (suc (k - (f + 1))) y us) zl
+        ap (λ y. met_in v s e y l us) zk ∙ ap (λ y. met_in v s e (suc (k - (f + 1))) y us) zl
 
-    go-rest : new ≡ true → (l - 1) / 64 < length w → (o : Option (List ℕ)) (m : ℕ) → Rest ok o (metIn v s e (k - f) l) (m + f) w → Rest ok o (metIn v s e (k - (f + 1)) (next_of v s (l - 1))) (m + (f + 1)) (withMark w (l - 1))
+    go-rest : new ≡ true → (l - 1) / 64 < length w → (o : Option (List ℕ)) (m : ℕ) → Rest ok o (met_in v s e (k - f) l) (m + f) w → Rest ok o (met_in v s e (k - (f + 1)) (next_of v s (l - 1))) (m + (f + 1)) (with_mark w (l - 1))
     go-rest h i o m r =
         let n : fresh ok (l - 1) r.us ≡ true = sym (new_is r.us r.marks) ∙ h in
         record {
@@ -125,28 +125,28 @@ module _ (v : Tables) (s : Stack) (e k l₀ : ℕ) (w₀ : List ℕ) (f l : ℕ)
           many = omega (arith, r.many);
         }
 
-    pub follow-go : new ≡ true → slots_of v s ≤ length w → (w' : List ℕ) → w' ≡ withMark w (l - 1) → Going v s e k l₀ w₀ (f + 1) x.next w'
-    follow-go h q w' ew = subst (Going v s e k l₀ w₀ (f + 1) x.next) (sym ew) (subst (λ (y : Step). Going v s e k l₀ w₀ (f + 1) y.next (withMark w (l - 1))) (sym ex) here)
+    pub follow-go : new ≡ true → slots_of v s ≤ length w → (w' : List ℕ) → w' ≡ with_mark w (l - 1) → Going v s e k l₀ w₀ (f + 1) x.next w'
+    follow-go h q w' ew = subst (Going v s e k l₀ w₀ (f + 1) x.next) (sym ew) (subst (λ (y : Step). Going v s e k l₀ w₀ (f + 1) y.next (with_mark w (l - 1))) (sym ex) here)
       where
         inside : l - 1 < slots_of v s
         inside = may-inside v s (l - 1) (ap (λ (y : Step). y.may) (sym ex) ∙ (both_true x.may (not old) (sym en ∙ h)).0)
 
-        here : Going v s e k l₀ w₀ (f + 1) (next_of v s (l - 1)) (withMark w (l - 1))
+        here : Going v s e k l₀ w₀ (f + 1) (next_of v s (l - 1)) (with_mark w (l - 1))
         here = record {
           beyond = λ j u. mark-past w (l - 1) (slots_of v s) j inside u ∙ g.beyond j u;
-          goes = λ vs m. go-rest h (omega (arith, inside)) (metIn v s e k l₀ vs) (length vs) (g.goes vs m);
+          goes = λ vs m. go-rest h (omega (arith, inside)) (met_in v s e k l₀ vs) (length vs) (g.goes vs m);
         }
 
-    stop-gone : new ≡ false → (o : Option (List ℕ)) (m : ℕ) → Rest ok o (metIn v s e (k - f) l) (m + f) w → Gone ok o m (record { ended = false; links = f }) w
+    stop-gone : new ≡ false → (o : Option (List ℕ)) (m : ℕ) → Rest ok o (met_in v s e (k - f) l) (m + f) w → Gone ok o m (record { ended = false; links = f }) w
     stop-gone h o m r =
         none-gone ok o m f w
         (sym r.rest ∙ at-link r.us ∙ met-stop (next_of v s) ok e (k - (f + 1)) (l - 1) r.us (sym (new_is r.us r.marks) ∙ h))
 
     pub follow-stop : new ≡ false → Marked v s e k l₀ w₀ (record { ended = false; links = f }) w
-    follow-stop h = record { beyond = g.beyond; goes = λ vs m. stop-gone h (metIn v s e k l₀ vs) (length vs) (g.goes vs m) }
+    follow-stop h = record { beyond = g.beyond; goes = λ vs m. stop-gone h (met_in v s e k l₀ vs) (length vs) (g.goes vs m) }
 
-  end-gone : b ≡ false → (o : Option (List ℕ)) (m : ℕ) → Rest ok o (metIn v s e (k - f) l) (m + f) w → Gone ok o m (record { ended = eqb l e; links = f }) w
+  end-gone : b ≡ false → (o : Option (List ℕ)) (m : ℕ) → Rest ok o (met_in v s e (k - f) l) (m + f) w → Gone ok o m (record { ended = eqb l e; links = f }) w
   end-gone h o m r = ended-gone ok o r.us m f e l w (eqb l e) refl r.marks r.many (sym (met-end (next_of v s) ok e (k - f) l r.us (no_more f k l b eb h)) ∙ r.rest)
 
   pub follow-end : b ≡ false → Marked v s e k l₀ w₀ (record { ended = eqb l e; links = f }) w
-  follow-end h = record { beyond = g.beyond; goes = λ vs m. end-gone h (metIn v s e k l₀ vs) (length vs) (g.goes vs m) }
+  follow-end h = record { beyond = g.beyond; goes = λ vs m. end-gone h (met_in v s e k l₀ vs) (length vs) (g.goes vs m) }

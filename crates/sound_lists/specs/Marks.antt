@@ -3,7 +3,7 @@ use Rattle.std.specs.Prelude.{◌≡◌, refl, ℕ, ◌/◌, ◌<◌, Bool, true
 use Rattle.std.proofs.Common.{sym, ap, ◌∙◌, eq-eqb, ne_eqb}
 use Rattle.std.proofs.Math.Decide.{ℕ_discrete}
 use Rattle.base.specs.Tests.{both}
-use Rattle.marks.specs.Marks.{marked, withMark}
+use Rattle.marks.specs.Marks.{marked, with_mark}
 use Rattle.marks.specs.Laws.{mark-same, mark-other, none-marked}
 use Rattle.list_links.specs.Walk.{seen, fresh}
 use Rattle.sound_lists.specs.Counting.{Once}
@@ -26,11 +26,11 @@ module _ (ok : ℕ → Bool) (w vs : List ℕ) (i : ℕ) (m : Marks ok w vs) whe
   pub fresh-is : fresh ok i vs ≡ both (ok i) (not (marked w i))
   fresh-is = ap (λ b. both (ok i) (not b)) (sym (m.bits i))
 
-  more-bits : i / 64 < length w → (j : ℕ) → marked (withMark w i) j ≡ seen j (i ∷ vs)
+  more-bits : i / 64 < length w → (j : ℕ) → marked (with_mark w i) j ≡ seen j (i ∷ vs)
   more-bits h j = elim (ℕ_discrete j i) [
     | yes e ↦ rw (e, eq-eqb i i refl) (mark-same w i h)
     | no ne ↦ rw (ne_eqb j i ne) (mark-other w i j h ne ∙ m.bits j)
   ]
 
-  pub marks-more : i / 64 < length w → fresh ok i vs ≡ true → Marks ok (withMark w i) (i ∷ vs)
+  pub marks-more : i / 64 < length w → fresh ok i vs ≡ true → Marks ok (with_mark w i) (i ∷ vs)
   marks-more h f = record { bits = more-bits h; once = (f, m.once) }

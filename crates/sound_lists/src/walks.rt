@@ -1,7 +1,7 @@
 // Walks along links, with a mark in the work area for each slot that was met. What was met is counted, so that the marks are read here alone.
 ghost use Rattle.std.specs.Prelude.{◌≡◌, length};
 ghost use Rattle.tables.specs.View.{view, Sized};
-ghost use Rattle.list_links.specs.Stacks.{slots_of, mayMeet, stackHolds};
+ghost use Rattle.list_links.specs.Stacks.{slots_of, may_meet, stack_holds};
 ghost use Rattle.sound_lists.specs.Counting.{tally};
 ghost use Rattle.sound_lists.specs.Marks.{Clean};
 ghost use Rattle.sound_lists.specs.Loops.{Marked, Settled};
@@ -9,7 +9,7 @@ ghost use Rattle.sound_lists.specs.Loops.{Marked, Settled};
 use list_links::Stack;
 
 // How many links were followed, and whether the walk ended where it should and met what it may, nothing twice.
-#[derive(Drop)]
+#[derive(Clone, Copy)]
 pub struct Followed {
     pub ended: bool,
     pub links: usize,
@@ -49,7 +49,7 @@ pub fn follow(t: &[u64], s: Stack, e: u64, most: usize, l: u64, w: &mut [u64]) -
 // How many slots may be met.
 fn count(t: &[u64], s: Stack) -> usize
     requires { Sized t.now }
-    ensures { result ≡ tally (mayMeet (view t.now) s) (slots_of (view t.now) s) }
+    ensures { result ≡ tally (may_meet (view t.now) s) (slots_of (view t.now) s) }
 {
     let n = list_links::slots_of(t, s);
     let p = list_links::words_of(t, s);
@@ -80,7 +80,7 @@ pub fn settle(t: &[u64], s: Stack, x: Followed, w: &mut [u64]) -> bool
 pub fn stack_holds(t: &[u64], s: Stack, w: &mut [u64]) -> bool
     requires sized { Sized t.now }
     requires clean { Clean t.now w.old }
-    ensures value { result ≡ stackHolds (view t.now) s }
+    ensures value { result ≡ stack_holds (view t.now) s }
     ensures w_unchanged { w.new ≡ w.old }
 {
     let n = list_links::slots_of(t, s);

@@ -11,7 +11,7 @@ use Rattle.base.specs.Cases.{pick, cmp, lt, ge}
 use Rattle.words.specs.Rows.{flat}
 use Rattle.words.specs.Stores.{sets-append, sets-apart}
 use Rattle.sweep.specs.Events.{Piece, Event, starts, ends, start_of, end_of}
-use Rattle.sound_events.specs.Events.{eventWords, words_of}
+use Rattle.sound_events.specs.Events.{event_words, words_of}
 use Rattle.sound_events.specs.Words.{length-words}
 
 -- how many pieces there is room for
@@ -37,7 +37,7 @@ fitted w ps = let ks = take (space w) ps in filled (laid w ks) (length ks)
 
 -- one piece more
 abbrev pub put : List ℕ → ℕ → Piece → List ℕ
-put w n p = sets (sets w (2 * n) (eventWords (start_of p))) (2 * (space w + n)) (eventWords (end_of p))
+put w n p = sets (sets w (2 * n) (event_words (start_of p))) (2 * (space w + n)) (event_words (end_of p))
 
 unfoldable pub place : Filled → Piece → Filled
 place a p = pick (ltb a.count (space a.words)) (filled (put a.words a.count p) (a.count + 1)) a
@@ -73,7 +73,7 @@ length-laid w ps = length-sets (sets w 0 (words_of (starts ps))) (2 * space w) (
 
 module _ (w : List ℕ) where
   -- the words of one event more
-  more : (f : Piece → Event) (ps : List Piece) (p : Piece) → words_of (map f (ps ++ p ∷ [])) ≡ words_of (map f ps) ++ eventWords (f p)
+  more : (f : Piece → Event) (ps : List Piece) (p : Piece) → words_of (map f (ps ++ p ∷ [])) ≡ words_of (map f ps) ++ event_words (f p)
   unfolding words_of flat
   more f ps p = ap words_of (map-append f ps (p ∷ [])) ∙ words_append (map f ps) (f p ∷ [])
 
@@ -86,14 +86,14 @@ module _ (w : List ℕ) where
       let n = length ps in
       let s = words_of (starts ps) in
       let e = words_of (ends ps) in
-      let v = eventWords (start_of p) in
+      let v = event_words (start_of p) in
       let es : 0 + length s ≡ 2 * n = omega (arith, long start_of ps) in
       let ee : 2 * space w + length e ≡ 2 * (space w + n) = omega (arith, long end_of ps) in
       rw (length-laid w ps)
-      (ap (λ (x : List ℕ). sets x (2 * (space w + n)) (eventWords (end_of p)))
+      (ap (λ (x : List ℕ). sets x (2 * (space w + n)) (event_words (end_of p)))
       (sym (sets-apart v e (sets w 0 s) (2 * n) (2 * space w) (omega arith))
       ∙ ap (λ (x : List ℕ). sets x (2 * space w) e) (rw es at (sym (sets-append s v w 0)) ∙ ap (sets w 0) (sym (more start_of ps p))))
-      ∙ rw ee at (sym (sets-append e (eventWords (end_of p)) (sets w 0 (words_of (starts (ps ++ p ∷ [])))) (2 * space w)))
+      ∙ rw ee at (sym (sets-append e (event_words (end_of p)) (sets w 0 (words_of (starts (ps ++ p ∷ [])))) (2 * space w)))
       ∙ ap (sets (sets w 0 (words_of (starts (ps ++ p ∷ [])))) (2 * space w)) (sym (more end_of ps p)))
 
   -- what fits of the pieces ps behind those that are there

@@ -13,9 +13,9 @@ use Rattle.tables.specs.declared.Slot.{Slot}
 use Rattle.tables.specs.declared.RegionCapa.{RegionCapa}
 use Rattle.tables.specs.Kinds.{REGION, CARVE}
 use Rattle.tables.specs.Tables.{Arena}
-use Rattle.arena.specs.Arena.{liveB}
+use Rattle.arena.specs.Arena.{live_b}
 use Rattle.sweep.specs.Events.{Piece}
-use Rattle.sound_pieces.specs.Pieces.{piece, between, regionPieces, namesB, slotPieces, slotsPieces}
+use Rattle.sound_pieces.specs.Pieces.{piece, between, region_pieces, names_b, slot_pieces, slots_pieces}
 use Rattle.sound_pieces.specs.Laid.{space, Filled, filled, place_in, place_out, places, places-append}
 
 -- ---- one piece
@@ -75,45 +75,45 @@ module _ (f : ℕ → RegionCapa) (r e : ℕ) where
 abbrev pub pool : List ℕ → List ℕ → Arena
 pool links gens = record { head = 0; count = 0; links = links; gens = gens }
 
-pub same-pool : (p : Arena) (f : ℕ → RegionCapa) (n : ℕ) (g : ℕ → Slot) (m j : ℕ) → slotsPieces (pool p.links p.gens) f n g m j ≡ slotsPieces p f n g m j
-unfolding slotsPieces slotPieces namesB liveB
+pub same-pool : (p : Arena) (f : ℕ → RegionCapa) (n : ℕ) (g : ℕ → Slot) (m j : ℕ) → slots_pieces (pool p.links p.gens) f n g m j ≡ slots_pieces p f n g m j
+unfolding slots_pieces slot_pieces names_b live_b
 same-pool p f n g zero j = refl
-same-pool p f n g (suc m) j = ap (λ (ps : List Piece). slotPieces p f n (g j) ++ ps) (same-pool p f n g m (suc j))
+same-pool p f n g (suc m) j = ap (λ (ps : List Piece). slot_pieces p f n (g j) ++ ps) (same-pool p f n g m (suc j))
 
 module _ (links gens : List ℕ) (x : Slot) where
   pub names-live : (b : Bool) (v : ℕ) → x.kind ≡ REGION → x.handle.slot < length links → v ≡ get_or gens x.handle.slot 0
-      → b ≡ both (eqb (get_or links x.handle.slot 0) 0) (eqb v x.handle.generation) → b ≡ namesB (pool links gens) x
-  unfolding namesB liveB
+      → b ≡ both (eqb (get_or links x.handle.slot 0) 0) (eqb v x.handle.generation) → b ≡ names_b (pool links gens) x
+  unfolding names_b live_b
   names-live b v ek h ev eb = rw (eq-eqb x.kind REGION ek, lt-ltb x.handle.slot (length links) h, ← ev) eb
 
-  pub names-far : length links ≤ x.handle.slot → false ≡ namesB (pool links gens) x
-  unfolding namesB liveB
+  pub names-far : length links ≤ x.handle.slot → false ≡ names_b (pool links gens) x
+  unfolding names_b live_b
   names-far h = rw (le-ltb x.handle.slot (length links) h) (sym (pick_same (eqb x.kind REGION) false))
 
-  pub names-other : (x.kind ≡ REGION → ⊥) → false ≡ namesB (pool links gens) x
-  unfolding namesB
+  pub names-other : (x.kind ≡ REGION → ⊥) → false ≡ names_b (pool links gens) x
+  unfolding names_b
   names-other n = rw (ne_eqb x.kind REGION n)
 
 -- the slots from number j on, of m in all
 module _ (p : Arena) (f : ℕ → RegionCapa) (n : ℕ) (g : ℕ → Slot) (m j : ℕ) (x : Filled) where
-  pub slots_end : m ≤ j → x ≡ places x (slotsPieces p f n g (m - j) j)
-  unfolding slotsPieces places
+  pub slots_end : m ≤ j → x ≡ places x (slots_pieces p f n g (m - j) j)
+  unfolding slots_pieces places
   slots_end h = let e : m - j ≡ 0 = omega arith in rw e
 
-  module _ (h : j < m) (c : Slot) (ec : c ≡ g j) (b : Bool) (eb : b ≡ namesB p c) where
+  module _ (h : j < m) (c : Slot) (ec : c ≡ g j) (b : Bool) (eb : b ≡ names_b p c) where
     abbrev rest : List Piece
-    rest = slotsPieces p f n g (m - (j + 1)) (j + 1)
+    rest = slots_pieces p f n g (m - (j + 1)) (j + 1)
 
-    one_more : places x (slotsPieces p f n g (m - j) j) ≡ places (places x (slotPieces p f n c)) rest
-    unfolding slotsPieces
+    one_more : places x (slots_pieces p f n g (m - j) j) ≡ places (places x (slot_pieces p f n c)) rest
+    unfolding slots_pieces
     one_more =
         let e : m - j ≡ suc (m - (j + 1)) = omega arith in
-        rw (e, ← (add-one j), ← ec) (places-append x (slotPieces p f n c) rest)
+        rw (e, ← (add-one j), ← ec) (places-append x (slot_pieces p f n c) rest)
 
-    pub slot-named : (y : Filled) → y ≡ places x (regionPieces f n c.handle.slot) → b ≡ true → places y rest ≡ places x (slotsPieces p f n g (m - j) j)
-    unfolding slotPieces
-    slot-named y ey t = let e : namesB p c ≡ true = sym eb ∙ t in rw ey (sym (one_more ∙ rw e))
+    pub slot-named : (y : Filled) → y ≡ places x (region_pieces f n c.handle.slot) → b ≡ true → places y rest ≡ places x (slots_pieces p f n g (m - j) j)
+    unfolding slot_pieces
+    slot-named y ey t = let e : names_b p c ≡ true = sym eb ∙ t in rw ey (sym (one_more ∙ rw e))
 
-    pub slot-passed : b ≡ false → places x rest ≡ places x (slotsPieces p f n g (m - j) j)
-    unfolding slotPieces places
-    slot-passed t = let e : namesB p c ≡ false = sym eb ∙ t in sym (one_more ∙ rw e)
+    pub slot-passed : b ≡ false → places x rest ≡ places x (slots_pieces p f n g (m - j) j)
+    unfolding slot_pieces places
+    slot-passed t = let e : names_b p c ≡ false = sym eb ∙ t in sym (one_more ∙ rw e)

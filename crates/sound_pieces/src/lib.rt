@@ -1,7 +1,7 @@
 // The pieces of a domain's regions, laid down in a work area: in its first half where they start, in its second where they end.
 ghost use Rattle.std.specs.Prelude.{◌≡◌};
-ghost use Rattle.sections.specs.Rows.{slotIn, regionIn};
-ghost use Rattle.sound_pieces.specs.Pieces.{piece, regionPieces, namesB, slotsPieces};
+ghost use Rattle.sections.specs.Rows.{slot_in, region_in};
+ghost use Rattle.sound_pieces.specs.Pieces.{piece, region_pieces, names_b, slots_pieces};
 ghost use Rattle.sound_pieces.specs.Laid.{filled, fitted, places};
 ghost use Rattle.sound_pieces.specs.Walks.{pool};
 
@@ -28,7 +28,7 @@ fn lay(w: &mut [u64], n: usize, r: u64, s: u64, e: u64) -> usize
 
 // The pieces of region i of the n in r, behind the m that lie in w.
 fn lay_region(r: &[u64], n: usize, i: usize, w: &mut [u64], m: usize) -> usize
-    ensures { filled w.new result ≡ places (filled w.old m) (regionPieces (regionIn r.now) n i) }
+    ensures { filled w.new result ≡ places (filled w.old m) (region_pieces (region_in r.now) n i) }
 {
     let g = sections::region_in(r, i);
     let mut count = m;
@@ -49,7 +49,7 @@ fn lay_region(r: &[u64], n: usize, i: usize, w: &mut [u64], m: usize) -> usize
 
 // Whether the slot names a live region of the pool with these links and generations.
 fn names(x: Slot, links: &[u64], gens: &[u64]) -> bool
-    ensures { result ≡ namesB (pool links.now gens.now) x }
+    ensures { result ≡ names_b (pool links.now gens.now) x }
 {
     let i = x.handle.slot as usize;
     let generation = x.handle.generation;
@@ -71,7 +71,7 @@ pub fn gather(
     n: usize,
     w: &mut [u64],
 ) -> usize
-    ensures { filled w.new result ≡ fitted w.old (slotsPieces (pool links.now gens.now) (regionIn r.now) n (slotIn s.now) slots 0) }
+    ensures { filled w.new result ≡ fitted w.old (slots_pieces (pool links.now gens.now) (region_in r.now) n (slot_in s.now) slots 0) }
 {
     let mut count = 0;
     let mut j = 0;

@@ -2,7 +2,7 @@
 // and what is free is all zero. The work area holds a bit for each slot that was met, and is zero again afterwards.
 ghost use Rattle.std.specs.Prelude.{◌≡◌, length, replicate};
 ghost use Rattle.tables.specs.View.{view, Sized};
-ghost use Rattle.sound_pools.specs.Hold.{outsidePoolsHold, recordPoolHolds};
+ghost use Rattle.sound_pools.specs.Hold.{outside_pools_hold, record_pool_holds};
 
 use list_links::Stack;
 use sound_lists::walks;
@@ -14,7 +14,7 @@ pub fn outside_pools_hold(t: &[u64], w: &mut [u64]) -> bool
     requires sized { Sized t.now }
     requires w_len { length w.old ≡ length t.now }
     requires w_value { w.old ≡ replicate (length w.old) 0 }
-    ensures value { result ≡ outsidePoolsHold (view t.now) }
+    ensures value { result ≡ outside_pools_hold (view t.now) }
     ensures w_unchanged { w.new ≡ w.old }
 {
     let stack = walks::stack_holds(t, Stack::Domains, w);
@@ -30,7 +30,7 @@ pub fn record_pool_holds(t: &[u64], w: &mut [u64]) -> bool
     requires sized { Sized t.now }
     requires w_len { length w.old ≡ length t.now }
     requires w_value { w.old ≡ replicate (length w.old) 0 }
-    ensures value { result ≡ recordPoolHolds (view t.now) }
+    ensures value { result ≡ record_pool_holds (view t.now) }
     ensures w_unchanged { w.new ≡ w.old }
 {
     let stack = walks::stack_holds(t, Stack::Records, w);

@@ -2,7 +2,7 @@
 ghost use Rattle.std.specs.Prelude.{◌≡◌};
 ghost use Rattle.tables.specs.View.{view, Sized};
 ghost use Rattle.sound_lists.specs.Marks.{Clean};
-ghost use Rattle.sound_pools.specs.Hold.{trackersHold};
+ghost use Rattle.sound_pools.specs.Hold.{trackers_hold};
 ghost use Rattle.sound_pools.specs.Trackers.{TrackersMarked};
 
 use list_links::Stack;
@@ -43,7 +43,7 @@ fn follow_trackers(t: &[u64], w: &mut [u64]) -> Followed
 pub fn trackers_hold(t: &[u64], w: &mut [u64]) -> bool
     requires sized { Sized t.now }
     requires clean { Clean t.now w.old }
-    ensures value { result ≡ trackersHold (view t.now) }
+    ensures value { result ≡ trackers_hold (view t.now) }
     ensures w_unchanged { w.new ≡ w.old }
 {
     let x = follow_trackers(t, w);

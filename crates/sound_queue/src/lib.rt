@@ -1,7 +1,7 @@
 // The test of lent tables, its part about the ring of updates (document 01, **Sound**). Updates are numbered from the read place on, going round.
 ghost use Rattle.std.specs.Prelude.{◌≡◌, ◌+◌, ◌<◌, ◌≤◌};
 ghost use Rattle.tables.specs.View.{view, Sized};
-ghost use Rattle.sound_queue.specs.Ring.{numbered, markNumbered, numbersHold, noneSame, singly, queueHolds};
+ghost use Rattle.sound_queue.specs.Ring.{numbered, mark_numbered, numbers_hold, none_same, singly, queue_holds};
 
 use tables::Update;
 
@@ -20,7 +20,7 @@ fn marks_numbered(t: &[u64], n: usize, read: usize, j: usize) -> u64
     requires sized { Sized t.now }
     requires n_nonzero { 0 < n }
     requires j_bound { read + j ≤ 65536 }
-    ensures { result ≡ markNumbered (view t.now) n read j }
+    ensures { result ≡ mark_numbered (view t.now) n read j }
 {
     ring_rows::load_mark(t, (read + j) % n)
 }
@@ -29,7 +29,7 @@ fn marks_numbered(t: &[u64], n: usize, read: usize, j: usize) -> u64
 fn numbers_hold(t: &[u64], n: usize, read: usize, m: usize) -> bool
     requires sized { Sized t.now }
     requires n_bound { read + n ≤ 65536 }
-    ensures { result ≡ numbersHold (view t.now) n read m }
+    ensures { result ≡ numbers_hold (view t.now) n read m }
 {
     let mut j = 0;
     while j < n {
@@ -50,7 +50,7 @@ fn none_same(t: &[u64], n: usize, read: usize, m: usize, u: Update, from: usize)
     requires sized { Sized t.now }
     requires n_nonzero { 0 < n }
     requires m_bound { read + m ≤ 65536 }
-    ensures { result ≡ noneSame (view t.now) n read m u from }
+    ensures { result ≡ none_same (view t.now) n read m u from }
 {
     let mut i = from;
     while i < m {
@@ -85,7 +85,7 @@ fn is_singly(t: &[u64], n: usize, read: usize, m: usize) -> bool
 
 pub fn queue_holds(t: &[u64]) -> bool
     requires { Sized t.now }
-    ensures { result ≡ queueHolds (view t.now) }
+    ensures { result ≡ queue_holds (view t.now) }
 {
     let n = words::size(t, 4) + 1;
     let read = ring_rows::read_place(t) as usize;

@@ -5,17 +5,17 @@ use Rattle.std.proofs.Math.Path.{ap}
 use Rattle.base.specs.Cases.{pick}
 use Rattle.base.specs.Tests.{both}
 use Rattle.tables.specs.declared.DomainHead.{DomainHead}
-use Rattle.tables.specs.Tables.{Tables, headAt}
-use Rattle.tables.specs.View.{view, ofParts}
-use Rattle.sizes.specs.Sizes.{sizesOf}
+use Rattle.tables.specs.Tables.{Tables, head_at}
+use Rattle.tables.specs.View.{view, of_parts}
+use Rattle.sizes.specs.Sizes.{sizes_of}
 use Rattle.list_links.specs.declared.Stack.TheVariants.{Domains, Slots}
-use Rattle.list_links.specs.Stacks.{mayMeet, stackHolds}
+use Rattle.list_links.specs.Stacks.{may_meet, stack_holds}
 use Rattle.sound_lists.specs.Marks.{Clean}
-use Rattle.clear_rows.specs.Clear.{headClear}
-use Rattle.sound_rows.specs.Hold.{slotsHold, domainHolds}
+use Rattle.clear_rows.specs.Clear.{head_clear}
+use Rattle.sound_rows.specs.Hold.{slots_hold, domain_holds}
 
 pub slots-seen : (t : List ℕ) → (view t).sizes.slots ≡ get_or t 1 0
-unfolding view ofParts sizesOf
+unfolding view of_parts sizes_of
 slots-seen t = refl
 
 pub clean-same : (t w w' : List ℕ) → w' ≡ w → Clean t w → Clean t w'
@@ -30,13 +30,13 @@ pick-else b m x y z e t h = h ∙ ap (λ q. pick q y z) (sym t ∙ e)
 
 -- ---- a domain
 
-module _ (v : Tables) (d : ℕ) (may slots : Bool) (em : may ≡ mayMeet v Domains d) (es : slots ≡ slotsHold v d may) where
-  pub domain-free : (hd : DomainHead) (head r : Bool) → may ≡ true → hd ≡ headAt v d → head ≡ headClear hd → r ≡ both head slots → r ≡ domainHolds v d
-  unfolding domainHolds
+module _ (v : Tables) (d : ℕ) (may slots : Bool) (em : may ≡ may_meet v Domains d) (es : slots ≡ slots_hold v d may) where
+  pub domain-free : (hd : DomainHead) (head r : Bool) → may ≡ true → hd ≡ head_at v d → head ≡ head_clear hd → r ≡ both head slots → r ≡ domain_holds v d
+  unfolding domain_holds
   domain-free hd head r t eh ec er =
-      pick-then may (mayMeet v Domains d) r _ _ em t (er ∙ ap (λ b. both b slots) (ec ∙ ap headClear eh) ∙ ap (both (headClear (headAt v d))) (es ∙ ap (slotsHold v d) t))
+      pick-then may (may_meet v Domains d) r _ _ em t (er ∙ ap (λ b. both b slots) (ec ∙ ap head_clear eh) ∙ ap (both (head_clear (head_at v d))) (es ∙ ap (slots_hold v d) t))
 
-  pub domain-used : (list r : Bool) → may ≡ false → list ≡ stackHolds v (Slots d) → r ≡ both slots list → r ≡ domainHolds v d
-  unfolding domainHolds
+  pub domain-used : (list r : Bool) → may ≡ false → list ≡ stack_holds v (Slots d) → r ≡ both slots list → r ≡ domain_holds v d
+  unfolding domain_holds
   domain-used list r t el er =
-      pick-else may (mayMeet v Domains d) r _ _ em t (er ∙ ap (λ b. both b list) (es ∙ ap (slotsHold v d) t) ∙ ap (both (slotsHold v d false)) el)
+      pick-else may (may_meet v Domains d) r _ _ em t (er ∙ ap (λ b. both b list) (es ∙ ap (slots_hold v d) t) ∙ ap (both (slots_hold v d false)) el)

@@ -2,8 +2,8 @@
 ghost use Rattle.std.specs.Prelude.{◌≡◌};
 ghost use Rattle.tables.specs.View.{view, Sized};
 ghost use Rattle.sound_lists.specs.Marks.{Clean};
-ghost use Rattle.sound_rows.specs.Hold.{slotsHold, domainHolds, rowsHold};
-ghost use Rattle.sound_rows.specs.Rows.{regionFits, recordFits};
+ghost use Rattle.sound_rows.specs.Hold.{slots_hold, domain_holds, rows_hold};
+ghost use Rattle.sound_rows.specs.Rows.{region_fits, record_fits};
 
 use list_links::Stack;
 use pools::Pool;
@@ -12,7 +12,7 @@ use sound_lists::walks;
 // Whether the slots of domain d are all zero, or as the kinds say.
 fn slots_hold(t: &[u64], d: usize, free: bool) -> bool
     requires { Sized t.now }
-    ensures { result ≡ slotsHold (view t.now) d free }
+    ensures { result ≡ slots_hold (view t.now) d free }
 {
     let n = words::size(t, sizes::SLOTS);
     let slots = sections::slots_of(t, d);
@@ -30,7 +30,7 @@ fn slots_hold(t: &[u64], d: usize, free: bool) -> bool
 fn domain_holds(t: &[u64], d: usize, w: &mut [u64]) -> bool
     requires sized { Sized t.now }
     requires clean { Clean t.now w.old }
-    ensures value { result ≡ domainHolds (view t.now) d }
+    ensures value { result ≡ domain_holds (view t.now) d }
     ensures w_unchanged { w.new ≡ w.old }
 {
     let free = list_links::may_meet(t, Stack::Domains, d);
@@ -47,7 +47,7 @@ fn domain_holds(t: &[u64], d: usize, w: &mut [u64]) -> bool
 pub fn domains_hold(t: &[u64], w: &mut [u64]) -> bool
     requires sized { Sized t.now }
     requires clean { Clean t.now w.old }
-    ensures value { result ≡ rowsHold (view t.now) Stack.Domains }
+    ensures value { result ≡ rows_hold (view t.now) Stack.Domains }
     ensures w_unchanged { w.new ≡ w.old }
 {
     let n = list_links::slots_of(t, Stack::Domains);
@@ -65,7 +65,7 @@ pub fn domains_hold(t: &[u64], w: &mut [u64]) -> bool
 // ---- Rows that are read from their section, beside the pool's link
 
 fn region_holds(link: u64, rows: &[u64], i: usize) -> bool
-    ensures { result ≡ regionFits link rows.now i }
+    ensures { result ≡ region_fits link rows.now i }
 {
     if 0 < link {
         clear_rows::region_clear(sections::region_in(rows, i))
@@ -75,7 +75,7 @@ fn region_holds(link: u64, rows: &[u64], i: usize) -> bool
 }
 
 fn record_holds(link: u64, rows: &[u64], i: usize) -> bool
-    ensures { result ≡ recordFits link rows.now i }
+    ensures { result ≡ record_fits link rows.now i }
 {
     if 0 < link {
         clear_rows::record_clear(sections::record_in(rows, i))
@@ -86,7 +86,7 @@ fn record_holds(link: u64, rows: &[u64], i: usize) -> bool
 
 pub fn regions_hold(t: &[u64]) -> bool
     requires { Sized t.now }
-    ensures { result ≡ rowsHold (view t.now) Stack.Regions }
+    ensures { result ≡ rows_hold (view t.now) Stack.Regions }
 {
     let n = list_links::slots_of(t, Stack::Regions);
     let free = sections::links_of(t, Pool::Regions);
@@ -104,7 +104,7 @@ pub fn regions_hold(t: &[u64]) -> bool
 
 pub fn records_hold(t: &[u64]) -> bool
     requires { Sized t.now }
-    ensures { result ≡ rowsHold (view t.now) Stack.Records }
+    ensures { result ≡ rows_hold (view t.now) Stack.Records }
 {
     let n = list_links::slots_of(t, Stack::Records);
     let free = sections::links_of(t, Pool::Records);

@@ -1,13 +1,13 @@
 -- What both cursors say together: rounds for all events, and what a record leaves.
 use Rattle.std.specs.Prelude.{◌≡◌, List, ℕ, ◌+◌, length}
 use Rattle.sweep.specs.Sweep as sweep
-use Rattle.sound_events.specs.Events.{eventsIn}
+use Rattle.sound_events.specs.Events.{events_in}
 use Rattle.sweep_cursors.specs.Cursors.{At}
 use Rattle.sound_sweep.specs.declared.Both.{Both}
 
 -- enough rounds for all events
 abbrev pub rounds : List ℕ → List ℕ → ℕ
-rounds s e = length (eventsIn s) + length (eventsIn e)
+rounds s e = length (events_in s) + length (events_in e)
 
 -- what a record leaves is d
 pub record Left (s e : List ℕ) (d : sweep.Both) (r : Both) : Type 0 where

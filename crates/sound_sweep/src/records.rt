@@ -2,8 +2,8 @@
 ghost use Rattle.std.specs.Prelude.{◌≡◌};
 ghost use Rattle.sweep.specs.Sweep.{inside};
 ghost use Rattle.sweep_cursors.specs.Sums.{Low};
-ghost use Rattle.sweep_cursors.specs.Cursors.{cursorIn};
-ghost use Rattle.sweep_neighbours.specs.Follows.{recordFrom};
+ghost use Rattle.sweep_cursors.specs.Cursors.{cursor_in};
+ghost use Rattle.sweep_neighbours.specs.Follows.{record_from};
 ghost use Rattle.sound_sweep.specs.Cursors.{Left, rounds};
 ghost use Rattle.sound_sweep.specs.Steps.{turn, ending};
 
@@ -15,7 +15,7 @@ use tables::Region;
 fn inside(s: &[u64], e: &[u64], q: Region, p: Cursor, m: Cursor) -> Both
     requires low { Low p.place p.sums }
     requires low_2 { Low m.place m.sums }
-    ensures { Left s.now e.now (inside (rounds s.now e.now) (recordFrom 0 q) (cursorIn s.now p) (cursorIn e.now m)) result }
+    ensures { Left s.now e.now (inside (rounds s.now e.now) (record_from 0 q) (cursor_in s.now p) (cursor_in e.now m)) result }
 {
     let mut p = p;
     let mut m = m;
@@ -34,7 +34,7 @@ fn inside(s: &[u64], e: &[u64], q: Region, p: Cursor, m: Cursor) -> Both
 pub fn holds(s: &[u64], e: &[u64], b: Region, q: Region, p: Cursor, m: Cursor) -> Both
     requires low { Low p.place p.sums }
     requires low_2 { Low m.place m.sums }
-    ensures { Left s.now e.now (turn (rounds s.now e.now) (recordFrom 0 b) (recordFrom 0 q) (cursorIn s.now p) (cursorIn e.now m)) result }
+    ensures { Left s.now e.now (turn (rounds s.now e.now) (record_from 0 b) (record_from 0 q) (cursor_in s.now p) (cursor_in e.now m)) result }
 {
     let ended = events::upto(e, b.end, m);
     let may = sweep_neighbours::follows(s, b, q, p, ended.sums);
@@ -57,7 +57,7 @@ pub fn holds(s: &[u64], e: &[u64], b: Region, q: Region, p: Cursor, m: Cursor) -
 // Behind the last record b: no start is left, and all that started has ended.
 pub fn ends(s: &[u64], e: &[u64], b: Region, p: Cursor, m: Cursor) -> bool
     requires { Low m.place m.sums }
-    ensures { result ≡ ending (recordFrom 0 b) (cursorIn s.now p) (cursorIn e.now m) }
+    ensures { result ≡ ending (record_from 0 b) (cursor_in s.now p) (cursor_in e.now m) }
 {
     let started = p.sums;
     let last = events::upto(e, b.end, m);

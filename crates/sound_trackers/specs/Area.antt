@@ -9,7 +9,7 @@ use borrow.Rule.Slice.PartMut.{put_mid}
 use Rattle.std.proofs.Math.ListN.{length}
 use Rattle.std.proofs.Math.Seq.{sets, length-sets}
 use Rattle.std.proofs.lemmas.List.{set-get_or}
-use Rattle.base.specs.Lists.{getD-zeros}
+use Rattle.base.specs.Lists.{get_or-zeros}
 use Rattle.words.specs.Runs.{part, part_in, part-after, length_part, sets-all, lent_back}
 use Rattle.words.specs.Stores.{sets-apart, sets_over}
 use Rattle.words.specs.Zeros.{zeros}
@@ -84,7 +84,7 @@ module _ (w a b : List ℕ) (k : ℕ) (u : List ℕ) (t : Two w a b k u) where
 -- ---- zeros
 
 set-zero : (n i : ℕ) → set (zeros n) i 0 ≡ zeros n
-set-zero n i = ap (set (zeros n) i) (sym (getD-zeros n i)) ∙ set-get_or (zeros n) i 0
+set-zero n i = ap (set (zeros n) i) (sym (get_or-zeros n i)) ∙ set-get_or (zeros n) i 0
 
 sets-zeros : (n i k : ℕ) → sets (zeros n) i (zeros k) ≡ zeros n
 sets-zeros n i zero = refl

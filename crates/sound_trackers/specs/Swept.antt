@@ -10,7 +10,7 @@ use Rattle.words.specs.Zeros.{zeros}
 use Rattle.sweep.specs.Events.{Piece, Event, starts, ends, start_of, end_of}
 use Rattle.sweep.specs.Sweep.{sweep}
 use Rattle.sweep.specs.Sort.{sort}
-use Rattle.sound_events.specs.Events.{eventsIn, words_of, gaps}
+use Rattle.sound_events.specs.Events.{events_in, words_of, gaps}
 use Rattle.sound_events.specs.Words.{length-words, events-words}
 use Rattle.sound_pieces.specs.Laid.{space, laid, filled, fitted}
 use Rattle.sound_trackers.specs.Area.{Two, two, middle, two-long, first-lent, second-lent, first_back, second_back, two-cleared}
@@ -20,8 +20,8 @@ abbrev pub swept : List Record → List Piece → Bool
 swept l ps = sweep l (sort gaps (starts ps)) (sort gaps (ends ps))
 
 -- the words p of events, sorted to q, are read as r
-run-sorted : (l : List Event) (p q r : List ℕ) → p ≡ words_of l → eventsIn q ≡ sort gaps (eventsIn p) → r ≡ q → eventsIn r ≡ sort gaps l
-run-sorted l p q r ep eq er = ap eventsIn er ∙ eq ∙ ap (λ (x : List ℕ). sort gaps (eventsIn x)) ep ∙ ap (sort gaps) (events-words l)
+run-sorted : (l : List Event) (p q r : List ℕ) → p ≡ words_of l → events_in q ≡ sort gaps (events_in p) → r ≡ q → events_in r ≡ sort gaps l
+run-sorted l p q r ep eq er = ap events_in er ∙ eq ∙ ap (λ (x : List ℕ). sort gaps (events_in x)) ep ∙ ap (sort gaps) (events-words l)
 
 module _ (w : List ℕ) (ps : List Piece) (u : List ℕ) (n : ℕ) (e : filled u n ≡ fitted w ps) where
   abbrev ks : List Piece
@@ -62,9 +62,9 @@ module _ (w : List ℕ) (ps : List Piece) (u : List ℕ) (n : ℕ) (e : filled u
     u₄ = put_mid h (h + k - h) u₃ p₄
 
     pub domain-done : (l : List Record) (b : Bool) → w ≡ zeros (length w)
-        → (eventsIn p₁ ≡ sort gaps (eventsIn (take (k - 0) u))) × (length p₁ ≡ length (take (k - 0) u))
-        → (eventsIn p₂ ≡ sort gaps (eventsIn (take (h + k - h) (drop h u₁)))) × (length p₂ ≡ length (take (h + k - h) (drop h u₁)))
-        → b ≡ sweep l (eventsIn (take (k - 0) u₂)) (eventsIn (take (h + k - h) (drop h u₂)))
+        → (events_in p₁ ≡ sort gaps (events_in (take (k - 0) u))) × (length p₁ ≡ length (take (k - 0) u))
+        → (events_in p₂ ≡ sort gaps (events_in (take (h + k - h) (drop h u₁)))) × (length p₂ ≡ length (take (h + k - h) (drop h u₁)))
+        → b ≡ sweep l (events_in (take (k - 0) u₂)) (events_in (take (h + k - h) (drop h u₂)))
         → p₃ ≡ zeros (length (take (k - 0) u₂)) → p₄ ≡ zeros (length (take (h + k - h) (drop h u₃)))
         → (b ≡ swept l ks) × (u₄ ≡ w)
     domain-done l b z s₁ s₂ eb c₁ c₂ =

@@ -2,12 +2,12 @@
 // against the pieces of its regions. Pools, slot lists, the region tree and the owners are tested elsewhere.
 ghost use Rattle.std.specs.Prelude.{◌≡◌, length, take, replicate};
 ghost use Rattle.tables.specs.View.{view, Sized};
-ghost use Rattle.sections.specs.Rows.{slotIn, regionIn, recordIn};
-ghost use Rattle.sound_pieces.specs.Pieces.{slotsPieces};
+ghost use Rattle.sections.specs.Rows.{slot_in, region_in, record_in};
+ghost use Rattle.sound_pieces.specs.Pieces.{slots_pieces};
 ghost use Rattle.sound_pieces.specs.Laid.{space};
 ghost use Rattle.sound_pieces.specs.Walks.{pool};
 ghost use Rattle.sound_sweep.specs.Records.{chained};
-ghost use Rattle.sound_trackers.specs.Trackers.{trackersHold};
+ghost use Rattle.sound_trackers.specs.Trackers.{trackers_hold};
 ghost use Rattle.sound_trackers.specs.Swept.{swept};
 
 use pools::Pool;
@@ -26,7 +26,7 @@ fn domain_holds(
     w: &mut [u64],
 ) -> bool
     requires { w.old ≡ replicate (length w.old) 0 }
-    ensures value { result ≡ swept (chained (recordIn q.now) records first) (take (space w.old) (slotsPieces (pool links.now gens.now) (regionIn r.now) regions (slotIn s.now) slots 0)) }
+    ensures value { result ≡ swept (chained (record_in q.now) records first) (take (space w.old) (slots_pieces (pool links.now gens.now) (region_in r.now) regions (slot_in s.now) slots 0)) }
     ensures w_unchanged { w.new ≡ w.old }
 {
     let count = sound_pieces::gather(s, slots, links, gens, r, regions, w);
@@ -46,7 +46,7 @@ pub fn trackers_hold(t: &[u64], w: &mut [u64]) -> bool
     requires sized { Sized t.now }
     requires w_len { length w.old ≡ length t.now }
     requires w_value { w.old ≡ replicate (length w.old) 0 }
-    ensures value { result ≡ trackersHold (view t.now) }
+    ensures value { result ≡ trackers_hold (view t.now) }
     ensures w_unchanged { w.new ≡ w.old }
 {
     let z = sizes::read_sizes(t);

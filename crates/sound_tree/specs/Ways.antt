@@ -8,7 +8,7 @@ use Rattle.base.specs.Cases.{pick, cmp, lt, ge, test, holds, fails}
 use Rattle.words.specs.Runs.{lent_back}
 use Rattle.words.specs.Zeros.{zeros, drop-zeros}
 use Rattle.tables.specs.declared.RegionCapa.{RegionCapa}
-use Rattle.sound_tree.specs.Tree.{stops, climbFrom, markFrom, rootedFrom, marksFrom, cleared}
+use Rattle.sound_tree.specs.Tree.{stops, climb_from, mark_from, rooted_from, marks_from, cleared}
 
 -- a row that is no child's stops the way
 pub stop-low : (row : ℕ → RegionCapa) (w : List ℕ) (j : ℕ) → (row j).kind < 2 → stops row w j ≡ true
@@ -20,65 +20,65 @@ stop-low row w j h = low (ltb 0 (get_or w j 0))
     low false = lt-ltb _ _ h
 
 module _ (row : ℕ → RegionCapa) (w : List ℕ) (j : ℕ) (b : Bool) (e : b ≡ stops row w j) where
-  pub climb-turn : (n k : ℕ) → 0 < n → b ≡ false → k ≡ (row j).parent - 1 → climbFrom row w (n - 1) k ≡ climbFrom row w n j
+  pub climb-turn : (n k : ℕ) → 0 < n → b ≡ false → k ≡ (row j).parent - 1 → climb_from row w (n - 1) k ≡ climb_from row w n j
   climb-turn zero k h y f = absurd (omega arith)
   climb-turn (suc n) k h y f = let z : suc n - 1 ≡ n = omega arith in rw (z, ← e, y, f)
 
-  pub climb-stop : (n : ℕ) → 0 < n → b ≡ true → true ≡ climbFrom row w n j
+  pub climb-stop : (n : ℕ) → 0 < n → b ≡ true → true ≡ climb_from row w n j
   climb-stop zero h y = absurd (omega arith)
   climb-stop (suc n) h y = rw (← e, y)
 
-  pub mark-turn : (n k : ℕ) (u : List ℕ) → 0 < n → b ≡ false → u ≡ set w j 1 → k ≡ (row j).parent - 1 → markFrom row u (n - 1) k ≡ markFrom row w n j
+  pub mark-turn : (n k : ℕ) (u : List ℕ) → 0 < n → b ≡ false → u ≡ set w j 1 → k ≡ (row j).parent - 1 → mark_from row u (n - 1) k ≡ mark_from row w n j
   mark-turn zero k u h y g f = absurd (omega arith)
   mark-turn (suc n) k u h y g f = let z : suc n - 1 ≡ n = omega arith in rw (z, ← e, y, g, f)
 
-  pub mark-stop : (n : ℕ) → 0 < n → b ≡ true → w ≡ markFrom row w n j
+  pub mark-stop : (n : ℕ) → 0 < n → b ≡ true → w ≡ mark_from row w n j
   mark-stop zero h y = absurd (omega arith)
   mark-stop (suc n) h y = rw (← e, y)
 
-pub climb-end : (row : ℕ → RegionCapa) (w : List ℕ) (n j : ℕ) → n ≤ 0 → false ≡ climbFrom row w n j
+pub climb-end : (row : ℕ → RegionCapa) (w : List ℕ) (n j : ℕ) → n ≤ 0 → false ≡ climb_from row w n j
 climb-end row w n j h = let z : n ≡ 0 = omega arith in rw z
 
-pub mark-end : (row : ℕ → RegionCapa) (w : List ℕ) (n j : ℕ) → n ≤ 0 → w ≡ markFrom row w n j
+pub mark-end : (row : ℕ → RegionCapa) (w : List ℕ) (n j : ℕ) → n ≤ 0 → w ≡ mark_from row w n j
 mark-end row w n j h = let z : n ≡ 0 = omega arith in rw z
 
-module _ (row : ℕ → RegionCapa) (n i : ℕ) (w : List ℕ) (b : Bool) (h : i < n) (e : b ≡ climbFrom row w n i) where
-  pub roots-turn : (u : List ℕ) → b ≡ true → u ≡ markFrom row w n i → rootedFrom row n u (n - (i + 1)) (i + 1) ≡ rootedFrom row n w (n - i) i
+module _ (row : ℕ → RegionCapa) (n i : ℕ) (w : List ℕ) (b : Bool) (h : i < n) (e : b ≡ climb_from row w n i) where
+  pub roots-turn : (u : List ℕ) → b ≡ true → u ≡ mark_from row w n i → rooted_from row n u (n - (i + 1)) (i + 1) ≡ rooted_from row n w (n - i) i
   roots-turn u y f = let k : n - i ≡ suc (n - suc i) = omega arith in rw (k, add-one, ← e, y, f)
 
-  pub roots-stop : b ≡ false → false ≡ rootedFrom row n w (n - i) i
+  pub roots-stop : b ≡ false → false ≡ rooted_from row n w (n - i) i
   roots-stop y = let k : n - i ≡ suc (n - suc i) = omega arith in rw (k, ← e, y)
 
-  pub marks-turn : (u : List ℕ) → b ≡ true → u ≡ markFrom row w n i → marksFrom row n u (n - (i + 1)) (i + 1) ≡ marksFrom row n w (n - i) i
+  pub marks-turn : (u : List ℕ) → b ≡ true → u ≡ mark_from row w n i → marks_from row n u (n - (i + 1)) (i + 1) ≡ marks_from row n w (n - i) i
   marks-turn u y f = let k : n - i ≡ suc (n - suc i) = omega arith in rw (k, add-one, ← e, y, f)
 
-  pub marks-stop : b ≡ false → w ≡ marksFrom row n w (n - i) i
+  pub marks-stop : b ≡ false → w ≡ marks_from row n w (n - i) i
   marks-stop y = let k : n - i ≡ suc (n - suc i) = omega arith in rw (k, ← e, y)
 
-pub roots-end : (row : ℕ → RegionCapa) (n i : ℕ) (w : List ℕ) → n ≤ i → true ≡ rootedFrom row n w (n - i) i
+pub roots-end : (row : ℕ → RegionCapa) (n i : ℕ) (w : List ℕ) → n ≤ i → true ≡ rooted_from row n w (n - i) i
 roots-end row n i w h = let k : n - i ≡ 0 = omega arith in rw k
 
-pub marks-end : (row : ℕ → RegionCapa) (n i : ℕ) (w : List ℕ) → n ≤ i → w ≡ marksFrom row n w (n - i) i
+pub marks-end : (row : ℕ → RegionCapa) (n i : ℕ) (w : List ℕ) → n ≤ i → w ≡ marks_from row n w (n - i) i
 marks-end row n i w h = let k : n - i ≡ 0 = omega arith in rw k
 
 -- ---- where no row from n on is a child's, marks stand in the first n words, and are cleared there
 
 module _ (row : ℕ → RegionCapa) (n : ℕ) (none : (j : ℕ) → n ≤ j → (row j).kind < 2) where
-  mark-beyond : (w : List ℕ) (m j : ℕ) → drop n (markFrom row w m j) ≡ drop n w
+  mark-beyond : (w : List ℕ) (m j : ℕ) → drop n (mark_from row w m j) ≡ drop n w
   mark-beyond w zero j = refl
   mark-beyond w (suc m) j = elim (cmp j n) [
     | ge h ↦ rw (stop-low row w j (none j h))
     | lt h ↦ kept (stops row w j) (mark-beyond (set w j 1) m ((row j).parent - 1) ∙ drop-set-lt n w j 1 h)
   ]
     where
-      kept : (b : Bool) → drop n (markFrom row (set w j 1) m ((row j).parent - 1)) ≡ drop n w → drop n (pick b w (markFrom row (set w j 1) m ((row j).parent - 1))) ≡ drop n w
+      kept : (b : Bool) → drop n (mark_from row (set w j 1) m ((row j).parent - 1)) ≡ drop n w → drop n (pick b w (mark_from row (set w j 1) m ((row j).parent - 1))) ≡ drop n w
       kept true e = refl
       kept false e = e
 
-  pub marks-beyond : (m : ℕ) (w : List ℕ) (k i : ℕ) → drop n (marksFrom row m w k i) ≡ drop n w
+  pub marks-beyond : (m : ℕ) (w : List ℕ) (k i : ℕ) → drop n (marks_from row m w k i) ≡ drop n w
   marks-beyond m w zero i = refl
-  marks-beyond m w (suc k) i = elim (test (climbFrom row w m i)) [
-    | holds t ↦ rw t (marks-beyond m (markFrom row w m i) k (suc i) ∙ mark-beyond w m i)
+  marks-beyond m w (suc k) i = elim (test (climb_from row w m i)) [
+    | holds t ↦ rw t (marks-beyond m (mark_from row w m i) k (suc i) ∙ mark-beyond w m i)
     | fails t ↦ rw t
   ]
 

@@ -1,7 +1,7 @@
 // The test of the region tree in lent tables: rows, child lists, ways to a root. Any words may stand in the tables.
 ghost use Rattle.std.specs.Prelude.{◌≡◌, length, replicate};
 ghost use Rattle.tables.specs.View.{view, Sized};
-ghost use Rattle.sound_tree.specs.Tree.{treeHolds};
+ghost use Rattle.sound_tree.specs.Tree.{tree_holds};
 
 use pools::Pool;
 
@@ -10,7 +10,7 @@ mod roots;
 mod rows;
 
 // What the children before one of a list leave to test: the last start, the largest end of all, and of the carves.
-#[derive(Drop)]
+#[derive(Clone, Copy)]
 pub struct Run {
     pub last: u64,
     pub far: u64,
@@ -22,7 +22,7 @@ pub fn tree_holds(t: &[u64], w: &mut [u64]) -> bool
     requires sized { Sized t.now }
     requires w_len { length w.old ≡ length t.now }
     requires w_value { w.old ≡ replicate (length w.old) 0 }
-    ensures value { result ≡ treeHolds (view t.now) }
+    ensures value { result ≡ tree_holds (view t.now) }
     ensures w_unchanged { w.new ≡ w.old }
 {
     let n = words::size(t, sizes::REGIONS);

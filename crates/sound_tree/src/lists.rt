@@ -1,7 +1,7 @@
 // The child lists: all of them together have each region that is not a root once.
 ghost use Rattle.std.specs.Prelude.{◌≡◌, ◌<◌, ◌≤◌};
-ghost use Rattle.sections.specs.Rows.{regionIn};
-ghost use Rattle.sound_tree.specs.Tree.{larger, after, floorOf, childFits, walked, listsFrom};
+ghost use Rattle.sections.specs.Rows.{region_in};
+ghost use Rattle.sound_tree.specs.Tree.{larger, after, floor_of, child_fits, walked, lists_from};
 
 use crate::Run;
 use tables::RegionCapa;
@@ -31,7 +31,7 @@ fn after(s: Run, r: RegionCapa) -> Run
 }
 
 fn floor_of(s: Run, r: RegionCapa) -> u64
-    ensures { result ≡ floorOf s r }
+    ensures { result ≡ floor_of s r }
 {
     if r.kind == RegionCapa::CARVE {
         s.far
@@ -41,7 +41,7 @@ fn floor_of(s: Run, r: RegionCapa) -> u64
 }
 
 fn child_fits(own: u64, s: Run, r: RegionCapa) -> bool
-    ensures { result ≡ childFits own s r }
+    ensures { result ≡ child_fits own s r }
 {
     let sorted = words::both(s.last <= r.start, floor_of(s, r) <= r.start);
     words::both(r.parent == own, sorted)
@@ -50,7 +50,7 @@ fn child_fits(own: u64, s: Run, r: RegionCapa) -> bool
 // What is left of `left` children behind the list of region k, and one more; 0 where the list is not fit.
 fn walk(p: &[u64], left: usize, k: usize) -> usize
     requires { (left ≤ 1024) × (k < 1024) }
-    ensures { result ≡ walked (regionIn p.now) left k }
+    ensures { result ≡ walked (region_in p.now) left k }
 {
     let own = (k + 1) as u64;
     let first = sections::region_in(p, k);
@@ -79,7 +79,7 @@ fn walk(p: &[u64], left: usize, k: usize) -> usize
 // Whether the lists of the n regions have the children, as many as there are.
 pub fn lists_hold(p: &[u64], n: usize, many: usize) -> bool
     requires { (n ≤ 1024) × (many ≤ 1024) }
-    ensures { result ≡ listsFrom (regionIn p.now) many n 0 }
+    ensures { result ≡ lists_from (region_in p.now) many n 0 }
 {
     let mut left = many;
     let mut i = 0;

@@ -1,12 +1,12 @@
 // From each region the parents lead to a root. The way up is marked once it is known to lead there, so that each region is passed twice at most.
 ghost use Rattle.std.specs.Prelude.{◌≡◌, ◌-◌, ◌≤◌, length};
-ghost use Rattle.sections.specs.Rows.{regionIn};
-ghost use Rattle.sound_tree.specs.Tree.{stops, climbFrom, markFrom, rootedFrom, marksFrom, cleared};
+ghost use Rattle.sections.specs.Rows.{region_in};
+ghost use Rattle.sound_tree.specs.Tree.{stops, climb_from, mark_from, rooted_from, marks_from, cleared};
 
 use tables::RegionCapa;
 
 fn parent_of(p: &[u64], j: usize) -> usize
-    ensures { result ≡ (regionIn p.now j).parent - 1 }
+    ensures { result ≡ (region_in p.now j).parent - 1 }
 {
     let r = sections::region_in(p, j);
     tables::slot_to(r.parent)
@@ -14,7 +14,7 @@ fn parent_of(p: &[u64], j: usize) -> usize
 
 // A region that is marked, or no child.
 fn stops_at(p: &[u64], w: &[u64], j: usize) -> bool
-    ensures { result ≡ stops (regionIn p.now) w.now j }
+    ensures { result ≡ stops (region_in p.now) w.now j }
 {
     if 0 < words::word(w, j) {
         return true;
@@ -24,7 +24,7 @@ fn stops_at(p: &[u64], w: &[u64], j: usize) -> bool
 }
 
 fn climb(p: &[u64], w: &[u64], n: usize, i: usize) -> bool
-    ensures { result ≡ climbFrom (regionIn p.now) w.now n i }
+    ensures { result ≡ climb_from (region_in p.now) w.now n i }
 {
     let mut j = i;
     let mut left = n;
@@ -39,7 +39,7 @@ fn climb(p: &[u64], w: &[u64], n: usize, i: usize) -> bool
 }
 
 fn mark(p: &[u64], w: &mut [u64], n: usize, i: usize)
-    ensures { w.new ≡ markFrom (regionIn p.now) w.old n i }
+    ensures { w.new ≡ mark_from (region_in p.now) w.old n i }
 {
     let mut j = i;
     let mut left = n;
@@ -63,8 +63,8 @@ pub fn clear_first(w: &mut [u64], n: usize)
 
 // The words of w that are 0 stand for regions that are not known to lead to a root.
 pub fn roots_hold(p: &[u64], w: &mut [u64], n: usize) -> bool
-    ensures value { result ≡ rootedFrom (regionIn p.now) n w.old n 0 }
-    ensures w_after { w.new ≡ marksFrom (regionIn p.now) n w.old n 0 }
+    ensures value { result ≡ rooted_from (region_in p.now) n w.old n 0 }
+    ensures w_after { w.new ≡ marks_from (region_in p.now) n w.old n 0 }
 {
     let mut i = 0;
     while i < n {

@@ -1,13 +1,13 @@
 // Each region in use, with its parent; how many are children.
 ghost use Rattle.std.specs.Prelude.{◌≡◌, ◌≤◌};
-ghost use Rattle.sections.specs.Rows.{regionIn};
-ghost use Rattle.sound_tree.specs.Tree.{rightsFit, inParent, placeFits, rowFits, regionFits, oneIf, countFrom};
+ghost use Rattle.sections.specs.Rows.{region_in};
+ghost use Rattle.sound_tree.specs.Tree.{rights_fit, in_parent, place_fits, row_fits, region_fits, one_if, count_from};
 
 use rights::Rights;
 use tables::RegionCapa;
 
 fn rights_fit(parent: u64, child: u64) -> bool
-    ensures { result ≡ rightsFit parent child }
+    ensures { result ≡ rights_fit parent child }
 {
     if parent < 256 {
         if child < 256 {
@@ -18,14 +18,14 @@ fn rights_fit(parent: u64, child: u64) -> bool
 }
 
 fn in_parent(g: RegionCapa, h: RegionCapa) -> bool
-    ensures { result ≡ inParent g h }
+    ensures { result ≡ in_parent g h }
 {
     let inside = words::both(h.start <= g.start, g.end <= h.end);
     words::both(inside, rights_fit(h.rights, g.rights))
 }
 
 fn place_fits(g: RegionCapa, h: RegionCapa) -> bool
-    ensures { result ≡ placeFits g h }
+    ensures { result ≡ place_fits g h }
 {
     if g.kind == RegionCapa::ROOT {
         words::both(g.parent == 0, g.next == 0)
@@ -35,7 +35,7 @@ fn place_fits(g: RegionCapa, h: RegionCapa) -> bool
 }
 
 fn row_fits(g: RegionCapa) -> bool
-    ensures { result ≡ rowFits g }
+    ensures { result ≡ row_fits g }
 {
     let kind = words::both(RegionCapa::ROOT <= g.kind, g.kind <= RegionCapa::CARVE);
     let range = words::both(g.start < g.end, g.rights < 256);
@@ -44,7 +44,7 @@ fn row_fits(g: RegionCapa) -> bool
 
 // The row g of a slot that is free or not.
 fn region_fits(p: &[u64], free: bool, g: RegionCapa) -> bool
-    ensures { result ≡ regionFits (regionIn p.now) free g }
+    ensures { result ≡ region_fits (region_in p.now) free g }
 {
     if free {
         return true;
@@ -54,7 +54,7 @@ fn region_fits(p: &[u64], free: bool, g: RegionCapa) -> bool
 }
 
 fn one_if(b: bool) -> usize
-    ensures { result ≡ oneIf b }
+    ensures { result ≡ one_if b }
 {
     if b { 1 } else { 0 }
 }
@@ -62,7 +62,7 @@ fn one_if(b: bool) -> usize
 // How many of the n regions are not roots, and one more; 0 where a row is not fit. A free row is no region's.
 pub fn count_children(links: &[u64], p: &[u64], n: usize) -> usize
     requires { n ≤ 1024 }
-    ensures { result ≡ countFrom links.now (regionIn p.now) 0 n 0 }
+    ensures { result ≡ count_from links.now (region_in p.now) 0 n 0 }
 {
     let mut many = 0;
     let mut i = 0;

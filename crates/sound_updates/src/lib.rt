@@ -2,19 +2,19 @@
 // ring itself is tested by crate `sound_queue`.
 ghost use Rattle.std.specs.Prelude.{◌≡◌};
 ghost use Rattle.tables.specs.View.{view, Sized};
-ghost use Rattle.sound_updates.specs.Updates.{clearB, wellFormedB, fitsIn, updateFits, marksFit, sameDomain};
+ghost use Rattle.sound_updates.specs.Updates.{clear_b, well_formed_b, fits_in, update_fits, marks_fit, same_domain};
 
 use tables::{Handle, Update};
 
 fn is_clear(u: Update) -> bool
-    ensures { result ≡ clearB u }
+    ensures { result ≡ clear_b u }
 {
     let front = words::both(u.kind == Update::NOTHING, u.a == 0);
     words::both(front, words::both(u.b == 0, u.c == 0))
 }
 
 fn is_well_formed(u: Update) -> bool
-    ensures { result ≡ wellFormedB u }
+    ensures { result ≡ well_formed_b u }
 {
     if u.kind == Update::PERMISSION {
         return true;
@@ -25,7 +25,7 @@ fn is_well_formed(u: Update) -> bool
 // Whether the domain of a permission update is live, or was closed: its handle is then older than the slot's generation.
 fn handle_fits(t: &[u64], u: Update) -> bool
     requires { Sized t.now }
-    ensures { result ≡ fitsIn (view t.now) u }
+    ensures { result ≡ fits_in (view t.now) u }
 {
     if u.kind == Update::PERMISSION {
         let handle = Handle {
@@ -43,7 +43,7 @@ fn handle_fits(t: &[u64], u: Update) -> bool
 // Whether an update that is queued, or a place where none is, holds.
 pub fn update_fits(t: &[u64], u: Update, queued: bool) -> bool
     requires { Sized t.now }
-    ensures { result ≡ updateFits (view t.now) u queued }
+    ensures { result ≡ update_fits (view t.now) u queued }
 {
     if queued {
         let well_formed = is_well_formed(u);
@@ -55,7 +55,7 @@ pub fn update_fits(t: &[u64], u: Update, queued: bool) -> bool
 
 // Whether the marks beside an update hold: five bits beside a permission update, none elsewhere (document 02, request 4).
 pub fn marks_fit(u: Update, marks: u64) -> bool
-    ensures { result ≡ marksFit u marks }
+    ensures { result ≡ marks_fit u marks }
 {
     if u.kind == Update::PERMISSION {
         return marks < 32;
@@ -65,7 +65,7 @@ pub fn marks_fit(u: Update, marks: u64) -> bool
 
 // Whether both are permission updates of the same handle.
 pub fn is_same(u: Update, x: Update) -> bool
-    ensures { result ≡ sameDomain u x }
+    ensures { result ≡ same_domain u x }
 {
     let kinds = words::both(u.kind == Update::PERMISSION, x.kind == Update::PERMISSION);
     words::both(kinds, words::both(u.a == x.a, u.b == x.b))

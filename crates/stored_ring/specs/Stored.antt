@@ -7,14 +7,14 @@ use Rattle.words.specs.Rows.{rows, length-rows, rows_more}
 use Rattle.words.specs.Cuts.{offset}
 use Rattle.tables.specs.declared.Update.{Update}
 use Rattle.sizes.specs.declared.Sizes.{Sizes}
-use Rattle.tables.specs.Tables.{Tables, noUpdate, withRing, withMarks, withPlaces}
-use Rattle.sizes.specs.Sizes.{sizesOf, widths, updateWidth, markWidth, ringSection, markSection}
-use Rattle.tables.specs.View.{view, ofParts, Sized, updateOf, mark_of}
+use Rattle.tables.specs.Tables.{Tables, no_update, with_ring, with_marks, with_places}
+use Rattle.sizes.specs.Sizes.{sizes_of, widths, update_width, mark_width, ring_section, mark_section}
+use Rattle.tables.specs.View.{view, of_parts, Sized, update_of, mark_of}
 use Rattle.tables.specs.Sections.{section-inside, section-lent}
 use Rattle.ring.specs.declared.Entry.{Entry}
 use Rattle.ring.specs.declared.Ring.{Ring}
 use Rattle.stored_ring.specs.declared.Span.{Span}
-use Rattle.ring.specs.Ring.{cap, noEntry}
+use Rattle.ring.specs.Ring.{cap, no_entry}
 use Rattle.stored_ring.specs.Fitted.{fitted, fitted-empty, fitted-more, fitted-set}
 
 -- updates with their marks, place by place
@@ -23,27 +23,27 @@ entries [] ms = []
 entries (u ∷ us) [] = record { update = u; marks = 0 } ∷ entries us []
 entries (u ∷ us) (m ∷ ms) = record { update = u; marks = m } ∷ entries us ms
 
-abbrev pub updatesOf : List Entry → List Update
-updatesOf = map (λ (e : Entry). e.update)
+abbrev pub updates_of : List Entry → List Update
+updates_of = map (λ (e : Entry). e.update)
 
-abbrev pub marksOf : List Entry → List ℕ
-marksOf = map (λ (e : Entry). e.marks)
+abbrev pub marks_of : List Entry → List ℕ
+marks_of = map (λ (e : Entry). e.marks)
 
-unfoldable pub ringOf : Tables → Ring
-ringOf s = record { places = fitted cap (entries s.ring s.marks); read = s.read; write = s.write; size = s.sizes.updates + 1 }
+unfoldable pub ring_of : Tables → Ring
+ring_of s = record { places = fitted cap (entries s.ring s.marks); read = s.read; write = s.write; size = s.sizes.updates + 1 }
 
-unfoldable pub withRingOf : Tables → Ring → Tables
-withRingOf s r =
+unfoldable pub with_ring_of : Tables → Ring → Tables
+with_ring_of s r =
     let places = fitted (length s.ring) r.places in
-    withPlaces (withMarks (withRing s (updatesOf places)) (marksOf places)) r.read r.write
+    with_places (with_marks (with_ring s (updates_of places)) (marks_of places)) r.read r.write
 
 -- the ring of the words p and of the marks m, n places
-abbrev pub ringIn : ℕ → List ℕ → List ℕ → ℕ → ℕ → Ring
-ringIn n p m i j = record { places = fitted cap (entries (rows updateWidth n updateOf p) (rows markWidth n mark_of m)); read = i; write = j; size = n }
+abbrev pub ring_in : ℕ → List ℕ → List ℕ → ℕ → ℕ → Ring
+ring_in n p m i j = record { places = fitted cap (entries (rows update_width n update_of p) (rows mark_width n mark_of m)); read = i; write = j; size = n }
 
 -- place i; nothing past the largest ring
 abbrev pub place_in : Ring → ℕ → Entry
-place_in r i = pick (ltb i cap) (get_or r.places i noEntry) noEntry
+place_in r i = pick (ltb i cap) (get_or r.places i no_entry) no_entry
 
 -- ---- updates with their marks
 
@@ -52,21 +52,21 @@ length-entries [] ms = refl
 length-entries (u ∷ us) [] = ap suc (length-entries us [])
 length-entries (u ∷ us) (m ∷ ms) = ap suc (length-entries us ms)
 
-pub getD-entries : (us : List Update) (ms : List ℕ) (k : ℕ) → length ms ≤ length us
-    → get_or (entries us ms) k noEntry ≡ record { update = get_or us k noUpdate; marks = get_or ms k 0 }
-getD-entries [] [] k h = refl
-getD-entries [] (m ∷ ms) k h = absurd (omega arith)
-getD-entries (u ∷ us) [] zero h = refl
-getD-entries (u ∷ us) [] (suc k) h = getD-entries us [] k (omega arith)
-getD-entries (u ∷ us) (m ∷ ms) zero h = refl
-getD-entries (u ∷ us) (m ∷ ms) (suc k) h = getD-entries us ms k (omega arith)
+pub get_or-entries : (us : List Update) (ms : List ℕ) (k : ℕ) → length ms ≤ length us
+    → get_or (entries us ms) k no_entry ≡ record { update = get_or us k no_update; marks = get_or ms k 0 }
+get_or-entries [] [] k h = refl
+get_or-entries [] (m ∷ ms) k h = absurd (omega arith)
+get_or-entries (u ∷ us) [] zero h = refl
+get_or-entries (u ∷ us) [] (suc k) h = get_or-entries us [] k (omega arith)
+get_or-entries (u ∷ us) (m ∷ ms) zero h = refl
+get_or-entries (u ∷ us) (m ∷ ms) (suc k) h = get_or-entries us ms k (omega arith)
 
-pub entries-updates : (us : List Update) (ms : List ℕ) → updatesOf (entries us ms) ≡ us
+pub entries-updates : (us : List Update) (ms : List ℕ) → updates_of (entries us ms) ≡ us
 entries-updates [] ms = refl
 entries-updates (u ∷ us) [] = ap (λ (l : List Update). u ∷ l) (entries-updates us [])
 entries-updates (u ∷ us) (m ∷ ms) = ap (λ (l : List Update). u ∷ l) (entries-updates us ms)
 
-pub entries-marks : (us : List Update) (ms : List ℕ) → length ms ≡ length us → marksOf (entries us ms) ≡ ms
+pub entries-marks : (us : List Update) (ms : List ℕ) → length ms ≡ length us → marks_of (entries us ms) ≡ ms
 entries-marks [] [] h = refl
 entries-marks [] (m ∷ ms) h = absurd (omega arith)
 entries-marks (u ∷ us) [] h = absurd (omega arith)
@@ -90,83 +90,83 @@ module _ (us : List Update) (ms : List ℕ) (i : ℕ) (e : Entry) (few : length 
   set_back : fitted (length us) (set (fitted cap (entries us ms)) i e) ≡ set (entries us ms) i e
   set_back = fitted-set (length us) cap (entries us ms) i e (length-entries us ms) few
 
-  pub updates_set : updatesOf (fitted (length us) (set (fitted cap (entries us ms)) i e)) ≡ set us i e.update
+  pub updates_set : updates_of (fitted (length us) (set (fitted cap (entries us ms)) i e)) ≡ set us i e.update
   updates_set =
-      ap updatesOf set_back ∙ map-set (λ (x : Entry). x.update) (entries us ms) i e ∙ ap (λ (l : List Update). set l i e.update) (entries-updates us ms)
+      ap updates_of set_back ∙ map-set (λ (x : Entry). x.update) (entries us ms) i e ∙ ap (λ (l : List Update). set l i e.update) (entries-updates us ms)
 
-  pub marks-set : length ms ≡ length us → marksOf (fitted (length us) (set (fitted cap (entries us ms)) i e)) ≡ set ms i e.marks
+  pub marks-set : length ms ≡ length us → marks_of (fitted (length us) (set (fitted cap (entries us ms)) i e)) ≡ set ms i e.marks
   marks-set h =
-      ap marksOf set_back ∙ map-set (λ (x : Entry). x.marks) (entries us ms) i e ∙ ap (λ (l : List ℕ). set l i e.marks) (entries-marks us ms h)
+      ap marks_of set_back ∙ map-set (λ (x : Entry). x.marks) (entries us ms) i e ∙ ap (λ (l : List ℕ). set l i e.marks) (entries-marks us ms h)
 
 -- ---- place by place
 
-pub update-read : (p : List ℕ) (a : ℕ) → record { kind = get_or p a 0; a = get_or p (a + 1) 0; b = get_or p (a + 2) 0; c = get_or p (a + 3) 0 } ≡ updateOf (part p a updateWidth)
+pub update-read : (p : List ℕ) (a : ℕ) → record { kind = get_or p a 0; a = get_or p (a + 1) 0; b = get_or p (a + 2) 0; c = get_or p (a + 3) 0 } ≡ update_of (part p a update_width)
 update-read p a =
     let e : a + 0 ≡ a = omega arith in
     rw (part_at p a 4 0 (omega arith), part_at p a 4 1 (omega arith), part_at p a 4 2 (omega arith), part_at p a 4 3 (omega arith), e)
 
-mark-read : (m : List ℕ) (a : ℕ) → get_or m a 0 ≡ mark_of (part m a markWidth)
+mark-read : (m : List ℕ) (a : ℕ) → get_or m a 0 ≡ mark_of (part m a mark_width)
 mark-read m a = let e : a + 0 ≡ a = omega arith in rw (part_at m a 1 0 (omega arith), e)
 
 -- the first i places are read
-abbrev pub readTo : List ℕ → List ℕ → ℕ → List Entry
-readTo p m i = fitted cap (entries (rows updateWidth i updateOf p) (rows markWidth i mark_of m))
+abbrev pub read_to : List ℕ → List ℕ → ℕ → List Entry
+read_to p m i = fitted cap (entries (rows update_width i update_of p) (rows mark_width i mark_of m))
 
-pub read_none : (p m : List ℕ) → readTo p m 0 ≡ replicate cap noEntry
+pub read_none : (p m : List ℕ) → read_to p m 0 ≡ replicate cap no_entry
 unfolding rows
 read_none p m = fitted-empty cap
 
 pub read_more : (p m : List ℕ) (i : ℕ) → i < cap
-    → set (readTo p m i) i (record { update = updateOf (part p (i * updateWidth) updateWidth); marks = get_or m (i * markWidth) 0 }) ≡ readTo p m (i + 1)
+    → set (read_to p m i) i (record { update = update_of (part p (i * update_width) update_width); marks = get_or m (i * mark_width) 0 }) ≡ read_to p m (i + 1)
 read_more p m i h =
-    let us = rows 4 i updateOf p in
+    let us = rows 4 i update_of p in
     let ms = rows 1 i mark_of m in
-    let u = updateOf (part p (i * 4) 4) in
+    let u = update_of (part p (i * 4) 4) in
     let n = mark_of (part m (i * 1) 1) in
     let e : Entry = record { update = u; marks = n } in
-    let both : length ms ≡ length us = length-rows 1 i mark_of m ∙ sym (length-rows 4 i updateOf p) in
-    let more : entries us ms ++ (e ∷ []) ≡ entries (rows 4 (i + 1) updateOf p) (rows 1 (i + 1) mark_of m) =
-    rw (add-one i, rows_more 4 i updateOf p, rows_more 1 i mark_of m) (sym (entries-more us ms u n both)) in
-    rw (mark-read m (i * 1)) (fitted-more cap (entries us ms) e i (length-entries us ms ∙ length-rows 4 i updateOf p) h ∙ ap (fitted cap) more)
+    let both : length ms ≡ length us = length-rows 1 i mark_of m ∙ sym (length-rows 4 i update_of p) in
+    let more : entries us ms ++ (e ∷ []) ≡ entries (rows 4 (i + 1) update_of p) (rows 1 (i + 1) mark_of m) =
+    rw (add-one i, rows_more 4 i update_of p, rows_more 1 i mark_of m) (sym (entries-more us ms u n both)) in
+    rw (mark-read m (i * 1)) (fitted-more cap (entries us ms) e i (length-entries us ms ∙ length-rows 4 i update_of p) h ∙ ap (fitted cap) more)
 
 -- ---- the ring's words in the tables
 
 -- where the ring and its marks stand in the words t
 pub record RingAt (t : List ℕ) (r : Span) : Type 0 where
-  pub places : r.places ≡ (sizesOf t).updates + 1
-  pub start : r.start ≡ offset (widths (sizesOf t)) ringSection
-  pub end : r.end ≡ r.start + r.places * updateWidth
+  pub places : r.places ≡ (sizes_of t).updates + 1
+  pub start : r.start ≡ offset (widths (sizes_of t)) ring_section
+  pub end : r.end ≡ r.start + r.places * update_width
   pub inside : r.end ≤ length t
-  pub marks : r.marks ≡ offset (widths (sizesOf t)) markSection
-  pub marks-end : r.marks_end ≡ r.marks + r.places * markWidth
+  pub marks : r.marks ≡ offset (widths (sizes_of t)) mark_section
+  pub marks-end : r.marks_end ≡ r.marks + r.places * mark_width
   pub marks-inside : r.marks_end ≤ length t
   pub few : r.places ≤ cap
 
 -- the places that the code computes from the sizes z
-pub ring-found : (t : List ℕ) (z : Sizes) (o m : ℕ) → Sized t → z ≡ sizesOf t → o ≡ offset (widths z) ringSection → m ≡ offset (widths z) markSection
-    → RingAt t (record { start = o; end = o + (z.updates + 1) * updateWidth; marks = m; marks_end = m + (z.updates + 1) * markWidth; places = z.updates + 1 })
+pub ring-found : (t : List ℕ) (z : Sizes) (o m : ℕ) → Sized t → z ≡ sizes_of t → o ≡ offset (widths z) ring_section → m ≡ offset (widths z) mark_section
+    → RingAt t (record { start = o; end = o + (z.updates + 1) * update_width; marks = m; marks_end = m + (z.updates + 1) * mark_width; places = z.updates + 1 })
 ring-found t z o m s ez eo em =
-    let n : z.updates ≡ (sizesOf t).updates = ap (λ (y : Sizes). y.updates) ez in
-    let e : o ≡ offset (widths (sizesOf t)) ringSection = eo ∙ rw ez in
-    let f : m ≡ offset (widths (sizesOf t)) markSection = em ∙ rw ez in
+    let n : z.updates ≡ (sizes_of t).updates = ap (λ (y : Sizes). y.updates) ez in
+    let e : o ≡ offset (widths (sizes_of t)) ring_section = eo ∙ rw ez in
+    let f : m ≡ offset (widths (sizes_of t)) mark_section = em ∙ rw ez in
     record {
       places = rw n;
       start = e;
       end = refl;
-      inside = omega (arith, section-inside t ringSection s);
+      inside = omega (arith, section-inside t ring_section s);
       marks = f;
       marks-end = refl;
-      marks-inside = omega (arith, section-inside t markSection s);
+      marks-inside = omega (arith, section-inside t mark_section s);
       few = omega (arith, s.limits.updates-high);
     }
 
-ring_long : (t : List ℕ) → length (view t).ring ≡ (sizesOf t).updates + 1
-unfolding view ofParts
-ring_long t = length-rows 4 ((sizesOf t).updates + 1) updateOf _
+ring_long : (t : List ℕ) → length (view t).ring ≡ (sizes_of t).updates + 1
+unfolding view of_parts
+ring_long t = length-rows 4 ((sizes_of t).updates + 1) update_of _
 
-marks-long : (t : List ℕ) → length (view t).marks ≡ (sizesOf t).updates + 1
-unfolding view ofParts
-marks-long t = length-rows 1 ((sizesOf t).updates + 1) mark_of _
+marks-long : (t : List ℕ) → length (view t).marks ≡ (sizes_of t).updates + 1
+unfolding view of_parts
+marks-long t = length-rows 1 ((sizes_of t).updates + 1) mark_of _
 
 -- the tables have as many places as the largest ring, or fewer
 pub ring-few : (t : List ℕ) → Sized t → length (view t).ring ≤ cap
@@ -177,13 +177,13 @@ pub marks-many : (t : List ℕ) → length (view t).marks ≡ length (view t).ri
 marks-many t = marks-long t ∙ sym (ring_long t)
 
 module _ (t : List ℕ) (r : Span) (s : Sized t) (at : RingAt t r) where
-  end-at : r.end ≡ r.start + get_or (widths (sizesOf t)) ringSection 0
+  end-at : r.end ≡ r.start + get_or (widths (sizes_of t)) ring_section 0
   end-at = at.end ∙ rw at.places
 
-  marks-end-at : r.marks_end ≡ r.marks + get_or (widths (sizesOf t)) markSection 0
+  marks-end-at : r.marks_end ≡ r.marks + get_or (widths (sizes_of t)) mark_section 0
   marks-end-at = at.marks-end ∙ rw at.places
 
-  pub ring-read : ringIn r.places (take (r.end - r.start) (drop r.start t)) (take (r.marks_end - r.marks) (drop r.marks t)) (view t).read (view t).write ≡ ringOf (view t)
-  unfolding ringOf view ofParts
+  pub ring-read : ring_in r.places (take (r.end - r.start) (drop r.start t)) (take (r.marks_end - r.marks) (drop r.marks t)) (view t).read (view t).write ≡ ring_of (view t)
+  unfolding ring_of view of_parts
   ring-read =
-      rw (section-lent t ringSection r.start r.end s at.start end-at, section-lent t markSection r.marks r.marks_end s at.marks marks-end-at, at.places)
+      rw (section-lent t ring_section r.start r.end s at.start end-at, section-lent t mark_section r.marks r.marks_end s at.marks marks-end-at, at.places)

@@ -1,18 +1,18 @@
 // The ring in the tables: loaded with its marks, and a place of it stored.
 ghost use Rattle.std.specs.Prelude.{◌≡◌, ◌+◌, ◌*◌, ◌≤◌, length};
 ghost use Rattle.words.specs.Runs.{part};
-ghost use Rattle.sizes.specs.Sizes.{updateWidth, markWidth};
-ghost use Rattle.tables.specs.Tables.{withPlaces, withUpdate, withMark};
-ghost use Rattle.tables.specs.View.{view, Sized, Left, updateOf};
+ghost use Rattle.sizes.specs.Sizes.{update_width, mark_width};
+ghost use Rattle.tables.specs.Tables.{with_places, with_update, with_mark};
+ghost use Rattle.tables.specs.View.{view, Sized, Left, update_of};
 ghost use Rattle.ring.specs.Ring.{cap};
-ghost use Rattle.stored_ring.specs.Stored.{ringOf, ringIn, place_in, RingAt};
+ghost use Rattle.stored_ring.specs.Stored.{ring_of, ring_in, place_in, RingAt};
 
 use ring::{Entry, PLACES, Ring};
 use sizes::{MARK_WIDTH, UPDATE_WIDTH};
 use tables::Update;
 
 // The words of the ring, from `start` up to `end`, and those of its marks.
-#[derive(Drop)]
+#[derive(Clone, Copy)]
 struct Span {
     start: usize,
     end: usize,
@@ -41,8 +41,8 @@ fn span_of(t: &[u64]) -> Span
 // ---- In the words of the ring, p, and of its marks, m
 
 fn read_update(p: &[u64], a: usize) -> Update
-    requires { a + updateWidth ≤ length p.now }
-    ensures { result ≡ updateOf (part p.now a updateWidth) }
+    requires { a + update_width ≤ length p.now }
+    ensures { result ≡ update_of (part p.now a update_width) }
 {
     Update {
         kind: p[a],
@@ -53,10 +53,10 @@ fn read_update(p: &[u64], a: usize) -> Update
 }
 
 fn ring_in(p: &[u64], m: &[u64], n: usize, read: usize, write: usize) -> Ring
-    requires p_len { length p.now ≡ n * updateWidth }
-    requires m_len { length m.now ≡ n * markWidth }
+    requires p_len { length p.now ≡ n * update_width }
+    requires m_len { length m.now ≡ n * mark_width }
     requires n_le_cap { n ≤ cap }
-    ensures { result ≡ ringIn n p.now m.now read write }
+    ensures { result ≡ ring_in n p.now m.now read write }
 {
     let mut places = [ring::no_entry(); PLACES];
     let mut i = 0;
@@ -90,7 +90,7 @@ fn place_in(ring: Ring, i: usize) -> Entry
 
 pub fn load_ring(t: &[u64]) -> Ring
     requires { Sized t.now }
-    ensures { result ≡ ringOf (view t.now) }
+    ensures { result ≡ ring_of (view t.now) }
 {
     let s = span_of(t);
     let read = ring_rows::read_place(t) as usize;
@@ -105,7 +105,7 @@ pub fn load_ring(t: &[u64]) -> Ring
 // Place i of the ring with its marks, and the two that the header names: a step changes no more than these.
 pub fn store_place(t: &mut [u64], i: usize, ring: Ring)
     requires { Sized t.old }
-    ensures { Left t.new (withPlaces (withMark (withUpdate (view t.old) i (place_in ring i).update) i (place_in ring i).marks) ring.read ring.write) }
+    ensures { Left t.new (with_places (with_mark (with_update (view t.old) i (place_in ring i).update) i (place_in ring i).marks) ring.read ring.write) }
 {
     let e = place_in(ring, i);
     ring_rows::store_update(t, i, e.update);

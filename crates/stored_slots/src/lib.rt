@@ -2,11 +2,11 @@
 ghost use Rattle.std.specs.Prelude.{◌≡◌, ◌+◌, ◌*◌, ◌≤◌, ◌<◌, length};
 ghost use Rattle.std.proofs.lemmas.List.Edits.{sets};
 ghost use Rattle.words.specs.Runs.{part};
-ghost use Rattle.sizes.specs.Limits.{mostSlots};
-ghost use Rattle.sizes.specs.Sizes.{sizesOf, headWidth, slotWidth};
-ghost use Rattle.tables.specs.View.{view, Sized, Left, domainOf, slot_of, slotWords};
-ghost use Rattle.slot_list.specs.Lists.{noList};
-ghost use Rattle.stored_slots.specs.Record.{list_of, putList, listAt, with_list};
+ghost use Rattle.sizes.specs.Limits.{most_slots};
+ghost use Rattle.sizes.specs.Sizes.{sizes_of, head_width, slot_width};
+ghost use Rattle.tables.specs.View.{view, Sized, Left, domain_of, slot_of, slot_words};
+ghost use Rattle.slot_list.specs.Lists.{no_list};
+ghost use Rattle.stored_slots.specs.Record.{list_of, put_list, list_at, with_list};
 ghost use Rattle.stored_slots.specs.Rows.{RowAt};
 
 use sizes::{HEAD_WIDTH, MOST_SLOTS, SLOT_WIDTH};
@@ -14,7 +14,7 @@ use slot_list::SlotList;
 use tables::{DomainHead, Handle, Slot};
 
 // The words of a domain, from `start` up to `end`.
-#[derive(Drop)]
+#[derive(Clone, Copy)]
 struct Row {
     start: usize,
     end: usize,
@@ -23,7 +23,7 @@ struct Row {
 
 fn row_of(t: &[u64], d: usize) -> Row
     requires sized { Sized t.now }
-    requires d_bound { d < (sizesOf t.now).domains }
+    requires d_bound { d < (sizes_of t.now).domains }
     ensures { RowAt t.now d result }
 {
     let z = sizes::read_sizes(t);
@@ -37,7 +37,7 @@ fn row_of(t: &[u64], d: usize) -> Row
 }
 
 fn no_list() -> SlotList
-    ensures { result ≡ noList }
+    ensures { result ≡ no_list }
 {
     SlotList {
         slots: [tables::no_slot(); MOST_SLOTS],
@@ -50,8 +50,8 @@ fn no_list() -> SlotList
 // ---- In the words of one domain
 
 fn read_slot(p: &[u64], a: usize) -> Slot
-    requires { a + slotWidth ≤ length p.now }
-    ensures { result ≡ slot_of (part p.now a slotWidth) }
+    requires { a + slot_width ≤ length p.now }
+    ensures { result ≡ slot_of (part p.now a slot_width) }
 {
     let handle = Handle {
         slot: p[a + 1],
@@ -61,8 +61,8 @@ fn read_slot(p: &[u64], a: usize) -> Slot
 }
 
 fn write_slot(p: &mut [u64], a: usize, x: Slot)
-    requires { a + slotWidth ≤ length p.old }
-    ensures { p.new ≡ sets p.old a (slotWords x) }
+    requires { a + slot_width ≤ length p.old }
+    ensures { p.new ≡ sets p.old a (slot_words x) }
 {
     p[a] = x.kind;
     p[a + 1] = x.handle.slot;
@@ -70,9 +70,9 @@ fn write_slot(p: &mut [u64], a: usize, x: Slot)
 }
 
 fn list_of(p: &[u64], n: usize) -> SlotList
-    requires p_len { length p.now ≡ headWidth + n * slotWidth }
-    requires n_le_most_slots { n ≤ mostSlots }
-    ensures { result ≡ list_of (domainOf n p.now) }
+    requires p_len { length p.now ≡ head_width + n * slot_width }
+    requires n_le_most_slots { n ≤ most_slots }
+    ensures { result ≡ list_of (domain_of n p.now) }
 {
     let mut slots = [tables::no_slot(); MOST_SLOTS];
     let mut i = 0;
@@ -89,9 +89,9 @@ fn list_of(p: &[u64], n: usize) -> SlotList
 }
 
 fn write_list(p: &mut [u64], n: usize, list: SlotList)
-    requires p_len { length p.old ≡ headWidth + n * slotWidth }
-    requires n_le_most_slots { n ≤ mostSlots }
-    ensures { domainOf n p.new ≡ putList (domainOf n p.old) list }
+    requires p_len { length p.old ≡ head_width + n * slot_width }
+    requires n_le_most_slots { n ≤ most_slots }
+    ensures { domain_of n p.new ≡ put_list (domain_of n p.old) list }
 {
     let mut i = 0;
     while i < n {
@@ -107,7 +107,7 @@ fn write_list(p: &mut [u64], n: usize, list: SlotList)
 
 pub fn load_list(t: &[u64], d: usize) -> SlotList
     requires { Sized t.now }
-    ensures { result ≡ listAt (view t.now) d }
+    ensures { result ≡ list_at (view t.now) d }
 {
     if d < words::size(t, sizes::DOMAINS) {
         let r = row_of(t, d);

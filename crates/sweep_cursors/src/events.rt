@@ -1,9 +1,9 @@
 // A cursor in a run of events, two words each.
 ghost use Rattle.std.specs.Prelude.{◌≡◌, drop};
 ghost use Rattle.sweep.specs.Sweep.{upto, next};
-ghost use Rattle.sound_events.specs.Events.{eventsIn};
+ghost use Rattle.sound_events.specs.Events.{events_in};
 ghost use Rattle.sweep_cursors.specs.Sums.{Low};
-ghost use Rattle.sweep_cursors.specs.Cursors.{cursorIn, At, First};
+ghost use Rattle.sweep_cursors.specs.Cursors.{cursor_in, At, First};
 
 use crate::{Cursor, counts};
 
@@ -20,7 +20,7 @@ pub fn start() -> Cursor
 // Past every event at or below x. No sum is above the number of events passed, so that none wraps.
 pub fn upto(s: &[u64], x: u64, c: Cursor) -> Cursor
     requires { Low c.place c.sums }
-    ensures { At s.now result (upto x (cursorIn s.now c)) }
+    ensures { At s.now result (upto x (cursor_in s.now c)) }
 {
     let n = s.len() / 2;
     let mut i = c.place;
@@ -38,7 +38,7 @@ pub fn upto(s: &[u64], x: u64, c: Cursor) -> Cursor
 
 // The next event's address from place i on, and at most y.
 pub fn next(s: &[u64], i: usize, y: u64) -> u64
-    ensures { result ≡ next (drop i (eventsIn s.now)) y }
+    ensures { result ≡ next (drop i (events_in s.now)) y }
 {
     if i < s.len() / 2 {
         let a = s[2 * i];

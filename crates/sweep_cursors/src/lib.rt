@@ -3,7 +3,7 @@ pub mod counts;
 pub mod events;
 
 // What pieces count for: how many they are, and how many of them have each right.
-#[derive(Drop)]
+#[derive(Clone, Copy)]
 pub struct Sums {
     pub ref_count: u64,
     pub read_count: u64,
@@ -13,7 +13,7 @@ pub struct Sums {
 }
 
 // How many events of a run were passed, and what these count for.
-#[derive(Drop)]
+#[derive(Clone, Copy)]
 pub struct Cursor {
     pub place: usize,
     pub sums: Sums,

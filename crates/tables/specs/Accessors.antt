@@ -12,105 +12,105 @@ use Rattle.tables.specs.declared.Region.{Region}
 use Rattle.tables.specs.declared.Update.{Update}
 use Rattle.tables.specs.declared.RegionHash.{RegionHash}
 use Rattle.tables.specs.declared.Interface.{Interface}
-use Rattle.tables.specs.Tables.{regionAt, recordAt, updateAt, hashAt, interfaceAt, markAt, withRegions, withRecords, withRing, withHashes, withInterfaces, withMarks, withRegion, withRecord, withUpdate, withHash, withInterface, withMark}
-use Rattle.sizes.specs.Sizes.{sizesOf, regionWidth, recordWidth, updateWidth, hashWidth, interfaceWidth, markWidth, regionsSection, recordsSection, ringSection, hashSection, interfaceSection, markSection}
-use Rattle.tables.specs.View.{view, ofParts, Sized, Left, regionOf, regionWords, recordOf, recordWords, updateOf, updateWords, hashOf, hashWords, interfaceOf, interfaceWords, mark_of, markWords}
+use Rattle.tables.specs.Tables.{region_at, record_at, update_at, hash_at, interface_at, mark_at, with_regions, with_records, with_ring, with_hashes, with_interfaces, with_marks, with_region, with_record, with_update, with_hash, with_interface, with_mark}
+use Rattle.sizes.specs.Sizes.{sizes_of, region_width, record_width, update_width, hash_width, interface_width, mark_width, regions_section, records_section, ring_section, hash_section, interface_section, mark_section}
+use Rattle.tables.specs.View.{view, of_parts, Sized, Left, region_of, region_words, record_of, record_words, update_of, update_words, hash_of, hash_words, interface_of, interface_words, mark_of, mark_words}
 use Rattle.tables.specs.Sections.{only-left}
 use Rattle.tables.specs.Rows.{placed, row_loaded, row-replaced}
 
-abbrev pub regionPlace : List ℕ → ℕ → ℕ
-regionPlace t i = placed t regionsSection (sizesOf t).regions regionWidth i
+abbrev pub region_place : List ℕ → ℕ → ℕ
+region_place t i = placed t regions_section (sizes_of t).regions region_width i
 
-abbrev pub recordPlace : List ℕ → ℕ → ℕ
-recordPlace t i = placed t recordsSection (sizesOf t).records recordWidth i
+abbrev pub record_place : List ℕ → ℕ → ℕ
+record_place t i = placed t records_section (sizes_of t).records record_width i
 
-abbrev pub updatePlace : List ℕ → ℕ → ℕ
-updatePlace t i = placed t ringSection ((sizesOf t).updates + 1) updateWidth i
+abbrev pub update_place : List ℕ → ℕ → ℕ
+update_place t i = placed t ring_section ((sizes_of t).updates + 1) update_width i
 
-abbrev pub hashPlace : List ℕ → ℕ → ℕ
-hashPlace t i = placed t hashSection (sizesOf t).regions hashWidth i
+abbrev pub hash_place : List ℕ → ℕ → ℕ
+hash_place t i = placed t hash_section (sizes_of t).regions hash_width i
 
-abbrev pub interfacePlace : List ℕ → ℕ → ℕ
-interfacePlace t i = placed t interfaceSection (sizesOf t).domains interfaceWidth i
+abbrev pub interface_place : List ℕ → ℕ → ℕ
+interface_place t i = placed t interface_section (sizes_of t).domains interface_width i
 
-abbrev pub markPlace : List ℕ → ℕ → ℕ
-markPlace t i = placed t markSection ((sizesOf t).updates + 1) markWidth i
+abbrev pub mark_place : List ℕ → ℕ → ℕ
+mark_place t i = placed t mark_section ((sizes_of t).updates + 1) mark_width i
 
 -- ---- a row of one word: its word alone is fetched and stored
 
-word-fetched : (t : List ℕ) (a : ℕ) → mark_of (fetched t a markWidth) ≡ get_or t a 0
+word-fetched : (t : List ℕ) (a : ℕ) → mark_of (fetched t a mark_width) ≡ get_or t a 0
 word-fetched t a =
     elim (cmp (length t) (a + 1)) [
       | lt h ↦ ap mark_of (fetched-out t a 1 h) ∙ sym (get_or-eq_default t 0 {n = a} (omega arith))
       | ge h ↦ ap mark_of (fetched-in t a 1 h) ∙ part_at t a 1 0 (omega arith) ∙ ap (λ (k : ℕ). get_or t k 0) (omega arith)
     ]
 
-word-stored : (t : List ℕ) (a m : ℕ) → set t a m ≡ stored t a (markWords m)
+word-stored : (t : List ℕ) (a m : ℕ) → set t a m ≡ stored t a (mark_words m)
 word-stored t a m =
     elim (cmp (length t) (a + 1)) [
-      | lt h ↦ set_out t a m (omega arith) ∙ sym (stored-out t a (markWords m) h)
-      | ge h ↦ sym (stored-in t a (markWords m) h)
+      | lt h ↦ set_out t a m (omega arith) ∙ sym (stored-out t a (mark_words m) h)
+      | ge h ↦ sym (stored-in t a (mark_words m) h)
     ]
 
 -- ---- regions, tracker records, the ring, hashes, interfaces, marks: whole rows
 
 module _ (t : List ℕ) (s : Sized t) (i a : ℕ) where
-  pub region-loaded : (p : List ℕ) → a ≡ regionPlace t i → p ≡ fetched t a regionWidth → regionOf p ≡ regionAt (view t) i
-  unfolding regionAt view ofParts
-  region-loaded p e ep = rw (ep, e) (row_loaded t (regionsSection - 1) (sizesOf t).regions regionWidth s (omega arith) refl regionOf i (omega arith))
+  pub region-loaded : (p : List ℕ) → a ≡ region_place t i → p ≡ fetched t a region_width → region_of p ≡ region_at (view t) i
+  unfolding region_at view of_parts
+  region-loaded p e ep = rw (ep, e) (row_loaded t (regions_section - 1) (sizes_of t).regions region_width s (omega arith) refl region_of i (omega arith))
 
-  pub record-loaded : (p : List ℕ) → a ≡ recordPlace t i → p ≡ fetched t a recordWidth → recordOf p ≡ recordAt (view t) i
-  unfolding recordAt view ofParts
-  record-loaded p e ep = rw (ep, e) (row_loaded t (recordsSection - 1) (sizesOf t).records recordWidth s (omega arith) refl recordOf i (omega arith))
+  pub record-loaded : (p : List ℕ) → a ≡ record_place t i → p ≡ fetched t a record_width → record_of p ≡ record_at (view t) i
+  unfolding record_at view of_parts
+  record-loaded p e ep = rw (ep, e) (row_loaded t (records_section - 1) (sizes_of t).records record_width s (omega arith) refl record_of i (omega arith))
 
-  pub update-loaded : (p : List ℕ) → a ≡ updatePlace t i → p ≡ fetched t a updateWidth → updateOf p ≡ updateAt (view t) i
-  unfolding updateAt view ofParts
-  update-loaded p e ep = rw (ep, e) (row_loaded t (ringSection - 1) ((sizesOf t).updates + 1) updateWidth s (omega arith) refl updateOf i (omega arith))
+  pub update-loaded : (p : List ℕ) → a ≡ update_place t i → p ≡ fetched t a update_width → update_of p ≡ update_at (view t) i
+  unfolding update_at view of_parts
+  update-loaded p e ep = rw (ep, e) (row_loaded t (ring_section - 1) ((sizes_of t).updates + 1) update_width s (omega arith) refl update_of i (omega arith))
 
-  pub hash-loaded : (p : List ℕ) → a ≡ hashPlace t i → p ≡ fetched t a hashWidth → hashOf p ≡ hashAt (view t) i
-  unfolding hashAt view ofParts
-  hash-loaded p e ep = rw (ep, e) (row_loaded t (hashSection - 1) (sizesOf t).regions hashWidth s (omega arith) refl hashOf i (omega arith))
+  pub hash-loaded : (p : List ℕ) → a ≡ hash_place t i → p ≡ fetched t a hash_width → hash_of p ≡ hash_at (view t) i
+  unfolding hash_at view of_parts
+  hash-loaded p e ep = rw (ep, e) (row_loaded t (hash_section - 1) (sizes_of t).regions hash_width s (omega arith) refl hash_of i (omega arith))
 
-  pub interface-loaded : (p : List ℕ) → a ≡ interfacePlace t i → p ≡ fetched t a interfaceWidth → interfaceOf p ≡ interfaceAt (view t) i
-  unfolding interfaceAt view ofParts
-  interface-loaded p e ep = rw (ep, e) (row_loaded t (interfaceSection - 1) (sizesOf t).domains interfaceWidth s (omega arith) refl interfaceOf i (omega arith))
+  pub interface-loaded : (p : List ℕ) → a ≡ interface_place t i → p ≡ fetched t a interface_width → interface_of p ≡ interface_at (view t) i
+  unfolding interface_at view of_parts
+  interface-loaded p e ep = rw (ep, e) (row_loaded t (interface_section - 1) (sizes_of t).domains interface_width s (omega arith) refl interface_of i (omega arith))
 
-  pub mark-loaded : a ≡ markPlace t i → get_or t a 0 ≡ markAt (view t) i
-  unfolding markAt view ofParts
-  mark-loaded e = sym (word-fetched t a) ∙ rw e (row_loaded t (markSection - 1) ((sizesOf t).updates + 1) markWidth s (omega arith) refl mark_of i (omega arith))
+  pub mark-loaded : a ≡ mark_place t i → get_or t a 0 ≡ mark_at (view t) i
+  unfolding mark_at view of_parts
+  mark-loaded e = sym (word-fetched t a) ∙ rw e (row_loaded t (mark_section - 1) ((sizes_of t).updates + 1) mark_width s (omega arith) refl mark_of i (omega arith))
 
-  pub region-stored : (u : List ℕ) (r : RegionCapa) → a ≡ regionPlace t i → u ≡ stored t a (regionWords r) → Left u (withRegion (view t) i r)
-  unfolding view ofParts cuts withRegion withRegions
+  pub region-stored : (u : List ℕ) (r : RegionCapa) → a ≡ region_place t i → u ≡ stored t a (region_words r) → Left u (with_region (view t) i r)
+  unfolding view of_parts cuts with_region with_regions
   region-stored u r e eu =
-      let q = row-replaced t (regionsSection - 1) (sizesOf t).regions regionWidth s (omega arith) refl regionOf u (regionWords r) i refl (omega arith) (rw e at eu) in
-      only-left t u regionsSection (withRegion (view t) i r) s q.0 (ap (withRegions (view t)) q.1)
+      let q = row-replaced t (regions_section - 1) (sizes_of t).regions region_width s (omega arith) refl region_of u (region_words r) i refl (omega arith) (rw e at eu) in
+      only-left t u regions_section (with_region (view t) i r) s q.0 (ap (with_regions (view t)) q.1)
 
-  pub record-stored : (u : List ℕ) (r : Region) → a ≡ recordPlace t i → u ≡ stored t a (recordWords r) → Left u (withRecord (view t) i r)
-  unfolding view ofParts cuts withRecord withRecords
+  pub record-stored : (u : List ℕ) (r : Region) → a ≡ record_place t i → u ≡ stored t a (record_words r) → Left u (with_record (view t) i r)
+  unfolding view of_parts cuts with_record with_records
   record-stored u r e eu =
-      let q = row-replaced t (recordsSection - 1) (sizesOf t).records recordWidth s (omega arith) refl recordOf u (recordWords r) i refl (omega arith) (rw e at eu) in
-      only-left t u recordsSection (withRecord (view t) i r) s q.0 (ap (withRecords (view t)) q.1)
+      let q = row-replaced t (records_section - 1) (sizes_of t).records record_width s (omega arith) refl record_of u (record_words r) i refl (omega arith) (rw e at eu) in
+      only-left t u records_section (with_record (view t) i r) s q.0 (ap (with_records (view t)) q.1)
 
-  pub update-stored : (u : List ℕ) (x : Update) → a ≡ updatePlace t i → u ≡ stored t a (updateWords x) → Left u (withUpdate (view t) i x)
-  unfolding view ofParts cuts withUpdate withRing
+  pub update-stored : (u : List ℕ) (x : Update) → a ≡ update_place t i → u ≡ stored t a (update_words x) → Left u (with_update (view t) i x)
+  unfolding view of_parts cuts with_update with_ring
   update-stored u x e eu =
-      let q = row-replaced t (ringSection - 1) ((sizesOf t).updates + 1) updateWidth s (omega arith) refl updateOf u (updateWords x) i refl (omega arith) (rw e at eu) in
-      only-left t u ringSection (withUpdate (view t) i x) s q.0 (ap (withRing (view t)) q.1)
+      let q = row-replaced t (ring_section - 1) ((sizes_of t).updates + 1) update_width s (omega arith) refl update_of u (update_words x) i refl (omega arith) (rw e at eu) in
+      only-left t u ring_section (with_update (view t) i x) s q.0 (ap (with_ring (view t)) q.1)
 
-  pub hash-stored : (u : List ℕ) (h : RegionHash) → a ≡ hashPlace t i → u ≡ stored t a (hashWords h) → Left u (withHash (view t) i h)
-  unfolding view ofParts cuts withHash withHashes
+  pub hash-stored : (u : List ℕ) (h : RegionHash) → a ≡ hash_place t i → u ≡ stored t a (hash_words h) → Left u (with_hash (view t) i h)
+  unfolding view of_parts cuts with_hash with_hashes
   hash-stored u h e eu =
-      let q = row-replaced t (hashSection - 1) (sizesOf t).regions hashWidth s (omega arith) refl hashOf u (hashWords h) i refl (omega arith) (rw e at eu) in
-      only-left t u hashSection (withHash (view t) i h) s q.0 (ap (withHashes (view t)) q.1)
+      let q = row-replaced t (hash_section - 1) (sizes_of t).regions hash_width s (omega arith) refl hash_of u (hash_words h) i refl (omega arith) (rw e at eu) in
+      only-left t u hash_section (with_hash (view t) i h) s q.0 (ap (with_hashes (view t)) q.1)
 
-  pub interface-stored : (u : List ℕ) (x : Interface) → a ≡ interfacePlace t i → u ≡ stored t a (interfaceWords x) → Left u (withInterface (view t) i x)
-  unfolding view ofParts cuts withInterface withInterfaces
+  pub interface-stored : (u : List ℕ) (x : Interface) → a ≡ interface_place t i → u ≡ stored t a (interface_words x) → Left u (with_interface (view t) i x)
+  unfolding view of_parts cuts with_interface with_interfaces
   interface-stored u x e eu =
-      let q = row-replaced t (interfaceSection - 1) (sizesOf t).domains interfaceWidth s (omega arith) refl interfaceOf u (interfaceWords x) i refl (omega arith) (rw e at eu) in
-      only-left t u interfaceSection (withInterface (view t) i x) s q.0 (ap (withInterfaces (view t)) q.1)
+      let q = row-replaced t (interface_section - 1) (sizes_of t).domains interface_width s (omega arith) refl interface_of u (interface_words x) i refl (omega arith) (rw e at eu) in
+      only-left t u interface_section (with_interface (view t) i x) s q.0 (ap (with_interfaces (view t)) q.1)
 
-  pub mark-stored : (u : List ℕ) (m : ℕ) → a ≡ markPlace t i → u ≡ set t a m → Left u (withMark (view t) i m)
-  unfolding view ofParts cuts withMark withMarks
+  pub mark-stored : (u : List ℕ) (m : ℕ) → a ≡ mark_place t i → u ≡ set t a m → Left u (with_mark (view t) i m)
+  unfolding view of_parts cuts with_mark with_marks
   mark-stored u m e eu =
-      let q = row-replaced t (markSection - 1) ((sizesOf t).updates + 1) markWidth s (omega arith) refl mark_of u (markWords m) i refl (omega arith) (rw e at (eu ∙ word-stored t a m)) in
-      only-left t u markSection (withMark (view t) i m) s q.0 (ap (withMarks (view t)) q.1)
+      let q = row-replaced t (mark_section - 1) ((sizes_of t).updates + 1) mark_width s (omega arith) refl mark_of u (mark_words m) i refl (omega arith) (rw e at (eu ∙ word-stored t a m)) in
+      only-left t u mark_section (with_mark (view t) i m) s q.0 (ap (with_marks (view t)) q.1)

@@ -3,8 +3,8 @@ use Rattle.std.specs.Prelude.{ℕ, ◌+◌, ◌-◌, ◌^◌, ltb}
 use Rattle.base.specs.Cases.{pick}
 
 -- the link to a slot, and the slot of a link
-abbrev pub linkTo : ℕ → ℕ
-linkTo i = pick (ltb i (2 ^ 64 - 1)) (i + 1) 0
+abbrev pub link_to : ℕ → ℕ
+link_to i = pick (ltb i (2 ^ 64 - 1)) (i + 1) 0
 
-abbrev pub slotTo : ℕ → ℕ
-slotTo k = k - 1
+abbrev pub slot_to : ℕ → ℕ
+slot_to k = k - 1

@@ -1,21 +1,21 @@
 // The engine's tables in lent words: the records, which crates of their own load and store by their numbers.
 // docs/TABLES.md has the layout; a record that is not there is all zero, and is not stored.
 ghost use Rattle.std.specs.Prelude.{◌≡◌};
-ghost use Rattle.tables.specs.Tables.{noHead, no_slot, noRegion, noRecord, noUpdate, noHash, noInterface};
+ghost use Rattle.tables.specs.Tables.{no_head, no_slot, no_region, no_record, no_update, no_hash, no_interface};
 
 pub mod links;
 pub mod rows;
 
 pub use links::{link_to, slot_to};
 
-#[derive(Drop)]
+#[derive(Clone, Copy)]
 pub struct Handle {
     pub slot: u64,
     pub generation: u64,
 }
 
 // A slot of a domain's list. A free one has the free slot after it as its handle's slot.
-#[derive(Drop)]
+#[derive(Clone, Copy)]
 pub struct Slot {
     pub kind: u64,
     pub handle: Handle,
@@ -36,7 +36,7 @@ impl Slot {
 }
 
 // A domain but for its slots: links to its manager and its first tracker record, and its list's head and count.
-#[derive(Drop)]
+#[derive(Clone, Copy)]
 pub struct DomainHead {
     pub manager: u64,
     pub cores: u64,
@@ -53,7 +53,7 @@ impl DomainHead {
 }
 
 // A region; owner, parent, first child and next sibling are links.
-#[derive(Drop)]
+#[derive(Clone, Copy)]
 pub struct RegionCapa {
     pub kind: u64,
     pub owner: u64,
@@ -74,7 +74,7 @@ impl RegionCapa {
 }
 
 // A tracker record.
-#[derive(Drop)]
+#[derive(Clone, Copy)]
 pub struct Region {
     pub start: u64,
     pub end: u64,
@@ -88,7 +88,7 @@ pub struct Region {
 }
 
 // A place of the ring.
-#[derive(Drop)]
+#[derive(Clone, Copy)]
 pub struct Update {
     pub kind: u64,
     pub a: u64,
@@ -105,7 +105,7 @@ impl Update {
 }
 
 // The 32 bytes of a hash, byte 0 lowest in the first word.
-#[derive(Drop)]
+#[derive(Clone, Copy)]
 pub struct Hash {
     pub word0: u64,
     pub word1: u64,
@@ -114,7 +114,7 @@ pub struct Hash {
 }
 
 // What is stored of a region's hash: whether one was given, 1 or 0, and its words.
-#[derive(Drop)]
+#[derive(Clone, Copy)]
 pub struct RegionHash {
     pub given: u64,
     pub word0: u64,
@@ -125,7 +125,7 @@ pub struct RegionHash {
 
 // What a domain may do (document 02, request 2): a word of the bits below, of which any other may be set too, and whether
 // it is frozen, 1 or 0.
-#[derive(Drop)]
+#[derive(Clone, Copy)]
 pub struct Interface {
     pub word: u64,
     pub frozen: u64,
@@ -145,7 +145,7 @@ impl Interface {
 // ---- The records that are all zero
 
 pub fn no_head() -> DomainHead
-    ensures { result ≡ noHead }
+    ensures { result ≡ no_head }
 {
     DomainHead {
         manager: 0,
@@ -167,7 +167,7 @@ pub fn no_slot() -> Slot
 }
 
 pub fn no_region() -> RegionCapa
-    ensures { result ≡ noRegion }
+    ensures { result ≡ no_region }
 {
     RegionCapa {
         kind: 0,
@@ -182,7 +182,7 @@ pub fn no_region() -> RegionCapa
 }
 
 pub fn no_record() -> Region
-    ensures { result ≡ noRecord }
+    ensures { result ≡ no_record }
 {
     Region {
         start: 0,
@@ -198,7 +198,7 @@ pub fn no_record() -> Region
 }
 
 pub fn no_update() -> Update
-    ensures { result ≡ noUpdate }
+    ensures { result ≡ no_update }
 {
     Update {
         kind: 0,
@@ -209,7 +209,7 @@ pub fn no_update() -> Update
 }
 
 pub fn no_hash() -> RegionHash
-    ensures { result ≡ noHash }
+    ensures { result ≡ no_hash }
 {
     RegionHash {
         given: 0,
@@ -221,7 +221,7 @@ pub fn no_hash() -> RegionHash
 }
 
 pub fn no_interface() -> Interface
-    ensures { result ≡ noInterface }
+    ensures { result ≡ no_interface }
 {
     Interface { word: 0, frozen: 0 }
 }

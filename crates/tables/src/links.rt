@@ -1,16 +1,16 @@
 // A slot number as it is stored, a link: 0 is no slot, k + 1 is slot k.
 ghost use Rattle.std.specs.Prelude.{◌≡◌};
-ghost use Rattle.tables.specs.Links.{linkTo, slotTo};
+ghost use Rattle.tables.specs.Links.{link_to, slot_to};
 
 // The link to a slot, and the slot of a link.
 pub fn link_to(slot: u64) -> u64
-    ensures { result ≡ linkTo slot }
+    ensures { result ≡ link_to slot }
 {
     if slot < u64::MAX { slot + 1 } else { 0 }
 }
 
 pub fn slot_to(link: u64) -> usize
-    ensures { result ≡ slotTo link }
+    ensures { result ≡ slot_to link }
 {
     if 0 < link { (link - 1) as usize } else { 0 }
 }

@@ -4,8 +4,8 @@ use mathlib.Core.List.{List}
 use Prim.Native.Nat.{ℕ, suc, ◌+◌, ◌*◌, ◌-◌, ◌≤◌, ◌<◌}
 use native.Mathlib.Omega.{arith}
 use lib.ListN.{get_or}
-use Rattle.sizes.specs.Sizes.{sizesOf}
-use Rattle.tables.specs.View.{view, ofParts, Sized, Left}
+use Rattle.sizes.specs.Sizes.{sizes_of}
+use Rattle.tables.specs.View.{view, of_parts, Sized, Left}
 use Rattle.answers.specs.declared.Answer.{Answer}
 use Rattle.answers.specs.declared.Answer.TheVariants.{Done, Refused}
 use Rattle.refusals.specs.declared.Refusal.{Refusal}
@@ -18,14 +18,14 @@ use Rattle.walk_cursors.specs.declared.Progress.TheVariants.{Going, Over}
 use Rattle.region.specs.declared.Way.{Way}
 use Rattle.region.specs.declared.Way.TheVariants.{Merge}
 use Rattle.answers.specs.Then.{stays}
-use Rattle.tracker_records.specs.Links.{firstLink}
+use Rattle.tracker_records.specs.Links.{first_link}
 use Rattle.tracker.specs.Walks.{turn, walk, walked}
 
 module _ (w : Way) (d : ℕ) (a : AccessRights) (t : List ℕ) where
   -- the number of turns and the first record as they are read from the words
-  pub walk_start : (n k marks : ℕ) → n ≡ get_or t 3 0 → k ≡ firstLink (view t) d
+  pub walk_start : (n k marks : ℕ) → n ≡ get_or t 3 0 → k ≡ first_link (view t) d
       → walk w d a (3 * n + 3) (record { prev = 0; at = k; start = a.start; marks = marks }) (view t) ≡ walked w d a marks (view t)
-  unfolding walked view ofParts sizesOf
+  unfolding walked view of_parts sizes_of
   walk_start n k marks en ek = rw (en, ek)
 
   pub walk_end : (c : Cursor) (n : ℕ) → n ≤ 0 → Sized t → (Refused memory ≡ (walk w d a n c (view t)).answer) × Left t (walk w d a n c (view t)).tables

@@ -2,56 +2,56 @@
 use Rattle.std.specs.Prelude.{ℕ, zero, suc, ◌+◌, ◌*◌, eqb, ltb, leb}
 use Rattle.base.specs.Cases.{pick}
 use Rattle.tables.specs.declared.Region.{Region}
-use Rattle.tables.specs.Tables.{Tables, recordAt}
+use Rattle.tables.specs.Tables.{Tables, record_at}
 use Rattle.refusals.specs.Refusals.{memory}
 use Rattle.answers.specs.Answers.{Effect, refused, and_then}
 use Rattle.region.specs.declared.AccessRights.{AccessRights}
 use Rattle.region.specs.declared.Way.{Way}
 use Rattle.region.specs.declared.Way.TheVariants.{Add, Remove, Merge}
-use Rattle.region.specs.Turns.{Turn, to, over, cutStart, cutEnd, mergeAt}
-use Rattle.gain_turns.specs.Turns.{fillTurn, raiseTurn}
-use Rattle.loss_turns.specs.Turns.{lowerTurn}
+use Rattle.region.specs.Turns.{Turn, to, over, cut_start, cut_end, merge_at}
+use Rattle.gain_turns.specs.Turns.{fill_turn, raise_turn}
+use Rattle.loss_turns.specs.Turns.{lower_turn}
 use Rattle.walk_cursors.specs.declared.Cursor.{Cursor}
 use Rattle.walk_cursors.specs.declared.Progress.TheVariants.{Going, Over}
 use Rattle.walk_cursors.specs.Cursors.{next_of}
-use Rattle.tables.specs.Links.{slotTo}
-use Rattle.tracker_records.specs.Links.{firstLink}
+use Rattle.tables.specs.Links.{slot_to}
+use Rattle.tracker_records.specs.Links.{first_link}
 
 -- ---- turns
 
 -- `add_region`, where a record is at hand
-unfoldable pub addAt : Tables → ℕ → AccessRights → Cursor → Region → Turn
-addAt s d a c q =
-    pick (ltb c.start q.start) (fillTurn s d a c (pick (ltb q.start a.end) q.start a.end))
+unfoldable pub add_at : Tables → ℕ → AccessRights → Cursor → Region → Turn
+add_at s d a c q =
+    pick (ltb c.start q.start) (fill_turn s d a c (pick (ltb q.start a.end) q.start a.end))
     (pick (leb q.end c.start) (to (Going (next_of c q.next c.start 0)) s)
-    (pick (ltb q.start c.start) (cutStart s c)
-    (pick (ltb a.end q.end) (cutEnd s c a.end) (raiseTurn s a c q))))
+    (pick (ltb q.start c.start) (cut_start s c)
+    (pick (ltb a.end q.end) (cut_end s c a.end) (raise_turn s a c q))))
 
-unfoldable pub addTurn : Tables → ℕ → AccessRights → Cursor → Turn
-addTurn s d a c =
+unfoldable pub add_turn : Tables → ℕ → AccessRights → Cursor → Turn
+add_turn s d a c =
     pick (leb a.end c.start) (over c s)
-    (pick (eqb c.at 0) (fillTurn s d a c a.end) (addAt s d a c (recordAt s (slotTo c.at))))
+    (pick (eqb c.at 0) (fill_turn s d a c a.end) (add_at s d a c (record_at s (slot_to c.at))))
 
 -- `remove_region`, where a record is at hand
-unfoldable pub removeAt : Tables → ℕ → AccessRights → Cursor → Region → Turn
-removeAt s d a c q =
+unfoldable pub remove_at : Tables → ℕ → AccessRights → Cursor → Region → Turn
+remove_at s d a c q =
     pick (leb a.end q.start) (over c s)
     (pick (leb q.end c.start) (to (Going (next_of c q.next c.start 0)) s)
-    (pick (ltb q.start c.start) (cutStart s c)
-    (pick (ltb a.end q.end) (cutEnd s c a.end) (lowerTurn s d a c q))))
+    (pick (ltb q.start c.start) (cut_start s c)
+    (pick (ltb a.end q.end) (cut_end s c a.end) (lower_turn s d a c q))))
 
-unfoldable pub removeTurn : Tables → ℕ → AccessRights → Cursor → Turn
-removeTurn s d a c = pick (eqb c.at 0) (over c s) (removeAt s d a c (recordAt s (slotTo c.at)))
+unfoldable pub remove_turn : Tables → ℕ → AccessRights → Cursor → Turn
+remove_turn s d a c = pick (eqb c.at 0) (over c s) (remove_at s d a c (record_at s (slot_to c.at)))
 
-unfoldable pub mergeTurn : Tables → Cursor → Turn
-mergeTurn s c =
-    let q = recordAt s (slotTo c.at) in
-    pick (eqb c.at 0) (over c s) (pick (eqb q.next 0) (over c s) (mergeAt s c q (recordAt s (slotTo q.next))))
+unfoldable pub merge_turn : Tables → Cursor → Turn
+merge_turn s c =
+    let q = record_at s (slot_to c.at) in
+    pick (eqb c.at 0) (over c s) (pick (eqb q.next 0) (over c s) (merge_at s c q (record_at s (slot_to q.next))))
 
 abbrev pub turn : Way → Tables → ℕ → AccessRights → Cursor → Turn
-turn Add s d a c = addTurn s d a c
-turn Remove s d a c = removeTurn s d a c
-turn Merge s d a c = mergeTurn s c
+turn Add s d a c = add_turn s d a c
+turn Remove s d a c = remove_turn s d a c
+turn Merge s d a c = merge_turn s c
 
 -- ---- walks
 
@@ -66,12 +66,12 @@ turns s = 3 * s.sizes.records + 3
 
 -- from domain d's first record
 unfoldable pub walked : Way → ℕ → AccessRights → ℕ → Tables → Effect
-walked w d a marks s = walk w d a (turns s) (record { prev = 0; at = firstLink s d; start = a.start; marks = marks }) s
+walked w d a marks s = walk w d a (turns s) (record { prev = 0; at = first_link s d; start = a.start; marks = marks }) s
 
 -- ---- the whole gain and the whole loss of a range (the model's gain and lose); the answer is the marks of the counts that left or came to 0
 
-unfoldable pub addRegion : ℕ → AccessRights → Tables → Effect
-addRegion d a s = and_then (walked Add d a 0 s) (walked Merge d a)
+unfoldable pub add_region : ℕ → AccessRights → Tables → Effect
+add_region d a s = and_then (walked Add d a 0 s) (walked Merge d a)
 
-unfoldable pub removeRegion : ℕ → AccessRights → Tables → Effect
-removeRegion d a s = and_then (walked Remove d a 0 s) (walked Merge d a)
+unfoldable pub remove_region : ℕ → AccessRights → Tables → Effect
+remove_region d a s = and_then (walked Remove d a 0 s) (walked Merge d a)

@@ -4,7 +4,7 @@ pub mod turns;
 
 ghost use Rattle.std.specs.Prelude.{◌≡◌};
 ghost use Rattle.tables.specs.View.{view, Sized, Left};
-ghost use Rattle.tracker.specs.Walks.{walked, addRegion, removeRegion};
+ghost use Rattle.tracker.specs.Walks.{walked, add_region, remove_region};
 
 use answers::Answer;
 use refusals::Refusal;
@@ -40,8 +40,8 @@ fn walk(t: &mut [u64], d: usize, way: Way, a: AccessRights, marks: u64) -> Answe
 // Domain d gains the range; answers the marks of the counts that left or came to 0.
 pub fn add_region(t: &mut [u64], d: usize, a: AccessRights) -> Answer
     requires { Sized t.old }
-    ensures value { result ≡ (addRegion d a (view t.old)).answer }
-    ensures left { Left t.new (addRegion d a (view t.old)).tables }
+    ensures value { result ≡ (add_region d a (view t.old)).answer }
+    ensures left { Left t.new (add_region d a (view t.old)).tables }
 {
     match walk(t, d, Way::Add, a, 0) {
         Answer::Done(marks) => walk(t, d, Way::Merge, a, marks),
@@ -52,8 +52,8 @@ pub fn add_region(t: &mut [u64], d: usize, a: AccessRights) -> Answer
 // Domain d loses the range.
 pub fn remove_region(t: &mut [u64], d: usize, a: AccessRights) -> Answer
     requires { Sized t.old }
-    ensures value { result ≡ (removeRegion d a (view t.old)).answer }
-    ensures left { Left t.new (removeRegion d a (view t.old)).tables }
+    ensures value { result ≡ (remove_region d a (view t.old)).answer }
+    ensures left { Left t.new (remove_region d a (view t.old)).tables }
 {
     match walk(t, d, Way::Remove, a, 0) {
         Answer::Done(marks) => walk(t, d, Way::Merge, a, marks),

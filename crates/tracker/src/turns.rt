@@ -1,7 +1,7 @@
 // One turn of a walk over a domain's records: a step of crate `region`, `gain_turns` or `loss_turns`, by where the range and the record at hand lie.
 ghost use Rattle.std.specs.Prelude.{◌≡◌};
 ghost use Rattle.tables.specs.View.{view, Sized, Left};
-ghost use Rattle.tracker.specs.Walks.{addAt, addTurn, removeAt, removeTurn, mergeTurn, turn};
+ghost use Rattle.tracker.specs.Walks.{add_at, add_turn, remove_at, remove_turn, merge_turn, turn};
 
 use answers::Answer;
 use region::{AccessRights, Way};
@@ -11,8 +11,8 @@ use walk_cursors::{Cursor, Progress};
 // `add_region`, with record q at hand: a gap before it is filled, the range's edges cut it, and in the range it is raised.
 fn add_at(t: &mut [u64], d: usize, a: AccessRights, c: Cursor, q: Region) -> Progress
     requires { Sized t.old }
-    ensures value { result ≡ (addAt (view t.old) d a c q).answer }
-    ensures left { Left t.new (addAt (view t.old) d a c q).tables }
+    ensures value { result ≡ (add_at (view t.old) d a c q).answer }
+    ensures left { Left t.new (add_at (view t.old) d a c q).tables }
 {
     if c.start < q.start {
         return gain_turns::fill(t, d, a, c, counts::least(q.start, a.end));
@@ -32,8 +32,8 @@ fn add_at(t: &mut [u64], d: usize, a: AccessRights, c: Cursor, q: Region) -> Pro
 // A turn of `add_region`, until the range is done.
 fn add(t: &mut [u64], d: usize, a: AccessRights, c: Cursor) -> Progress
     requires { Sized t.old }
-    ensures value { result ≡ (addTurn (view t.old) d a c).answer }
-    ensures left { Left t.new (addTurn (view t.old) d a c).tables }
+    ensures value { result ≡ (add_turn (view t.old) d a c).answer }
+    ensures left { Left t.new (add_turn (view t.old) d a c).tables }
 {
     if a.end <= c.start {
         return Progress::Over(Answer::Done(c.marks));
@@ -48,8 +48,8 @@ fn add(t: &mut [u64], d: usize, a: AccessRights, c: Cursor) -> Progress
 // `remove_region`, with record q at hand: the range's edges cut it, and in the range it is lowered.
 fn remove_at(t: &mut [u64], d: usize, a: AccessRights, c: Cursor, q: Region) -> Progress
     requires { Sized t.old }
-    ensures value { result ≡ (removeAt (view t.old) d a c q).answer }
-    ensures left { Left t.new (removeAt (view t.old) d a c q).tables }
+    ensures value { result ≡ (remove_at (view t.old) d a c q).answer }
+    ensures left { Left t.new (remove_at (view t.old) d a c q).tables }
 {
     if a.end <= q.start {
         return Progress::Over(Answer::Done(c.marks));
@@ -69,8 +69,8 @@ fn remove_at(t: &mut [u64], d: usize, a: AccessRights, c: Cursor, q: Region) -> 
 // A turn of `remove_region`, until the records end or lie past the range.
 fn remove(t: &mut [u64], d: usize, a: AccessRights, c: Cursor) -> Progress
     requires { Sized t.old }
-    ensures value { result ≡ (removeTurn (view t.old) d a c).answer }
-    ensures left { Left t.new (removeTurn (view t.old) d a c).tables }
+    ensures value { result ≡ (remove_turn (view t.old) d a c).answer }
+    ensures left { Left t.new (remove_turn (view t.old) d a c).tables }
 {
     if c.at == 0 {
         return Progress::Over(Answer::Done(c.marks));
@@ -82,8 +82,8 @@ fn remove(t: &mut [u64], d: usize, a: AccessRights, c: Cursor) -> Progress
 // A turn of `coalesce`, until no record is behind the one at hand.
 fn merge(t: &mut [u64], c: Cursor) -> Progress
     requires { Sized t.old }
-    ensures value { result ≡ (mergeTurn (view t.old) c).answer }
-    ensures left { Left t.new (mergeTurn (view t.old) c).tables }
+    ensures value { result ≡ (merge_turn (view t.old) c).answer }
+    ensures left { Left t.new (merge_turn (view t.old) c).tables }
 {
     if c.at == 0 {
         return Progress::Over(Answer::Done(c.marks));

@@ -1,7 +1,7 @@
 // The links of a domain's records: one more, one cut in two, one less.
 ghost use Rattle.std.specs.Prelude.{◌≡◌};
 ghost use Rattle.tables.specs.View.{view, Sized, Left};
-ghost use Rattle.tracker_records.specs.Links.{withEnd, with_next, firstLink, inserted, split, freedRecord};
+ghost use Rattle.tracker_records.specs.Links.{with_end, with_next, first_link, inserted, split, freed_record};
 
 use answers::Answer;
 use arena::{Freed, Given};
@@ -11,7 +11,7 @@ use tables::Region;
 // The link of domain d's first record.
 pub fn first(t: &[u64], d: usize) -> u64
     requires { Sized t.now }
-    ensures { result ≡ firstLink (view t.now) d }
+    ensures { result ≡ first_link (view t.now) d }
 {
     let h = domain_rows::load_head(t, d);
     h.tracker
@@ -19,7 +19,7 @@ pub fn first(t: &[u64], d: usize) -> u64
 
 // The record with the end `end` and the link `next`.
 pub fn bounded(q: Region, end: u64, next: u64) -> Region
-    ensures { result ≡ withEnd q end next }
+    ensures { result ≡ with_end q end next }
 {
     let mut p = q;
     p.end = end;
@@ -83,8 +83,8 @@ pub fn split_region_at(t: &mut [u64], i: usize, a: u64) -> Answer
 // Frees record i, to which no link leads any more; 16 where its generation is spent.
 pub fn free(t: &mut [u64], i: usize) -> Answer
     requires { Sized t.old }
-    ensures value { result ≡ (freedRecord (view t.old) i).answer }
-    ensures left { Left t.new (freedRecord (view t.old) i).tables }
+    ensures value { result ≡ (freed_record (view t.old) i).answer }
+    ensures left { Left t.new (freed_record (view t.old) i).tables }
 {
     match pools::free_record(t, i) {
         Freed::Done => Answer::Done(0),

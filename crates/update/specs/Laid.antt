@@ -5,17 +5,17 @@ use Rattle.std.proofs.Common.{◌∙◌, arith}
 use Rattle.std.proofs.lemmas.List.{length-map}
 use Rattle.std.proofs.Math.ListN.{get_or-map, get_or-eq_default}
 use Rattle.base.specs.Cases.{cmp, lt, ge}
-use Rattle.tables.specs.Tables.{Tables, noUpdate, withRing, withMarks, withPlaces}
+use Rattle.tables.specs.Tables.{Tables, no_update, with_ring, with_marks, with_places}
 use Rattle.ring.specs.declared.Entry.{Entry}
 use Rattle.ring.specs.declared.Ring.{Ring}
 use Rattle.ring.specs.declared.PushOut.{PushOut}
 use Rattle.ring.specs.declared.PopOut.{PopOut}
-use Rattle.ring.specs.Ring.{cap, noEntry, pushOf, pop_of, permissionOf}
-use Rattle.ring_search.specs.Queueing.{queueOf}
-use Rattle.stored_ring.specs.Fitted.{fitted, length-fitted, getD-fitted, fitted-back}
-use Rattle.stored_ring.specs.Stored.{entries, updatesOf, marksOf, ringOf, withRingOf, length-entries, getD-entries, entries-updates, entries-marks}
+use Rattle.ring.specs.Ring.{cap, no_entry, push_of, pop_of, permission_of}
+use Rattle.ring_search.specs.Queueing.{queue_of}
+use Rattle.stored_ring.specs.Fitted.{fitted, length-fitted, get_or-fitted, fitted-back}
+use Rattle.stored_ring.specs.Stored.{entries, updates_of, marks_of, ring_of, with_ring_of, length-entries, get_or-entries, entries-updates, entries-marks}
 use Rattle.ring.specs.Queue.{Queues, push-joins, push-full, pop-empty, pop-takes}
-use Rattle.ring_search.specs.Search.{anyNames, gatherFirst, queue-new, queue-gathers}
+use Rattle.ring_search.specs.Search.{any_names, gather_first, queue-new, queue-gathers}
 use Rattle.ring.specs.Sizes.{push-size, pop-size}
 use Rattle.ring_search.specs.Sizes.{queue-size}
 
@@ -28,19 +28,19 @@ pub record Laid (s : Tables) (first : ℕ) (items : List Entry) : Type 0 where
   pub few : length items < s.sizes.updates + 1
   pub read : s.read ≡ first
   pub write : s.write ≡ (first + length items) % (s.sizes.updates + 1)
-  pub place : (k : ℕ) → k < s.sizes.updates + 1 → get_or s.ring k noUpdate ≡ (get_or items ((k + (s.sizes.updates + 1) - first) % (s.sizes.updates + 1)) noEntry).update
-  pub mark : (k : ℕ) → k < s.sizes.updates + 1 → get_or s.marks k 0 ≡ (get_or items ((k + (s.sizes.updates + 1) - first) % (s.sizes.updates + 1)) noEntry).marks
+  pub place : (k : ℕ) → k < s.sizes.updates + 1 → get_or s.ring k no_update ≡ (get_or items ((k + (s.sizes.updates + 1) - first) % (s.sizes.updates + 1)) no_entry).update
+  pub mark : (k : ℕ) → k < s.sizes.updates + 1 → get_or s.marks k 0 ≡ (get_or items ((k + (s.sizes.updates + 1) - first) % (s.sizes.updates + 1)) no_entry).marks
 
 -- past the places of the tables a fitted ring is nothing
-fitted-past : (n m : ℕ) (ps : List Entry) (k : ℕ) → length ps ≡ m → m ≤ k → get_or (fitted n ps) k noEntry ≡ noEntry
+fitted-past : (n m : ℕ) (ps : List Entry) (k : ℕ) → length ps ≡ m → m ≤ k → get_or (fitted n ps) k no_entry ≡ no_entry
 fitted-past n m ps k e h =
     elim (cmp k n) [
-      | lt a ↦ getD-fitted n ps k a ∙ get_or-eq_default ps noEntry {n = k} (omega arith)
-      | ge a ↦ get_or-eq_default (fitted n ps) noEntry {n = k} (omega (arith, length-fitted n ps))
+      | lt a ↦ get_or-fitted n ps k a ∙ get_or-eq_default ps no_entry {n = k} (omega arith)
+      | ge a ↦ get_or-eq_default (fitted n ps) no_entry {n = k} (omega (arith, length-fitted n ps))
     ]
 
-pub laid-queues : (s : Tables) (first : ℕ) (items : List Entry) → Laid s first items → Queues (ringOf s) first items
-unfolding ringOf
+pub laid-queues : (s : Tables) (first : ℕ) (items : List Entry) → Laid s first items → Queues (ring_of s) first items
+unfolding ring_of
 laid-queues s first items l =
     let es = entries s.ring s.marks in
     record {
@@ -51,19 +51,19 @@ laid-queues s first items l =
       read = l.read;
       write = l.write;
       place = λ k h.
-          getD-fitted cap es k (omega (arith, l.high)) ∙ getD-entries s.ring s.marks k (omega (arith, l.long, l.long-marks))
+          get_or-fitted cap es k (omega (arith, l.high)) ∙ get_or-entries s.ring s.marks k (omega (arith, l.long, l.long-marks))
           ∙ (λ i. record { update = l.place k h i; marks = l.mark k h i });
       past = λ k h. fitted-past cap (s.sizes.updates + 1) es k (length-entries s.ring s.marks ∙ l.long) h;
     }
 
 -- and back: a queue that is stored is laid so
 pub queues-laid : (s : Tables) (r : Ring) (first : ℕ) (items : List Entry) → length s.ring ≡ s.sizes.updates + 1 → r.size ≡ s.sizes.updates + 1
-    → Queues r first items → Laid (withRingOf s r) first items
-unfolding withRingOf withRing withMarks withPlaces
+    → Queues r first items → Laid (with_ring_of s r) first items
+unfolding with_ring_of with_ring with_marks with_places
 queues-laid s r first items e z q =
     let ps = fitted (length s.ring) r.places in
-    let at : (k : ℕ) → k < s.sizes.updates + 1 → get_or ps k noEntry ≡ get_or items ((k + (s.sizes.updates + 1) - first) % (s.sizes.updates + 1)) noEntry =
-    λ k h. getD-fitted (length s.ring) r.places k (omega arith) ∙ rw (← z) (q.place k (omega arith)) in
+    let at : (k : ℕ) → k < s.sizes.updates + 1 → get_or ps k no_entry ≡ get_or items ((k + (s.sizes.updates + 1) - first) % (s.sizes.updates + 1)) no_entry =
+    λ k h. get_or-fitted (length s.ring) r.places k (omega arith) ∙ rw (← z) (q.place k (omega arith)) in
     record {
       high = rw (← z) q.high;
       long = length-map ps (λ (x : Entry). x.update) ∙ length-fitted (length s.ring) r.places ∙ e;
@@ -72,61 +72,61 @@ queues-laid s r first items e z q =
       few = rw (← z) q.few;
       read = q.read;
       write = rw (← z) q.write;
-      place = λ k h. get_or-map (λ (x : Entry). x.update) ps k noEntry ∙ ap (λ (x : Entry). x.update) (at k h);
-      mark = λ k h. get_or-map (λ (x : Entry). x.marks) ps k noEntry ∙ ap (λ (x : Entry). x.marks) (at k h);
+      place = λ k h. get_or-map (λ (x : Entry). x.update) ps k no_entry ∙ ap (λ (x : Entry). x.update) (at k h);
+      mark = λ k h. get_or-map (λ (x : Entry). x.marks) ps k no_entry ∙ ap (λ (x : Entry). x.marks) (at k h);
     }
 
 -- a ring that is stored as it was loaded changes nothing
-pub ring-same : (s : Tables) → length s.ring ≤ cap → length s.marks ≡ length s.ring → withRingOf s (ringOf s) ≡ s
-unfolding ringOf withRingOf withRing withMarks withPlaces
+pub ring-same : (s : Tables) → length s.ring ≤ cap → length s.marks ≡ length s.ring → with_ring_of s (ring_of s) ≡ s
+unfolding ring_of with_ring_of with_ring with_marks with_places
 ring-same s h m =
     let e = fitted-back (length s.ring) cap (entries s.ring s.marks) (length-entries s.ring s.marks) h in
-    let us = ap updatesOf e ∙ entries-updates s.ring s.marks in
-    let ms = ap marksOf e ∙ entries-marks s.ring s.marks m in
-    λ i. withMarks (withRing s (us i)) (ms i)
+    let us = ap updates_of e ∙ entries-updates s.ring s.marks in
+    let ms = ap marks_of e ∙ entries-marks s.ring s.marks m in
+    λ i. with_marks (with_ring s (us i)) (ms i)
 
 -- ---- the steps on the tables, as steps of the queue
 
 module _ (s : Tables) (first : ℕ) (items : List Entry) (l : Laid s first items) where
-  same : withRingOf s (ringOf s) ≡ s
+  same : with_ring_of s (ring_of s) ≡ s
   same = ring-same s (omega (arith, l.long, l.high)) (omega (arith, l.long, l.long-marks))
 
   -- an entry joins the end
   pub push-laid : (u : Entry) → length items < s.sizes.updates
-      → ((pushOf (ringOf s) u).ok ≡ true) × Laid (withRingOf s (pushOf (ringOf s) u).ring) first (items ++ (u ∷ []))
-  unfolding ringOf
+      → ((push_of (ring_of s) u).ok ≡ true) × Laid (with_ring_of s (push_of (ring_of s) u).ring) first (items ++ (u ∷ []))
+  unfolding ring_of
   push-laid u h =
-      let (ok, q) = push-joins (ringOf s) first items (laid-queues s first items l) u (omega arith) in
-      (ok, queues-laid s (pushOf (ringOf s) u).ring first (items ++ (u ∷ [])) l.long (push-size (ringOf s) u) q)
+      let (ok, q) = push-joins (ring_of s) first items (laid-queues s first items l) u (omega arith) in
+      (ok, queues-laid s (push_of (ring_of s) u).ring first (items ++ (u ∷ [])) l.long (push-size (ring_of s) u) q)
 
   -- 14 where the ring holds as many as it can
-  pub full-laid : (u : Entry) → length items ≡ s.sizes.updates → ((pushOf (ringOf s) u).ok ≡ false) × (withRingOf s (pushOf (ringOf s) u).ring ≡ s)
-  unfolding ringOf
+  pub full-laid : (u : Entry) → length items ≡ s.sizes.updates → ((push_of (ring_of s) u).ok ≡ false) × (with_ring_of s (push_of (ring_of s) u).ring ≡ s)
+  unfolding ring_of
   full-laid u h =
-      let e = push-full (ringOf s) first items (laid-queues s first items l) u (omega arith) in
-      (ap (λ (o : PushOut). o.ok) e, ap (λ (o : PushOut). withRingOf s o.ring) e ∙ same)
+      let e = push-full (ring_of s) first items (laid-queues s first items l) u (omega arith) in
+      (ap (λ (o : PushOut). o.ok) e, ap (λ (o : PushOut). with_ring_of s o.ring) e ∙ same)
 
   -- a domain that is queued already keeps its place, and its marks are gathered
-  pub queue-laid : (d g c m : ℕ) → anyNames d g items ≡ true
-      → ((queueOf (ringOf s) d g c m).ok ≡ true) × Laid (withRingOf s (queueOf (ringOf s) d g c m).ring) first (gatherFirst d g m items)
-  unfolding ringOf
+  pub queue-laid : (d g c m : ℕ) → any_names d g items ≡ true
+      → ((queue_of (ring_of s) d g c m).ok ≡ true) × Laid (with_ring_of s (queue_of (ring_of s) d g c m).ring) first (gather_first d g m items)
+  unfolding ring_of
   queue-laid d g c m h =
-      let (ok, q) = queue-gathers (ringOf s) first items (laid-queues s first items l) d g c m h in
-      (ok, queues-laid s (queueOf (ringOf s) d g c m).ring first (gatherFirst d g m items) l.long (queue-size (ringOf s) d g c m) q)
+      let (ok, q) = queue-gathers (ring_of s) first items (laid-queues s first items l) d g c m h in
+      (ok, queues-laid s (queue_of (ring_of s) d g c m).ring first (gather_first d g m items) l.long (queue-size (ring_of s) d g c m) q)
 
-  pub new-laid : (d g c m : ℕ) → anyNames d g items ≡ false → queueOf (ringOf s) d g c m ≡ pushOf (ringOf s) (permissionOf d g c m)
-  new-laid d g c m h = queue-new (ringOf s) first items (laid-queues s first items l) d g c m h
+  pub new-laid : (d g c m : ℕ) → any_names d g items ≡ false → queue_of (ring_of s) d g c m ≡ push_of (ring_of s) (permission_of d g c m)
+  new-laid d g c m h = queue-new (ring_of s) first items (laid-queues s first items l) d g c m h
 
 -- "Pop of an empty ring answers none."
-pub empty-laid : (s : Tables) (first : ℕ) → Laid s first [] → ((pop_of (ringOf s)).item ≡ record { got = false; entry = noEntry }) × (withRingOf s (pop_of (ringOf s)).ring ≡ s)
+pub empty-laid : (s : Tables) (first : ℕ) → Laid s first [] → ((pop_of (ring_of s)).item ≡ record { got = false; entry = no_entry }) × (with_ring_of s (pop_of (ring_of s)).ring ≡ s)
 empty-laid s first l =
-    let e = pop-empty (ringOf s) first (laid-queues s first [] l) in
-    (ap (λ (o : PopOut). o.item) e, ap (λ (o : PopOut). withRingOf s o.ring) e ∙ same s first [] l)
+    let e = pop-empty (ring_of s) first (laid-queues s first [] l) in
+    (ap (λ (o : PopOut). o.item) e, ap (λ (o : PopOut). with_ring_of s o.ring) e ∙ same s first [] l)
 
 -- the oldest entry leaves
 pub pop-laid : (s : Tables) (first : ℕ) (u : Entry) (us : List Entry) → Laid s first (u ∷ us)
-    → ((pop_of (ringOf s)).item ≡ record { got = true; entry = u }) × Laid (withRingOf s (pop_of (ringOf s)).ring) ((first + 1) % (s.sizes.updates + 1)) us
-unfolding ringOf
+    → ((pop_of (ring_of s)).item ≡ record { got = true; entry = u }) × Laid (with_ring_of s (pop_of (ring_of s)).ring) ((first + 1) % (s.sizes.updates + 1)) us
+unfolding ring_of
 pop-laid s first u us l =
-    let (item, q) = pop-takes (ringOf s) first u us (laid-queues s first (u ∷ us) l) in
-    (item, queues-laid s (pop_of (ringOf s)).ring ((first + 1) % (s.sizes.updates + 1)) us l.long (pop-size (ringOf s)) q)
+    let (item, q) = pop-takes (ring_of s) first u us (laid-queues s first (u ∷ us) l) in
+    (item, queues-laid s (pop_of (ring_of s)).ring ((first + 1) % (s.sizes.updates + 1)) us l.long (pop-size (ring_of s)) q)

@@ -1,17 +1,17 @@
 // The steps on the ring in the tables: it is loaded, lent to the step, and the place that the step can change stored.
 ghost use Rattle.std.specs.Prelude.{◌≡◌};
 ghost use Rattle.tables.specs.View.{view, Sized, Left};
-ghost use Rattle.ring.specs.Ring.{cleanupOf, pushOf, pop_of};
-ghost use Rattle.ring_search.specs.Queueing.{queueOf};
-ghost use Rattle.stored_ring.specs.Stored.{ringOf, withRingOf};
+ghost use Rattle.ring.specs.Ring.{cleanup_of, push_of, pop_of};
+ghost use Rattle.ring_search.specs.Queueing.{queue_of};
+ghost use Rattle.stored_ring.specs.Stored.{ring_of, with_ring_of};
 
 use ring::{Item, cleanup};
 
 // Queues the domain with its core map and marks, or gathers the marks where it is queued already; false where there is no room.
 pub fn queue_domain(t: &mut [u64], slot: u64, generation: u64, cores: u64, marks: u64) -> bool
     requires { Sized t.old }
-    ensures { (result ≡ (queueOf (ringOf (view t.old)) slot generation cores marks).ok)
-        × Left t.new (withRingOf (view t.old) (queueOf (ringOf (view t.old)) slot generation cores marks).ring) }
+    ensures { (result ≡ (queue_of (ring_of (view t.old)) slot generation cores marks).ok)
+        × Left t.new (with_ring_of (view t.old) (queue_of (ring_of (view t.old)) slot generation cores marks).ring) }
 {
     let ring = stored_ring::load_ring(t);
     let at = ring_search::place_of(ring, slot, generation);
@@ -23,8 +23,8 @@ pub fn queue_domain(t: &mut [u64], slot: u64, generation: u64, cores: u64, marks
 // Queues start and end for cleanup; false where the ring is full.
 pub fn push_cleanup(t: &mut [u64], start: u64, end: u64) -> bool
     requires { Sized t.old }
-    ensures { (result ≡ (pushOf (ringOf (view t.old)) (cleanupOf start end)).ok)
-        × Left t.new (withRingOf (view t.old) (pushOf (ringOf (view t.old)) (cleanupOf start end)).ring) }
+    ensures { (result ≡ (push_of (ring_of (view t.old)) (cleanup_of start end)).ok)
+        × Left t.new (with_ring_of (view t.old) (push_of (ring_of (view t.old)) (cleanup_of start end)).ring) }
 {
     let ring = stored_ring::load_ring(t);
     let at = ring.write;
@@ -36,8 +36,8 @@ pub fn push_cleanup(t: &mut [u64], start: u64, end: u64) -> bool
 // Pop of an empty ring answers none.
 pub fn pop_update(t: &mut [u64]) -> Item
     requires { Sized t.old }
-    ensures { (result ≡ (pop_of (ringOf (view t.old))).item)
-        × Left t.new (withRingOf (view t.old) (pop_of (ringOf (view t.old))).ring) }
+    ensures { (result ≡ (pop_of (ring_of (view t.old))).item)
+        × Left t.new (with_ring_of (view t.old) (pop_of (ring_of (view t.old))).ring) }
 {
     let ring = stored_ring::load_ring(t);
     let at = ring.read;

@@ -12,5 +12,5 @@ abbrev pub next_of : Cursor → ℕ → ℕ → ℕ → Cursor
 next_of c k start m = record { prev = c.at; at = k; start = start; marks = noted c m }
 
 -- the record at hand is gone
-abbrev pub droppedOf : Cursor → ℕ → ℕ → Cursor
-droppedOf c k m = record { prev = c.prev; at = k; start = c.start; marks = noted c m }
+abbrev pub dropped_of : Cursor → ℕ → ℕ → Cursor
+dropped_of c k m = record { prev = c.prev; at = k; start = c.start; marks = noted c m }

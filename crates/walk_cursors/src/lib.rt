@@ -1,13 +1,13 @@
 // Where a walk over a tracker's records is (region.rs; document 01, **Tracker**), and where it goes on. A link is a record's slot + 1, or 0 for none.
 ghost use Rattle.std.specs.Prelude.{◌≡◌};
 ghost use Rattle.walk_cursors.specs.declared.Progress.TheVariants.{Going};
-ghost use Rattle.walk_cursors.specs.Cursors.{next_of, droppedOf};
+ghost use Rattle.walk_cursors.specs.Cursors.{next_of, dropped_of};
 
 use answers::Answer;
 
 // Where a walk is: the links of the record before and of the record at hand, the address from which the range is still to be
 // done, and the marks of the counts that left or came to 0 so far (`PermissionChange`; document 02, request 4).
-#[derive(Drop)]
+#[derive(Clone, Copy)]
 pub struct Cursor {
     pub prev: u64,
     pub at: u64,
@@ -16,7 +16,7 @@ pub struct Cursor {
 }
 
 // What one turn of a walk comes to.
-#[derive(Drop)]
+#[derive(Clone, Copy)]
 pub enum Progress {
     Going(Cursor),
     Over(Answer),
@@ -36,7 +36,7 @@ pub fn going(c: Cursor, next: u64, start: u64, marks: u64) -> Progress
 
 // The record at hand is gone.
 pub fn dropped(c: Cursor, next: u64, marks: u64) -> Progress
-    ensures { result ≡ Going (droppedOf c next marks) }
+    ensures { result ≡ Going (dropped_of c next marks) }
 {
     Progress::Going(Cursor {
         prev: c.prev,

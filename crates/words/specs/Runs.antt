@@ -61,8 +61,8 @@ pub part_in : (t vs : List ℕ) (o n k : ℕ) → k + length vs ≤ n → part (
 unfolding part
 part_in t vs o n k h = ap (take n) (drop-sets-add vs t o k) ∙ take-sets-lt vs (drop o t) n k h
 
-pub getD-before : (vs t : List ℕ) (j i : ℕ) → j < i → get_or (sets t i vs) j 0 ≡ get_or t j 0
-getD-before vs t j i h =
+pub get_or-before : (vs t : List ℕ) (j i : ℕ) → j < i → get_or (sets t i vs) j 0 ≡ get_or t j 0
+get_or-before vs t j i h =
     sym (get_or-take i (sets t i vs) j 0 h) ∙ ap (λ (x : List ℕ). get_or x j 0) (take-sets-le vs t i i (omega arith)) ∙ get_or-take i t j 0 h
 
 -- all the words of a part are stored: the part is those words

@@ -1,12 +1,12 @@
 // Words of a lent slice. Every function is total: outside the slice nothing is read or written.
 ghost use Rattle.std.specs.Prelude.{◌≡◌, length, get_or, set, replicate};
-ghost use Rattle.base.specs.Tests.{both as bothB};
+ghost use Rattle.base.specs.Tests.{both as both_b};
 ghost use Rattle.words.specs.Runs.{fetched, stored};
 ghost use Rattle.words.specs.Copies.{copied};
 
 // Both tests as one value, with no branch for the caller.
 pub fn both(a: bool, b: bool) -> bool
-    ensures { result ≡ bothB a b }
+    ensures { result ≡ both_b a b }
 {
     if a { b } else { false }
 }

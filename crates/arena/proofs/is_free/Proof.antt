@@ -1,6 +1,6 @@
 -- A free slot has a link.
 use Prim.Native.Nat.{◌-◌}
-use Rattle.arena.specs.Arena.{isFreeB}
+use Rattle.arena.specs.Arena.{is_free_b}
 use borrow.Author.Rules.{rules}
 use Rattle.arena.proofs.is_free.Statement.{statement}
 use Rattle.arena.proofs.is_free.Tie as tie
@@ -9,7 +9,7 @@ link-requires : tie.Need-link-requires
 link-requires c κs = search rules
 
 returns : tie.Need-returns
-unfolding isFreeB
+unfolding is_free_b
 returns c = rw c.link.ensures
 
 pub is-free-spec : {M : Type 1} → statement M

@@ -1,6 +1,6 @@
 -- Each test is what its definition says.
 use Prim.Native.Nat.{◌-◌}
-use Rattle.arena.specs.Arena.{liveB}
+use Rattle.arena.specs.Arena.{live_b}
 use Rattle.arena.specs.Words.{links-many}
 use borrow.Author.Rules.{rules}
 use Rattle.arena.proofs.is_live.Statement.{statement}
@@ -19,7 +19,7 @@ both-requires-2 : tie.Need-both-requires-2
 both-requires-2 c κs = search rules
 
 returns : tie.Need-returns
-unfolding liveB
+unfolding live_b
 returns c = rw (links-many _ _ c.before.before.before.before.before.before.requires) (cc)
 
 pub is-live-spec : {M : Type 1} → statement M

@@ -17,8 +17,8 @@ mul-p c = search rules
 slice-write-p : tie.Need-slice-write-p
 slice-write-p c = search rules
 
-same_length : tie.Need-same-length
-same_length c = search rules
+same_length_lem : tie.Need-same-length
+same_length_lem c = search rules
 
 returns : tie.Need-returns
 returns c = gen-set _ _ c.before.requires _ _ c.if1.true
@@ -28,4 +28,4 @@ returns-2 c = no-gen-set _ _ c.before.requires _ _ c.if1.false
 
 pub set-generation-spec : {M : Type 1} → statement M
 set-generation-spec =
-    tie.close (tie.spec add-p add-p-2 mul-p slice-write-p same_length returns returns-2)
+    tie.close (tie.spec add-p add-p-2 mul-p slice-write-p same_length_lem returns returns-2)

@@ -14,8 +14,8 @@ mul-p c = search rules
 slice-write-p : tie.Need-slice-write-p
 slice-write-p c = search rules
 
-same_length : tie.Need-same-length
-same_length c = search rules
+same_length_lem : tie.Need-same-length
+same_length_lem c = search rules
 
 returns : tie.Need-returns
 returns c = link_set _ _ c.before.requires _ _ c.if1.true
@@ -24,4 +24,4 @@ returns-2 : tie.Need-returns-2
 returns-2 c = no-link-set _ _ c.before.requires _ _ c.if1.false
 
 pub set-link-spec : {M : Type 1} → statement M
-set-link-spec = tie.close (tie.spec add-p mul-p slice-write-p same_length returns returns-2)
+set-link-spec = tie.close (tie.spec add-p mul-p slice-write-p same_length_lem returns returns-2)

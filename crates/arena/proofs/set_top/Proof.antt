@@ -13,11 +13,11 @@ slice-write-p c = search rules
 slice-write-p-2 : tie.Need-slice-write-p-2
 slice-write-p-2 c = simp length-set (omega arith)
 
-same_length : tie.Need-same-length
-same_length c = search rules
+same_length_lem : tie.Need-same-length
+same_length_lem c = search rules
 
 returns : tie.Need-returns
 returns c = top_set _ _ c.requires _ _
 
 pub set-top-spec : {M : Type 1} → statement M
-set-top-spec = tie.close (tie.spec slice-write-p slice-write-p-2 same_length returns)
+set-top-spec = tie.close (tie.spec slice-write-p slice-write-p-2 same_length_lem returns)

@@ -15,8 +15,8 @@ allocate-region-requires c κs = sized-true _ (sym c.before.before.is-sized.ensu
 given-slot-requires : tie.Need-given-slot-requires
 given-slot-requires c κs = search rules
 
-same_length : tie.Need-same-length
-same_length c = search rules
+same_length_lem : tie.Need-same-length
+same_length_lem c = search rules
 
 returns : tie.Need-returns
 returns c = taken _ _ c.before.before.before.before.before.before.is-sized.ensures c.before.before.before.before.before.if1.true _ _ (c.given-slot.ensures ∙ ap given_of c.before.before.before.allocate-region.ensures.0) _ _ c.before.before.before.allocate-region.ensures.1
@@ -34,7 +34,7 @@ bench-allocate-spec =
     is-sized-requires
     allocate-region-requires
     given-slot-requires
-    same_length
+    same_length_lem
     returns
     same-length-2
     returns-2)

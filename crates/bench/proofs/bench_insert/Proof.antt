@@ -1,7 +1,7 @@
 -- The engine's step where the test holds, else nothing.
 use mathlib.Core.Path.{sym, ap, ◌∙◌}
 use Rattle.tables.specs.Tests.{sized-true}
-use Rattle.bench.specs.Steps.{insertedOf, taken, refused}
+use Rattle.bench.specs.Steps.{inserted_of, taken, refused}
 use borrow.Author.Rules.{rules}
 use Rattle.bench.proofs.bench_insert.Statement.{statement}
 use Rattle.bench.proofs.bench_insert.Tie as tie
@@ -15,11 +15,11 @@ insert-capa-requires c κs = sized-true _ (sym c.before.before.is-sized.ensures 
 inserted-requires : tie.Need-inserted-requires
 inserted-requires c κs = search rules
 
-same_length : tie.Need-same-length
-same_length c = search rules
+same_length_lem : tie.Need-same-length
+same_length_lem c = search rules
 
 returns : tie.Need-returns
-returns c = taken _ _ c.before.before.before.before.before.before.is-sized.ensures c.before.before.before.before.before.if1.true _ _ (c.inserted.ensures ∙ ap insertedOf c.before.before.before.insert-capa.ensures.0) _ _ c.before.before.before.insert-capa.ensures.1
+returns c = taken _ _ c.before.before.before.before.before.before.is-sized.ensures c.before.before.before.before.before.if1.true _ _ (c.inserted.ensures ∙ ap inserted_of c.before.before.before.insert-capa.ensures.0) _ _ c.before.before.before.insert-capa.ensures.1
 
 same-length-2 : tie.Need-same-length-2
 same-length-2 c = search rules
@@ -34,7 +34,7 @@ bench-insert-spec =
     is-sized-requires
     insert-capa-requires
     inserted-requires
-    same_length
+    same_length_lem
     returns
     same-length-2
     returns-2)

@@ -15,8 +15,8 @@ total-of-requires c κs = limits-true _ (sym c.before.limits-hold.ensures ∙ c.
 make-empty-requires : tie.Need-make-empty-requires
 make-empty-requires c κs = (limits-true _ (sym c.before.before.before.before.limits-hold.ensures ∙ c.before.before.before.if1.true), c.before.if2.true ∙ c.before.before.total_of.ensures)
 
-same_length : tie.Need-same-length
-same_length c = search rules
+same_length_lem : tie.Need-same-length
+same_length_lem c = search rules
 
 returns : tie.Need-returns
 returns c = now-made _ _ _ c.before.before.before.before.before.before.before.limits-hold.ensures c.before.before.before.before.before.before.if1.true (c.before.before.before.before.if2.true ∙ c.before.before.before.before.before.total_of.ensures) _ c.before.before.make-empty.ensures
@@ -34,7 +34,7 @@ bench-make-spec =
     limits-hold-requires
     total-of-requires
     make-empty-requires
-    same_length
+    same_length_lem
     returns
     returns-2
     returns-3)

@@ -1,7 +1,7 @@
 -- The engine's step where the test holds, else nothing.
 use mathlib.Core.Path.{sym, ap, ◌∙◌}
 use Rattle.tables.specs.Tests.{sized-true}
-use Rattle.bench.specs.Steps.{flagOf, taken, refused}
+use Rattle.bench.specs.Steps.{flag_of, taken, refused}
 use borrow.Author.Rules.{rules}
 use Rattle.bench.proofs.bench_queue.Statement.{statement}
 use Rattle.bench.proofs.bench_queue.Tie as tie
@@ -15,11 +15,11 @@ queue-domain-requires c κs = sized-true _ (sym c.before.before.is-sized.ensures
 flag-requires : tie.Need-flag-requires
 flag-requires c κs = search rules
 
-same_length : tie.Need-same-length
-same_length c = search rules
+same_length_lem : tie.Need-same-length
+same_length_lem c = search rules
 
 returns : tie.Need-returns
-returns c = taken _ _ c.before.before.before.before.before.before.is-sized.ensures c.before.before.before.before.before.if1.true _ _ (c.flag.ensures ∙ ap flagOf c.before.before.before.queue-domain.ensures.0) _ _ c.before.before.before.queue-domain.ensures.1
+returns c = taken _ _ c.before.before.before.before.before.before.is-sized.ensures c.before.before.before.before.before.if1.true _ _ (c.flag.ensures ∙ ap flag_of c.before.before.before.queue-domain.ensures.0) _ _ c.before.before.before.queue-domain.ensures.1
 
 same-length-2 : tie.Need-same-length-2
 same-length-2 c = search rules
@@ -34,7 +34,7 @@ bench-queue-spec =
     is-sized-requires
     queue-domain-requires
     flag-requires
-    same_length
+    same_length_lem
     returns
     same-length-2
     returns-2)

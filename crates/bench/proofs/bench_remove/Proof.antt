@@ -12,8 +12,8 @@ is-sized-requires c κs = search rules
 remove-capa-requires : tie.Need-remove-capa-requires
 remove-capa-requires c κs = sized-true _ (sym c.before.before.is-sized.ensures ∙ c.before.if1.true)
 
-same_length : tie.Need-same-length
-same_length c = search rules
+same_length_lem : tie.Need-same-length
+same_length_lem c = search rules
 
 returns : tie.Need-returns
 returns c = taken _ _ c.before.before.before.before.before.is-sized.ensures c.before.before.before.before.if1.true _ _ (refl) _ _ (c.before.before.remove-capa.ensures)
@@ -27,4 +27,4 @@ returns-2 c = refused _ _ c.before.is-sized.ensures c.if1.false _ _
 pub bench-remove-spec : {M : Type 1} → statement M
 bench-remove-spec =
     tie.close
-    (tie.spec is-sized-requires remove-capa-requires same_length returns same-length-2 returns-2)
+    (tie.spec is-sized-requires remove-capa-requires same_length_lem returns same-length-2 returns-2)

@@ -6,7 +6,7 @@ use native.Mathlib.Omega.{arith}
 use Rattle.base.specs.Tests.{true-is, false-is}
 use Rattle.model.specs.Lists.{if◌then◌else◌}
 use Rattle.model.specs.State.{State, Handle, parent_of}
-use Rattle.book.specs.Book.{Book, Noted, noted, isUnder, mostAbove, dying, killed}
+use Rattle.book.specs.Book.{Book, Noted, noted, is_under, most_above, dying, killed}
 use Rattle.book.specs.Tests.{or_else, lives-below}
 use Rattle.book.specs.Matches.{MatchesAt}
 
@@ -24,19 +24,19 @@ dying-same t i (r ∷ rs) h =
     ∙ ap (λ (l : List Noted). r ∷ l) (dying-same t (suc i) rs (λ j u e. h (suc j) (omega arith) (ap t (let z : i + suc j ≡ suc i + j = omega arith in z) ∙ e)))
 
 module _ (b : Book) (s : State) (at : ℕ → Handle) (place : ℕ → ℕ) (m : MatchesAt b s at place) (k : ℕ) where
-  under-lives : (n j : ℕ) → isUnder b.regions n k j ≡ true → (noted b.regions j).alive ≡ true → (noted b.regions k).alive ≡ true
+  under-lives : (n j : ℕ) → is_under b.regions n k j ≡ true → (noted b.regions j).alive ≡ true → (noted b.regions k).alive ≡ true
   under-lives zero j u l = ap (λ c. (noted b.regions c).alive) (sym (eqb→eq j k (true-is u))) ∙ l
   under-lives (suc n) j u l = go (eqb j k) refl (λ p h a. under-lives n p h a)
     where
-      up : (o : Option ℕ) → parent_of (noted b.regions j).kind ≡ o → elim o [ none ↦ false | some p ↦ isUnder b.regions n k p ] ≡ true → ((p : ℕ) → isUnder b.regions n k p ≡ true → (noted b.regions p).alive ≡ true → (noted b.regions k).alive ≡ true) → (noted b.regions k).alive ≡ true
+      up : (o : Option ℕ) → parent_of (noted b.regions j).kind ≡ o → elim o [ none ↦ false | some p ↦ is_under b.regions n k p ] ≡ true → ((p : ℕ) → is_under b.regions n k p ≡ true → (noted b.regions p).alive ≡ true → (noted b.regions k).alive ≡ true) → (noted b.regions k).alive ≡ true
       up none e h ih = absurd (true-is h)
-      up (some p) e h ih = ih p h (m.regions.parentLives j p (lives-below b.regions j l) l e)
+      up (some p) e h ih = ih p h (m.regions.parent_lives j p (lives-below b.regions j l) l e)
 
-      go : (c : Bool) → eqb j k ≡ c → ((p : ℕ) → isUnder b.regions n k p ≡ true → (noted b.regions p).alive ≡ true → (noted b.regions k).alive ≡ true) → (noted b.regions k).alive ≡ true
+      go : (c : Bool) → eqb j k ≡ c → ((p : ℕ) → is_under b.regions n k p ≡ true → (noted b.regions p).alive ≡ true → (noted b.regions k).alive ≡ true) → (noted b.regions k).alive ≡ true
       go true e ih = ap (λ c. (noted b.regions c).alive) (sym (eqb→eq j k (true-is e))) ∙ l
       go false e ih = up (parent_of (noted b.regions j).kind) refl (or_else (eqb j k) _ u e) ih
 
-  dead-under : (n j : ℕ) → (noted b.regions k).alive ≡ false → isUnder b.regions n k j ≡ true → (noted b.regions j).alive ≡ false
+  dead-under : (n j : ℕ) → (noted b.regions k).alive ≡ false → is_under b.regions n k j ≡ true → (noted b.regions j).alive ≡ false
   dead-under n j d u = go (noted b.regions j).alive refl
     where
       go : (c : Bool) → (noted b.regions j).alive ≡ c → (noted b.regions j).alive ≡ false
@@ -45,4 +45,4 @@ module _ (b : Book) (s : State) (at : ℕ → Handle) (place : ℕ → ℕ) (m :
 
   pub killed-same : (noted b.regions k).alive ≡ false → killed k b ≡ b
   unfolding killed
-  killed-same d = let e = dying-same (isUnder b.regions (mostAbove b.regions) k) 0 b.regions (λ j u h. dead-under (mostAbove b.regions) j d (ap (isUnder b.regions (mostAbove b.regions) k) (let z : j ≡ 0 + j = omega arith in z) ∙ h)) in λ x. record { sizes = b.sizes; regions = e x; lists = b.lists }
+  killed-same d = let e = dying-same (is_under b.regions (most_above b.regions) k) 0 b.regions (λ j u h. dead-under (most_above b.regions) j d (ap (is_under b.regions (most_above b.regions) k) (let z : j ≡ 0 + j = omega arith in z) ∙ h)) in λ x. record { sizes = b.sizes; regions = e x; lists = b.lists }

@@ -1,5 +1,5 @@
 -- Live, older, or wrong.
-use Rattle.capa_claims.specs.CapaClaims.{claimBy}
+use Rattle.capa_claims.specs.CapaClaims.{claim_by}
 use borrow.Author.Rules.{rules}
 use Rattle.capa_claims.proofs.claim_by.Statement.{statement}
 use Rattle.capa_claims.proofs.claim_by.Tie as tie
@@ -18,7 +18,7 @@ select-requires-2 : tie.Need-select-requires-2
 select-requires-2 c κs = search rules
 
 returns : tie.Need-returns
-unfolding claimBy
+unfolding claim_by
 returns c = rw (c.select2.ensures, c.before.select.ensures, c.before.before.before.before.is_live.ensures, c.before.before.before.word.ensures)
 
 pub claim-by-spec : {M : Type 1} → statement M

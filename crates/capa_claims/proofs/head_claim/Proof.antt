@@ -1,5 +1,5 @@
 -- Each value is what its definition says.
-use Rattle.capa_claims.specs.CapaClaims.{headClaim}
+use Rattle.capa_claims.specs.CapaClaims.{head_claim}
 use borrow.Author.Rules.{rules}
 use Rattle.capa_claims.proofs.head_claim.Statement.{statement}
 use Rattle.capa_claims.proofs.head_claim.Tie as tie
@@ -24,7 +24,7 @@ select-requires-2 : tie.Need-select-requires-2
 select-requires-2 c κs = search rules
 
 returns : tie.Need-returns
-unfolding headClaim
+unfolding head_claim
 returns c = rw (c.select2.ensures, c.before.select.ensures, c.before.before.number_of_lem.ensures, c.before.before.before.climb.ensures, c.before.before.before.before.manager-in.ensures, c.before.before.before.before.before.wrong-of.ensures)
 
 pub head-claim-spec : {M : Type 1} → statement M

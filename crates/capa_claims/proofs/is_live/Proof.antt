@@ -1,5 +1,5 @@
 -- In the slice, in use, and of its generation.
-use Rattle.arena.specs.Arena.{liveB}
+use Rattle.arena.specs.Arena.{live_b}
 use borrow.Author.Rules.{rules}
 use Rattle.capa_claims.proofs.is_live.Statement.{statement}
 use Rattle.capa_claims.proofs.is_live.Tie as tie
@@ -17,7 +17,7 @@ both-requires-2 : tie.Need-both-requires-2
 both-requires-2 c κs = search rules
 
 returns : tie.Need-returns
-unfolding liveB
+unfolding live_b
 returns c = rw (c.both2.ensures, c.before.both.ensures, c.before.before.before.before.word.ensures, c.before.before.before.word2.ensures)
 
 pub is-live-spec : {M : Type 1} → statement M

@@ -1,5 +1,5 @@
 -- Each value is what its definition says.
-use Rattle.capa_claims.specs.CapaClaims.{regionClaim}
+use Rattle.capa_claims.specs.CapaClaims.{region_claim}
 use borrow.Author.Rules.{rules}
 use Rattle.capa_claims.proofs.region_claim.Statement.{statement}
 use Rattle.capa_claims.proofs.region_claim.Tie as tie
@@ -24,7 +24,7 @@ claim-by-requires : tie.Need-claim-by-requires
 claim-by-requires c κs = search rules
 
 returns : tie.Need-returns
-unfolding regionClaim
+unfolding region_claim
 returns c = rw (c.claim-by.ensures, c.before.select.ensures, c.before.before.number_of_lem.ensures, c.before.before.before.names.ensures, c.before.before.before.before.region-in.ensures, c.before.before.before.before.before.wrong-of.ensures)
 
 pub region-claim-spec : {M : Type 1} → statement M

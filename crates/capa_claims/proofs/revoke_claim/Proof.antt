@@ -1,5 +1,5 @@
 -- Each value is what its definition says.
-use Rattle.capa_claims.specs.CapaClaims.{revokeClaim}
+use Rattle.capa_claims.specs.CapaClaims.{revoke_claim}
 use borrow.Author.Rules.{rules}
 use Rattle.capa_claims.proofs.revoke_claim.Statement.{statement}
 use Rattle.capa_claims.proofs.revoke_claim.Tie as tie
@@ -18,7 +18,7 @@ claim-by-requires : tie.Need-claim-by-requires
 claim-by-requires c κs = search rules
 
 returns : tie.Need-returns
-unfolding revokeClaim
+unfolding revoke_claim
 returns c = rw (c.claim-by.ensures, c.before.select.ensures, c.before.before.before.region-in.ensures, c.before.before.before.before.wrong-of.ensures)
 
 pub revoke-claim-spec : {M : Type 1} → statement M

@@ -1,5 +1,5 @@
 -- By the kind.
-use Rattle.capa_claims.specs.CapaClaims.{slotClaim}
+use Rattle.capa_claims.specs.CapaClaims.{slot_claim}
 use borrow.Author.Tests.{eq-eqb, ne_eqb}
 use borrow.Author.Rules.{rules}
 use Rattle.capa_claims.proofs.slot_claim.Statement.{statement}
@@ -9,21 +9,21 @@ region-claim-requires : tie.Need-region-claim-requires
 region-claim-requires c κs = search rules
 
 returns : tie.Need-returns
-unfolding slotClaim
+unfolding slot_claim
 returns c = rw (c.region-claim.ensures, eq-eqb _ _ (c.before.if1.true))
 
 revoke-claim-requires : tie.Need-revoke-claim-requires
 revoke-claim-requires c κs = search rules
 
 returns-2 : tie.Need-returns-2
-unfolding slotClaim
+unfolding slot_claim
 returns-2 c = rw (c.revoke-claim.ensures, ne_eqb _ _ (c.before.before.if1.false), eq-eqb _ _ (c.before.if2.true))
 
 management-claim-requires : tie.Need-management-claim-requires
 management-claim-requires c κs = search rules
 
 returns-3 : tie.Need-returns-3
-unfolding slotClaim
+unfolding slot_claim
 returns-3 c = rw (c.management-claim.ensures, ne_eqb _ _ (c.before.before.before.if1.false), ne_eqb _ _ (c.before.before.if2.false), eq-eqb _ _ (c.before.if3.true))
 
 wrong-of-requires : tie.Need-wrong-of-requires
@@ -33,11 +33,11 @@ claim-by-requires : tie.Need-claim-by-requires
 claim-by-requires c κs = search rules
 
 returns-4 : tie.Need-returns-4
-unfolding slotClaim
+unfolding slot_claim
 returns-4 c = rw (c.claim-by.ensures, c.before.wrong-of.ensures, ne_eqb _ _ (c.before.before.before.before.before.if1.false), ne_eqb _ _ (c.before.before.before.before.if2.false), ne_eqb _ _ (c.before.before.before.if3.false), eq-eqb _ _ (c.before.before.if4.true))
 
 returns-5 : tie.Need-returns-5
-unfolding slotClaim
+unfolding slot_claim
 returns-5 c = rw (ne_eqb _ _ (c.before.before.before.if1.false), ne_eqb _ _ (c.before.before.if2.false), ne_eqb _ _ (c.before.if3.false), ne_eqb _ _ (c.if4.false))
 
 pub slot-claim-spec : {M : Type 1} → statement M

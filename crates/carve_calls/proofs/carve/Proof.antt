@@ -10,8 +10,8 @@ use Rattle.carve_calls.proofs.carve.Tie as tie
 check-carve-requires : tie.Need-check-carve-requires
 check-carve-requires c κs = search rules
 
-same_length : tie.Need-same-length
-same_length c = search rules
+same_length_lem : tie.Need-same-length
+same_length_lem c = search rules
 
 returns : tie.Need-returns
 unfolding carved
@@ -60,4 +60,4 @@ unfolding carved
 returns-4 c = rw (← c.before.before.before.before.before.before.before.before.before.before.check-carve.ensures, not-false c.before.before.before.before.before.before.before.before.before.before.check-carve.result c.before.before.before.before.before.before.before.before.before.if1.false) (on-refused _ _ _ _ c.before.before.before.before.before.add-child.ensures _ c.before.r2.given.1)
 
 pub carve_spec : {M : Type 1} → statement M
-carve_spec = tie.close (tie.spec check-carve-requires same_length returns load-region-requires add-child-requires enum-known-n exchange-rights-requires enum-known-v enum-known-r enum-known-r-2 same-length-2 returns-2 same-length-3 returns-3 same-length-4 returns-4)
+carve_spec = tie.close (tie.spec check-carve-requires same_length_lem returns load-region-requires add-child-requires enum-known-n exchange-rights-requires enum-known-v enum-known-r enum-known-r-2 same-length-2 returns-2 same-length-3 returns-3 same-length-4 returns-4)

@@ -1,6 +1,6 @@
 -- The domain, then the bit of its word.
 use Rattle.answers.specs.Then.{on-refused}
-use Rattle.checks.specs.Checks.{callerWith}
+use Rattle.checks.specs.Checks.{caller_with}
 use Rattle.checks.specs.Reads.{ran-domain, caller-live}
 use borrow.Author.Rules.{rules}
 use Rattle.checks.proofs.caller_with.Statement.{statement}
@@ -28,7 +28,7 @@ returns-2 : tie.Need-returns-2
 returns-2 c = rw (caller-live _ _ _ _ _ c.before.before.before.before.before.before.live-domain.ensures c.before.before.before.before.d.given.1, ← c.before.before.load-interface.ensures, ← c.before.has.ensures, c.if1.false)
 
 returns-3 : tie.Need-returns-3
-unfolding callerWith
+unfolding caller_with
 returns-3 c = (on-refused _ _ _ _ (ran-domain _ _ c.before.before.before.before.before.requires _ c.before.before.before.live-domain.ensures) _ c.before.r.given.1).0
 
 pub caller-with-spec : {M : Type 1} → statement M

@@ -1,5 +1,5 @@
 -- By the test.
-use Rattle.checks.specs.Checks.{liveDomain}
+use Rattle.checks.specs.Checks.{live_domain}
 use borrow.Author.Rules.{rules}
 use Rattle.checks.proofs.live_domain.Statement.{statement}
 use Rattle.checks.proofs.live_domain.Tie as tie
@@ -8,11 +8,11 @@ domain-is-live-requires : tie.Need-domain-is-live-requires
 domain-is-live-requires c κs = search rules
 
 returns : tie.Need-returns
-unfolding liveDomain
+unfolding live_domain
 returns c = rw (← c.before.domain-is-live.ensures, c.if1.true)
 
 returns-2 : tie.Need-returns-2
-unfolding liveDomain
+unfolding live_domain
 returns-2 c = rw (← c.before.domain-is-live.ensures, c.if1.false)
 
 pub live-domain-spec : {M : Type 1} → statement M

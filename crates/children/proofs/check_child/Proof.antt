@@ -1,6 +1,6 @@
 -- The tests that are read.
 use mathlib.Core.Path.{◌∙◌}
-use Rattle.children.specs.Children.{checkChild}
+use Rattle.children.specs.Children.{check_child}
 use borrow.Author.Rules.{rules}
 use Rattle.children.proofs.check_child.Statement.{statement}
 use Rattle.children.proofs.check_child.Tie as tie
@@ -18,7 +18,7 @@ both-requires : tie.Need-both-requires
 both-requires c κs = search rules
 
 returns : tie.Need-returns
-unfolding checkChild
+unfolding check_child
 returns c = c.both.ensures ∙ rw (c.before.before.fits2.ensures, c.before.before.before.find.ensures, c.before.before.before.before.load-region.ensures)
 
 pub check-child-spec : {M : Type 1} → statement M

@@ -1,7 +1,7 @@
 -- The search from here finds what the search from the first child finds.
 use mathlib.Core.Path.{◌≡◌, sym, ◌∙◌}
 use Rattle.tables.specs.View.{view}
-use Rattle.children.specs.Children.{findFrom, find}
+use Rattle.children.specs.Children.{find_from, find}
 use Rattle.children.specs.Walks.{place, regions-read, find-out, find_none, find-here, find-on}
 use borrow.Author.Rules.{rules}
 use native.Mathlib.Omega.{arith}
@@ -9,7 +9,7 @@ use Rattle.children.proofs.find.Statement.{statement}
 use Rattle.children.proofs.find.Tie as tie
 
 abbrev invariant-loop : tie.invariant-loop
-invariant-loop t p search prev₀ at₀ left₀ prev at left = findFrom search (view t) left (place prev at) ≡ find search (view t) p
+invariant-loop t p search prev₀ at₀ left₀ prev at left = find_from search (view t) left (place prev at) ≡ find search (view t) p
 
 abbrev decreases-loop : tie.decreases-loop
 decreases-loop t p search prev₀ at₀ left₀ prev at left = left

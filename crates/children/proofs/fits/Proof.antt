@@ -1,6 +1,6 @@
 -- The tests that are read.
 use mathlib.Core.Path.{◌∙◌}
-use Rattle.children.specs.Children.{fitsB}
+use Rattle.children.specs.Children.{fits_b}
 use borrow.Author.Rules.{rules}
 use Rattle.children.proofs.fits.Statement.{statement}
 use Rattle.children.proofs.fits.Tie as tie
@@ -18,7 +18,7 @@ both-requires-2 : tie.Need-both-requires-2
 both-requires-2 c κs = search rules
 
 returns : tie.Need-returns
-unfolding fitsB
+unfolding fits_b
 returns c = c.both2.ensures ∙ rw (c.before.before.before.both.ensures, c.before.allows.ensures, c.before.before.rights-of.ensures)
 
 pub fits-spec : {M : Type 1} → statement M

@@ -3,7 +3,7 @@ use mathlib.Core.Logic.{⊎_elim}
 use mathlib.Core.Path.{◌≡◌, ◌∙◌}
 use mathlib.Core.Bool.{true}
 use lib.Dec.{eqb}
-use Rattle.children.specs.Children.{overlapsB}
+use Rattle.children.specs.Children.{overlaps_b}
 use borrow.Author.Rules.{rules}
 use Rattle.base.specs.Cases.{pick}
 use Rattle.children.proofs.overlaps.Statement.{statement}
@@ -16,7 +16,7 @@ both-requires-2 : tie.Need-both-requires-2
 both-requires-2 c κs = search rules
 
 returns : tie.Need-returns
-unfolding overlapsB
+unfolding overlaps_b
 returns c =
     let e : c.before.before.before.before.before.before.if1.counts ≡ pick c.before.before.before.before.before.before.before.args.o.carves (eqb c.before.before.before.before.before.before.before.args.r.kind 3) true = ⊎_elim (λ w. w.2 ∙ rw w.0.taken) (λ w. w.1 ∙ rw w.0.left) c.before.before.before.before.before.before.if1.branch in
     c.both2.ensures ∙ rw (c.before.both.ensures, e)

@@ -1,5 +1,5 @@
 -- What is read and stored, last to first.
-use Rattle.children.specs.Children.{removeChild}
+use Rattle.children.specs.Children.{remove_child}
 use borrow.Author.Rules.{rules}
 use Rattle.children.proofs.remove_child.Statement.{statement}
 use Rattle.children.proofs.remove_child.Tie as tie
@@ -19,12 +19,12 @@ store-region-requires c κs = search rules
 link-child-requires : tie.Need-link-child-requires
 link-child-requires c κs = search rules
 
-same_length : tie.Need-same-length
-same_length c = search rules
+same_length_lem : tie.Need-same-length
+same_length_lem c = search rules
 
 returns : tie.Need-returns
-unfolding removeChild
+unfolding remove_child
 returns c = rw (c.before.before.before.before.before.before.store-region.ensures.seen, c.before.before.before.before.before.before.before.before.find.ensures, c.before.before.before.before.before.before.before.before.before.link-to.ensures, c.before.before.before.before.before.before.before.before.before.before.before.load-region.ensures) at c.before.before.link-child.ensures
 
 pub remove-child-spec : {M : Type 1} → statement M
-remove-child-spec = tie.close (tie.spec load-region-requires link-to-requires find-requires store-region-requires link-child-requires same_length returns)
+remove-child-spec = tie.close (tie.spec load-region-requires link-to-requires find-requires store-region-requires link-child-requires same_length_lem returns)

@@ -21,8 +21,8 @@ both-requires c κs = search rules
 put-requires : tie.Need-put-requires
 put-requires c κs = search rules
 
-same_length : tie.Need-same-length
-same_length c = search rules
+same_length_lem : tie.Need-same-length
+same_length_lem c = search rules
 
 returns-2 : tie.Need-returns-2
 unfolding takes marked
@@ -31,4 +31,4 @@ returns-2 c = (rw (c.before.before.before.before.both.ensures, c.before.before.b
 pub claim-spec : {M : Type 1} → statement M
 claim-spec =
     tie.close
-    (tie.spec returns sub-i word-requires both-requires put-requires same_length returns-2)
+    (tie.spec returns sub-i word-requires both-requires put-requires same_length_lem returns-2)

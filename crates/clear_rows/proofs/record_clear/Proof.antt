@@ -1,6 +1,6 @@
 -- Every word is 0.
 use mathlib.Core.Path.{◌∙◌}
-use Rattle.clear_rows.specs.Clear.{recordClear}
+use Rattle.clear_rows.specs.Clear.{record_clear}
 use borrow.Author.Rules.{rules}
 use Rattle.clear_rows.proofs.record_clear.Statement.{statement}
 use Rattle.clear_rows.proofs.record_clear.Tie as tie
@@ -30,7 +30,7 @@ both-requires-8 : tie.Need-both-requires-8
 both-requires-8 c κs = search rules
 
 returns : tie.Need-returns
-unfolding recordClear
+unfolding record_clear
 returns c = c.both8.ensures ∙ rw (c.before.before.before.before.before.before.before.before.before.before.both3.ensures, c.before.before.before.before.before.before.before.before.before.before.before.before.before.before.both.ensures, c.before.before.before.before.before.before.before.before.before.before.before.both2.ensures, c.before.both7.ensures, c.before.before.both6.ensures, c.before.before.before.before.before.both5.ensures, c.before.before.before.before.before.before.both4.ensures)
 
 pub record-clear-spec : {M : Type 1} → statement M

@@ -1,6 +1,6 @@
 -- Every word is 0.
 use mathlib.Core.Path.{◌∙◌}
-use Rattle.clear_rows.specs.Clear.{regionClear}
+use Rattle.clear_rows.specs.Clear.{region_clear}
 use borrow.Author.Rules.{rules}
 use Rattle.clear_rows.proofs.region_clear.Statement.{statement}
 use Rattle.clear_rows.proofs.region_clear.Tie as tie
@@ -27,7 +27,7 @@ both-requires-7 : tie.Need-both-requires-7
 both-requires-7 c κs = search rules
 
 returns : tie.Need-returns
-unfolding regionClear
+unfolding region_clear
 returns c = c.both7.ensures ∙ rw (c.before.before.before.before.before.before.before.before.both3.ensures, c.before.before.before.before.before.before.before.before.before.before.before.before.both.ensures, c.before.before.before.before.before.before.before.before.before.both2.ensures, c.before.both6.ensures, c.before.before.before.before.before.both4.ensures, c.before.before.both5.ensures)
 
 pub region-clear-spec : {M : Type 1} → statement M

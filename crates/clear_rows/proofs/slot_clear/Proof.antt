@@ -1,6 +1,6 @@
 -- Every word is 0.
 use mathlib.Core.Path.{◌∙◌}
-use Rattle.clear_rows.specs.Clear.{slotClear}
+use Rattle.clear_rows.specs.Clear.{slot_clear}
 use borrow.Author.Rules.{rules}
 use Rattle.clear_rows.proofs.slot_clear.Statement.{statement}
 use Rattle.clear_rows.proofs.slot_clear.Tie as tie
@@ -12,7 +12,7 @@ both-requires-2 : tie.Need-both-requires-2
 both-requires-2 c κs = search rules
 
 returns : tie.Need-returns
-unfolding slotClear
+unfolding slot_clear
 returns c = c.both2.ensures ∙ rw (c.before.both.ensures)
 
 pub slot-clear-spec : {M : Type 1} → statement M

@@ -6,7 +6,7 @@ use borrow.Author.Rules.{rules}
 use lib.ListN.{length}
 use Rattle.tables.specs.View.{view, Sized}
 use Rattle.answers.specs.Then.{same_step}
-use Rattle.closing.specs.Close.{closeFrom, closeDomain, revokeSlot}
+use Rattle.closing.specs.Close.{close_from, close_domain, revoke_slot}
 use Rattle.closing.specs.Walks.{close-ends, close-on, close-refused, close-out, close-begins, slot-region, slot-revoke, slot-none, slot-closes, slot-dead}
 use borrow.Fn.Kinds.{In}
 use borrow.Fn.PlainCycle.{Measures, is, falls, and}
@@ -52,7 +52,7 @@ revoke-slot-below t =
     and 1 revoke-slot-kinds.ps (falls 1 revoke-slot-kinds.ps ◌<◌ μ-revoke-slot t) revoke-slot.Pre
 
 abbrev close-domain-Inv-loop : close-domain-lts.invariant-loop
-close-domain-Inv-loop t₀ d closing waiting now-closing n j₀ t j = (j ≤ n) × (length t ≡ length t₀) × Sized t × (closeFrom (revokeSlot (waiting - 1) now-closing d) (n - j) d j (view t) ≡ closeDomain waiting closing d (view t₀))
+close-domain-Inv-loop t₀ d closing waiting now-closing n j₀ t j = (j ≤ n) × (length t ≡ length t₀) × Sized t × (close_from (revoke_slot (waiting - 1) now-closing d) (n - j) d j (view t) ≡ close_domain waiting closing d (view t₀))
 
 abbrev close-domain-μ-loop : close-domain-lts.decreases-loop
 close-domain-μ-loop t₀ d closing waiting now-closing n j₀ t j = n - j

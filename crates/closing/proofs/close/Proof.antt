@@ -10,12 +10,12 @@ domain-count-requires c κs = search rules
 close-domain-requires : tie.Need-close-domain-requires
 close-domain-requires c κs = search rules
 
-same_length : tie.Need-same-length
-same_length c = search rules
+same_length_lem : tie.Need-same-length
+same_length_lem c = search rules
 
 returns : tie.Need-returns
 unfolding close
 returns c = rw c.before.before.before.before.domain-count.ensures at c.before.before.close-domain.ensures
 
 pub close_spec : {M : Type 1} → statement M
-close_spec = tie.close (tie.spec domain-count-requires close-domain-requires same_length returns)
+close_spec = tie.close (tie.spec domain-count-requires close-domain-requires same_length_lem returns)

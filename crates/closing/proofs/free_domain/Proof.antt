@@ -1,6 +1,6 @@
 -- By what freeing answers.
 use mathlib.Core.Path.{refl}
-use Rattle.closing.specs.Close.{freedDomain}
+use Rattle.closing.specs.Close.{freed_domain}
 use borrow.Author.Rules.{rules}
 use Rattle.closing.proofs.free_domain.Statement.{statement}
 use Rattle.closing.proofs.free_domain.Tie as tie
@@ -17,26 +17,26 @@ enum-told-2 c = search rules
 enum-told-3 : tie.Need-enum-told-3
 enum-told-3 c = search rules
 
-same_length : tie.Need-same-length
-same_length c = search rules
+same_length_lem : tie.Need-same-length
+same_length_lem c = search rules
 
 returns : tie.Need-returns
-unfolding freedDomain
+unfolding freed_domain
 returns c = rw (← c.before.before.before.before.free-domain.ensures.0, c.enum_told.given.1) (refl, c.before.before.before.before.free-domain.ensures.1)
 
 same-length-2 : tie.Need-same-length-2
 same-length-2 c = search rules
 
 returns-2 : tie.Need-returns-2
-unfolding freedDomain
+unfolding freed_domain
 returns-2 c = rw (← c.before.before.before.before.free-domain.ensures.0, c.enum-told2.given.1) (refl, c.before.before.before.before.free-domain.ensures.1)
 
 same-length-3 : tie.Need-same-length-3
 same-length-3 c = search rules
 
 returns-3 : tie.Need-returns-3
-unfolding freedDomain
+unfolding freed_domain
 returns-3 c = rw (← c.before.before.before.before.free-domain.ensures.0, c.enum-told3.given.1) (refl, c.before.before.before.before.free-domain.ensures.1)
 
 pub free-domain-spec : {M : Type 1} → statement M
-free-domain-spec = tie.close (tie.spec free-domain-requires enum_told enum-told-2 enum-told-3 same_length returns same-length-2 returns-2 same-length-3 returns-3)
+free-domain-spec = tie.close (tie.spec free-domain-requires enum_told enum-told-2 enum-told-3 same_length_lem returns same-length-2 returns-2 same-length-3 returns-3)

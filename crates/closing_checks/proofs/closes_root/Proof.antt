@@ -4,14 +4,14 @@ use mathlib.Core.Path.{◌≡◌}
 use native.Mathlib.Omega.{arith}
 use Rattle.tables.specs.View.{view}
 use Rattle.tables.specs.Header.{regions-seen}
-use Rattle.closing_checks.specs.Closes.{someFrom, rootToCloseB, closesRootB}
+use Rattle.closing_checks.specs.Closes.{some_from, root_to_close_b, closes_root_b}
 use Rattle.closing_checks.specs.Steps.{some-start, some-here, some-on, some-none}
 use borrow.Author.Rules.{rules}
 use Rattle.closing_checks.proofs.closes_root.Statement.{statement}
 use Rattle.closing_checks.proofs.closes_root.Tie as tie
 
 abbrev invariant-loop : tie.invariant-loop
-invariant-loop t d n i₀ i = someFrom (rootToCloseB (view t) d) i (n - i) ≡ closesRootB (view t) d
+invariant-loop t d n i₀ i = some_from (root_to_close_b (view t) d) i (n - i) ≡ closes_root_b (view t) d
 
 abbrev decreases-loop : tie.decreases-loop
 decreases-loop t d n i₀ i = n - i
@@ -20,7 +20,7 @@ size-requires : tie.Need-size-requires invariant-loop decreases-loop
 size-requires c κs = search rules
 
 loop-holds : tie.Need-loop-init invariant-loop decreases-loop
-unfolding closesRootB
+unfolding closes_root_b
 loop-holds c = some-start _ _ _ (regions-seen _ _ c.size.ensures)
 
 root-to-close-requires : tie.Need-root-to-close-requires invariant-loop decreases-loop

@@ -4,14 +4,14 @@ use mathlib.Core.Path.{◌≡◌}
 use native.Mathlib.Omega.{arith}
 use Rattle.tables.specs.View.{view}
 use Rattle.tables.specs.Header.{domains-seen}
-use Rattle.closing_checks.specs.Closes.{someFrom, runningToCloseB, closesRunningB}
+use Rattle.closing_checks.specs.Closes.{some_from, running_to_close_b, closes_running_b}
 use Rattle.closing_checks.specs.Steps.{some-start, some-here, some-on, some-none}
 use borrow.Author.Rules.{rules}
 use Rattle.closing_checks.proofs.closes_running.Statement.{statement}
 use Rattle.closing_checks.proofs.closes_running.Tie as tie
 
 abbrev invariant-loop : tie.invariant-loop
-invariant-loop t d n e₀ e = someFrom (runningToCloseB (view t) d) e (n - e) ≡ closesRunningB (view t) d
+invariant-loop t d n e₀ e = some_from (running_to_close_b (view t) d) e (n - e) ≡ closes_running_b (view t) d
 
 abbrev decreases-loop : tie.decreases-loop
 decreases-loop t d n e₀ e = n - e
@@ -20,7 +20,7 @@ size-requires : tie.Need-size-requires invariant-loop decreases-loop
 size-requires c κs = search rules
 
 loop-holds : tie.Need-loop-init invariant-loop decreases-loop
-unfolding closesRunningB
+unfolding closes_running_b
 loop-holds c = some-start _ _ _ (domains-seen _ _ c.size.ensures)
 
 running-to-close-requires : tie.Need-running-to-close-requires invariant-loop decreases-loop

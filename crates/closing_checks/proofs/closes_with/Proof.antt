@@ -4,13 +4,13 @@ use native.Mathlib.Omega.{arith}
 use borrow.Author.Rules.{rules}
 use Rattle.tables.specs.View.{view}
 use Rattle.tables.specs.Header.{domains-seen}
-use Rattle.closing_checks.specs.Closes.{closesFrom, closesWithB}
+use Rattle.closing_checks.specs.Closes.{closes_from, closes_with_b}
 use Rattle.closing_checks.specs.Steps.{closes-out, closes_here, closes-top, closes-on}
 use Rattle.closing_checks.proofs.closes_with.Statement.{statement}
 use Rattle.closing_checks.proofs.closes_with.Tie as tie
 
 abbrev invariant-loop : tie.invariant-loop
-invariant-loop t d e at₀ left₀ at left = closesFrom (view t) d left at ≡ closesWithB (view t) d e
+invariant-loop t d e at₀ left₀ at left = closes_from (view t) d left at ≡ closes_with_b (view t) d e
 
 abbrev decreases-loop : tie.decreases-loop
 decreases-loop t d e at₀ left₀ at left = left
@@ -19,7 +19,7 @@ size-requires : tie.Need-size-requires invariant-loop decreases-loop
 size-requires c κs = search rules
 
 loop-holds : tie.Need-loop-init invariant-loop decreases-loop
-unfolding closesWithB
+unfolding closes_with_b
 loop-holds c = rw (domains-seen c.before.before.args.t.now _ c.size.ensures)
 
 returns : tie.Need-returns invariant-loop decreases-loop

@@ -1,6 +1,6 @@
 -- By the kind.
 use borrow.Author.Tests.{eq-eqb, ne_eqb}
-use Rattle.closing_checks.specs.Closes.{rootToCloseB}
+use Rattle.closing_checks.specs.Closes.{root_to_close_b}
 use borrow.Author.Rules.{rules}
 use Rattle.closing_checks.proofs.root_to_close.Statement.{statement}
 use Rattle.closing_checks.proofs.root_to_close.Tie as tie
@@ -15,11 +15,11 @@ closes-with-requires : tie.Need-closes-with-requires
 closes-with-requires c κs = search rules
 
 returns : tie.Need-returns
-unfolding rootToCloseB
+unfolding root_to_close_b
 returns c = rw (← c.before.before.before.before.load-region.ensures, eq-eqb _ _ c.before.before.if1.true, ← c.before.slot-to.ensures) c.closes-with.ensures
 
 returns-2 : tie.Need-returns-2
-unfolding rootToCloseB
+unfolding root_to_close_b
 returns-2 c = rw (← c.before.before.load-region.ensures, ne_eqb _ _ c.if1.false)
 
 pub root-to-close-spec : {M : Type 1} → statement M

@@ -12,8 +12,8 @@ store-requires c κs = search rules
 is-sized-requires : tie.Need-is-sized-requires
 is-sized-requires c κs = search rules
 
-same_length : tie.Need-same-length
-same_length c = search rules
+same_length_lem : tie.Need-same-length
+same_length_lem c = search rules
 
 returns : tie.Need-returns
 returns c = (not-sized _ _ _ c.before.before.before.before.before.store.ensures _ c.before.is-sized.ensures c.if1.true, λ e. absurd (true-false e refl))
@@ -45,7 +45,7 @@ build-spec =
     (tie.spec
     store-requires
     is-sized-requires
-    same_length
+    same_length_lem
     returns
     read-sizes-requires
     marks-at-requires

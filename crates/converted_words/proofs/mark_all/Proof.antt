@@ -5,12 +5,12 @@ use native.Mathlib.Omega.{arith}
 use lib.ListN.{length}
 use borrow.Author.Rules.{rules}
 use Rattle.tables.specs.View.{view, Left}
-use Rattle.converted_words.specs.Built.{markedTo, updates-few, marked-none, marked_more, marked-end}
+use Rattle.converted_words.specs.Built.{marked_to, updates-few, marked-none, marked_more, marked-end}
 use Rattle.converted_words.proofs.mark_all.Statement.{statement}
 use Rattle.converted_words.proofs.mark_all.Tie as tie
 
 abbrev invariant-loop : tie.invariant-loop
-invariant-loop v₀ n i₀ v i = (i ≤ n) × Left v (markedTo i (view v₀)) × (length v ≡ length v₀)
+invariant-loop v₀ n i₀ v i = (i ≤ n) × Left v (marked_to i (view v₀)) × (length v ≡ length v₀)
 
 abbrev decreases-loop : tie.decreases-loop
 decreases-loop v₀ n i₀ v i = n - i
@@ -42,8 +42,8 @@ loop-less c = omega arith
 loop-again : tie.Need-loop-preserved invariant-loop decreases-loop
 loop-again c = (omega arith, marked_more _ _ _ _ _ _ c.before.before.before.before.before.before.before.before.loop.invariant.1 c.before.before.before.before.before.load-update.ensures c.before.before.before.marks-beside.ensures c.before.before.store-mark.ensures, c.before.before.store-mark.auto.0 ∙ c.before.before.before.before.before.before.before.before.loop.invariant.2)
 
-same_length : tie.Need-same-length invariant-loop decreases-loop
-same_length c = c.before.loop.invariant.2
+same_length_lem : tie.Need-same-length invariant-loop decreases-loop
+same_length_lem c = c.before.loop.invariant.2
 
 returns : tie.Need-returns invariant-loop decreases-loop
 returns c = marked-end _ _ _ _ _ c.before.before.size.ensures refl c.before.loop.invariant.0 c.loop-test.false c.before.loop.invariant.1
@@ -63,5 +63,5 @@ mark-all-spec =
     add-i
     loop-less
     loop-again
-    same_length
+    same_length_lem
     returns)

@@ -17,8 +17,8 @@ clear-requires c κs = search rules
 clear-requires-2 : tie.Need-clear-requires-2
 clear-requires-2 c κs = search rules
 
-same_length : tie.Need-same-length
-same_length c = search rules
+same_length_lem : tie.Need-same-length
+same_length_lem c = search rules
 
 same-length-2 : tie.Need-same-length-2
 same-length-2 c = search rules
@@ -58,7 +58,7 @@ convert-spec =
     copy-requires
     clear-requires
     clear-requires-2
-    same_length
+    same_length_lem
     same-length-2
     same-length-3
     returns

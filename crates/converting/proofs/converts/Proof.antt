@@ -12,8 +12,8 @@ build-requires c κs = search rules
 admits-requires : tie.Need-admits-requires
 admits-requires c κs = search rules
 
-same_length : tie.Need-same-length
-same_length c = search rules
+same_length_lem : tie.Need-same-length
+same_length_lem c = search rules
 
 same-length-2 : tie.Need-same-length-2
 same-length-2 c = search rules
@@ -36,7 +36,7 @@ converts-spec =
     (tie.spec
     build-requires
     admits-requires
-    same_length
+    same_length_lem
     same-length-2
     returns
     same-length-3

@@ -4,7 +4,7 @@ use Prim.Native.Nat.{ℕ, ◌≤◌}
 use native.Mathlib.Omega.{arith}
 use Rattle.base.specs.Cases.{pick}
 use Rattle.tables.specs.declared.Region.{Region}
-use Rattle.counts.specs.Counts.{crossesB, crossingsOf}
+use Rattle.counts.specs.Counts.{crosses_b, crossings_of}
 use borrow.Author.Rules.{rules}
 use Rattle.counts.proofs.crossings.Statement.{statement}
 use Rattle.counts.proofs.crossings.Tie as tie
@@ -13,11 +13,11 @@ most : (b : Bool) (m : ℕ) → pick b m 0 ≤ m
 most true m = omega arith
 most false m = omega arith
 
-fits : (p q : Region) → crossingsOf p q ≤ 31
-unfolding crossingsOf
+fits : (p q : Region) → crossings_of p q ≤ 31
+unfolding crossings_of
 fits p q =
     omega
-    (arith, most (crossesB p.ref_count q.ref_count) 1, most (crossesB p.read_count q.read_count) 2, most (crossesB p.write_count q.write_count) 4, most (crossesB p.exec_count q.exec_count) 8, most (crossesB p.super_count q.super_count) 16)
+    (arith, most (crosses_b p.ref_count q.ref_count) 1, most (crosses_b p.read_count q.read_count) 2, most (crosses_b p.write_count q.write_count) 4, most (crosses_b p.exec_count q.exec_count) 8, most (crosses_b p.super_count q.super_count) 16)
 
 mark-if-requires : tie.Need-mark-if-requires
 mark-if-requires c κs = search rules
@@ -35,7 +35,7 @@ mark-if-requires-5 : tie.Need-mark-if-requires-5
 mark-if-requires-5 c κs = search rules
 
 returns : tie.Need-returns
-unfolding crossingsOf
+unfolding crossings_of
 returns c = rw (c.before.before.before.before.mark-if.ensures, c.before.before.before.mark-if2.ensures, c.before.before.mark-if3.ensures, c.before.mark-if4.ensures, c.mark-if5.ensures)
 
 add-result : tie.Need-overflow-add-result

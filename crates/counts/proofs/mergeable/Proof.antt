@@ -1,5 +1,5 @@
 -- The seven tests, joined in the order of the code.
-use Rattle.counts.specs.Counts.{mergeableB}
+use Rattle.counts.specs.Counts.{mergeable_b}
 use borrow.Author.Rules.{rules}
 use Rattle.counts.proofs.mergeable.Statement.{statement}
 use Rattle.counts.proofs.mergeable.Tie as tie
@@ -23,7 +23,7 @@ both-requires-6 : tie.Need-both-requires-6
 both-requires-6 c κs = search rules
 
 returns : tie.Need-returns
-unfolding mergeableB
+unfolding mergeable_b
 returns c = rw (c.both6.ensures, c.before.both5.ensures, c.before.before.both4.ensures, c.before.before.before.both3.ensures, c.before.before.before.before.before.before.before.before.both2.ensures, c.before.before.before.before.before.before.before.before.before.before.before.before.before.both.ensures)
 
 pub mergeable-spec : {M : Type 1} → statement M

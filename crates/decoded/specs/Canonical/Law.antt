@@ -8,14 +8,14 @@ use mathlib.Core.List.{List, [], ◌∷◌, map}
 use Rattle.std.proofs.Math.ListN.{get_or}
 use Rattle.base.specs.Cases.{lt, ge, cmp, holds, fails, test}
 use Rattle.base.specs.Lists.{get_d_any}
-use Rattle.model.specs.Lists.{Each, In, countUp}
+use Rattle.model.specs.Lists.{Each, In, count_up}
 use Rattle.model.specs.State as state
-use Rattle.model.specs.Sound.{recordUses}
-use Rattle.tables.specs.Tables.{Tables, noDomain, noRegion, noRecord, noHash, noInterface}
+use Rattle.model.specs.Sound.{record_uses}
+use Rattle.tables.specs.Tables.{Tables, no_domain, no_region, no_record, no_hash, no_interface}
 use Rattle.decoded.specs.Shape.{Shaped}
-use Rattle.decoded.specs.Tables.{domainFor, regionFor, slotHash, slotInterface, recordIn, domainsFor, regionsFor, recordsFor, hashesFor, interfacesFor, tables_of}
+use Rattle.decoded.specs.Tables.{domain_for, region_for, slot_hash, slot_interface, record_in, domains_for, regions_for, records_for, hashes_for, interfaces_for, tables_of}
 use Rattle.decoded.specs.Tracker.Trackers.{record-unused}
-use Rattle.decoded.specs.Decode.Read.{taken, domainRead, regionRead, domainsFrom, regionsFrom, queueFrom, state_of}
+use Rattle.decoded.specs.Decode.Read.{taken, domain_read, region_read, domains_from, regions_from, queue_from, state_of}
 use Rattle.decoded.specs.Decode.Walks.{map-up}
 use Rattle.decoded.specs.Decode.Trackers.{Stored}
 use Rattle.decoded.specs.Canonical.WellFormed.{Canonical, WellFormed, Walked}
@@ -33,71 +33,71 @@ each_at P (x ∷ l) h (suc i) d b = each_at P l h.1 i d (omega arith)
 module _ (v : Tables) (s : Shaped v) (t : WellFormed v) (w : Walked v) where
   -- ---- domains
 
-  domains-kept : domainsFor v.sizes.domains v.sizes.slots (domainsFrom v) ≡ v.domains
-  unfolding domainsFor domainsFrom
-  domains-kept = table_kept v.sizes.domains v.domainPool (domainRead v) (λ i o. domainFor v.sizes.slots o) v.domains noDomain s.domains used (λ i b e. sym (t.outside.domainsFree i b e))
+  domains-kept : domains_for v.sizes.domains v.sizes.slots (domains_from v) ≡ v.domains
+  unfolding domains_for domains_from
+  domains-kept = table_kept v.sizes.domains v.domain_pool (domain_read v) (λ i o. domain_for v.sizes.slots o) v.domains no_domain s.domains used (λ i b e. sym (t.outside.domains_free i b e))
     where
-      used : (i : ℕ) → i < v.sizes.domains → taken v.domainPool i ≡ true → domainFor v.sizes.slots (some (domainRead v i)) ≡ get_or v.domains i noDomain
-      used i b e = domain-kept v.sizes.slots v.sizes.records v.records (get_or v.domains i noDomain) (each_at _ v.domains s.slots i noDomain (omega (arith, s.domains))) (t.outside.domainsUsed i b e) (t.tracked.trackersEnd i b e) (w.outside.slotMarks i b e) (get_or v.interfaces i noInterface)
+      used : (i : ℕ) → i < v.sizes.domains → taken v.domain_pool i ≡ true → domain_for v.sizes.slots (some (domain_read v i)) ≡ get_or v.domains i no_domain
+      used i b e = domain-kept v.sizes.slots v.sizes.records v.records (get_or v.domains i no_domain) (each_at _ v.domains s.slots i no_domain (omega (arith, s.domains))) (t.outside.domains_used i b e) (t.tracked.trackers_end i b e) (w.outside.slot_marks i b e) (get_or v.interfaces i no_interface)
 
-  interfaces-kept : interfacesFor v.sizes.domains (domainsFrom v) ≡ v.interfaces
-  unfolding interfacesFor domainsFrom
+  interfaces-kept : interfaces_for v.sizes.domains (domains_from v) ≡ v.interfaces
+  unfolding interfaces_for domains_from
   interfaces-kept =
-      table_kept v.sizes.domains v.domainPool (domainRead v) (λ i o. slotInterface o) v.interfaces noInterface s.interfaces
-      (λ i b e. interface-kept (get_or v.interfaces i noInterface) (t.outside.interfacesUsed i b e))
-      (λ i b e. sym (t.outside.interfacesFree i b e))
+      table_kept v.sizes.domains v.domain_pool (domain_read v) (λ i o. slot_interface o) v.interfaces no_interface s.interfaces
+      (λ i b e. interface-kept (get_or v.interfaces i no_interface) (t.outside.interfaces_used i b e))
+      (λ i b e. sym (t.outside.interfaces_free i b e))
 
   -- ---- regions
 
-  regions-kept : regionsFor v.sizes.regions (regionsFrom v) ≡ v.regions
-  unfolding regionsFor regionsFrom
-  regions-kept = table_kept v.sizes.regions v.regionPool (regionRead v) (regionFor (regionsFrom v)) v.regions noRegion s.regions used (λ i b e. sym (t.outside.regionsFree i b e))
+  regions-kept : regions_for v.sizes.regions (regions_from v) ≡ v.regions
+  unfolding regions_for regions_from
+  regions-kept = table_kept v.sizes.regions v.region_pool (region_read v) (region_for (regions_from v)) v.regions no_region s.regions used (λ i b e. sym (t.outside.regions_free i b e))
     where
-      used : (i : ℕ) → i < v.sizes.regions → taken v.regionPool i ≡ true → regionFor (regionsFrom v) i (some (regionRead v i)) ≡ get_or v.regions i noRegion
+      used : (i : ℕ) → i < v.sizes.regions → taken v.region_pool i ≡ true → region_for (regions_from v) i (some (region_read v i)) ≡ get_or v.regions i no_region
       used i b e =
-          region-kept v.sizes.regions v.regions (regionsFrom v) i
+          region-kept v.sizes.regions v.regions (regions_from v) i
           (λ p k q.
-          let u = w.outside.parentTaken i p b e k q in
-          next-kept v.sizes.regions v.regions (regionsFrom v) i p (get_or v.hashes p noHash) (table-used v.sizes.regions v.regionPool (regionRead v) p u.0 u.1) (w.outside.childrenEnd p u.0 u.1) (w.outside.listed i p b e k q))
-          (t.outside.regionsUsed i b e) (w.outside.childrenEnd i b e) (get_or v.hashes i noHash)
+          let u = w.outside.parent_taken i p b e k q in
+          next-kept v.sizes.regions v.regions (regions_from v) i p (get_or v.hashes p no_hash) (table-used v.sizes.regions v.region_pool (region_read v) p u.0 u.1) (w.outside.children_end p u.0 u.1) (w.outside.listed i p b e k q))
+          (t.outside.regions_used i b e) (w.outside.children_end i b e) (get_or v.hashes i no_hash)
 
-  hashes-kept : hashesFor v.sizes.regions (regionsFrom v) ≡ v.hashes
-  unfolding hashesFor regionsFrom
+  hashes-kept : hashes_for v.sizes.regions (regions_from v) ≡ v.hashes
+  unfolding hashes_for regions_from
   hashes-kept =
-      table_kept v.sizes.regions v.regionPool (regionRead v) (λ i o. slotHash o) v.hashes noHash s.hashes
-      (λ i b e. hash-kept (get_or v.hashes i noHash) (t.outside.hashesUsed i b e))
-      (λ i b e. sym (t.outside.hashesFree i b e))
+      table_kept v.sizes.regions v.region_pool (region_read v) (λ i o. slot_hash o) v.hashes no_hash s.hashes
+      (λ i b e. hash-kept (get_or v.hashes i no_hash) (t.outside.hashes_used i b e))
+      (λ i b e. sym (t.outside.hashes_free i b e))
 
   -- ---- records
 
-  trackers-stored : (d : ℕ) (x : state.Domain) → In (domainsFrom v) d x → Stored (λ i. get_or v.records i noRecord) x.tracker
-  unfolding domainsFrom
+  trackers-stored : (d : ℕ) (x : state.Domain) → In (domains_from v) d x → Stored (λ i. get_or v.records i no_record) x.tracker
+  unfolding domains_from
   trackers-stored d x e =
-      let u = table-in v.sizes.domains v.domainPool (domainRead v) d x e in
-      subst (λ (y : state.Domain). Stored (λ i. get_or v.records i noRecord) y.tracker) u.2 (walked-stored (λ i. get_or v.records i noRecord) v.sizes.records (get_or v.domains d noDomain).head.tracker (t.tracked.trackersEnd d u.0 u.1))
+      let u = table-in v.sizes.domains v.domain_pool (domain_read v) d x e in
+      subst (λ (y : state.Domain). Stored (λ i. get_or v.records i no_record) y.tracker) u.2 (walked-stored (λ i. get_or v.records i no_record) v.sizes.records (get_or v.domains d no_domain).head.tracker (t.tracked.trackers_end d u.0 u.1))
 
-  record-at : (i : ℕ) → i < v.sizes.records → recordIn (domainsFrom v) i ≡ get_or v.records i noRecord
-  record-at i b = elim (cmp 0 (recordUses (domainsFrom v) i)) [
-    | lt u ↦ record-kept (λ j. get_or v.records j noRecord) (domainsFrom v) trackers-stored i u
-    | ge u ↦ elim (test (taken v.recordPool i)) [
-      | holds e ↦ absurd (omega (arith, w.recordsUsed i b e))
-      | fails e ↦ record-unused (domainsFrom v) i (omega arith) ∙ sym (t.tracked.recordsFree i b e)
+  record-at : (i : ℕ) → i < v.sizes.records → record_in (domains_from v) i ≡ get_or v.records i no_record
+  record-at i b = elim (cmp 0 (record_uses (domains_from v) i)) [
+    | lt u ↦ record-kept (λ j. get_or v.records j no_record) (domains_from v) trackers-stored i u
+    | ge u ↦ elim (test (taken v.record_pool i)) [
+      | holds e ↦ absurd (omega (arith, w.records_used i b e))
+      | fails e ↦ record-unused (domains_from v) i (omega arith) ∙ sym (t.tracked.records_free i b e)
     ]
   ]
 
-  records-kept : recordsFor v.sizes.records (domainsFrom v) ≡ v.records
-  unfolding recordsFor
-  records-kept = ap (λ k. map (recordIn (domainsFrom v)) (countUp 0 k)) (sym s.records) ∙ map-up (recordIn (domainsFrom v)) v.records (λ i b d. record-at i (omega (arith, s.records)) ∙ get_d_any v.records i noRecord d b)
+  records-kept : records_for v.sizes.records (domains_from v) ≡ v.records
+  unfolding records_for
+  records-kept = ap (λ k. map (record_in (domains_from v)) (count_up 0 k)) (sym s.records) ∙ map-up (record_in (domains_from v)) v.records (λ i b d. record-at i (omega (arith, s.records)) ∙ get_d_any v.records i no_record d b)
 
   -- ---- the whole
 
   pub canonical : Canonical v
-  unfolding tables_of state_of queueFrom
+  unfolding tables_of state_of queue_from
   canonical =
-      let dp = pool-kept v.sizes.domains v.domainPool s.domainPool.links t.outside.domainPool w.outside.domainMarks in
-      let rp = pool-kept v.sizes.regions v.regionPool s.regionPool.links t.outside.regionPool w.outside.regionMarks in
-      let tp = pool-kept v.sizes.records v.recordPool s.recordPool.links t.tracked.recordPool t.tracked.recordMarks in
+      let dp = pool-kept v.sizes.domains v.domain_pool s.domain_pool.links t.outside.domain_pool w.outside.domain_marks in
+      let rp = pool-kept v.sizes.regions v.region_pool s.region_pool.links t.outside.region_pool w.outside.region_marks in
+      let tp = pool-kept v.sizes.records v.record_pool s.record_pool.links t.tracked.record_pool t.tracked.record_marks in
       let write = write_kept v.sizes.updates v.read v.write v.ring v.marks s.ring s.marks w.queue.read w.queue.write t.queue.queued t.queue.unqueued in
       let ring = ring-kept v.sizes.updates v.read v.write v.ring v.marks s.ring s.marks w.queue.read w.queue.write t.queue.queued t.queue.unqueued in
       let marks = marks-kept v.sizes.updates v.read v.write v.ring v.marks s.ring s.marks w.queue.read w.queue.write t.queue.queued t.queue.unqueued in
-      λ i. record { sizes = v.sizes; read = v.read; write = write i; domainPool = dp i; regionPool = rp i; recordPool = tp i; domains = domains-kept i; regions = regions-kept i; records = records-kept i; ring = ring i; hashes = hashes-kept i; interfaces = interfaces-kept i; marks = marks i }
+      λ i. record { sizes = v.sizes; read = v.read; write = write i; domain_pool = dp i; region_pool = rp i; record_pool = tp i; domains = domains-kept i; regions = regions-kept i; records = records-kept i; ring = ring i; hashes = hashes-kept i; interfaces = interfaces-kept i; marks = marks i }

@@ -9,16 +9,16 @@ use Rattle.std.proofs.Math.ListN.{length, set, get_elem?, length-append}
 use Rattle.std.proofs.lemmas.List.{length-map}
 use Rattle.base.specs.Cases.{lt, ge, cmp}
 use Rattle.base.specs.Rounds.{wrap-add, along-first, round-again, along-at, along-other, next_last, next-along}
-use Rattle.model.specs.Lists.{is_empty, countUp}
+use Rattle.model.specs.Lists.{is_empty, count_up}
 use Rattle.model.specs.State as state
-use Rattle.model.specs.State.{State, Queue, permission, cleanup, withQueue}
+use Rattle.model.specs.State.{State, Queue, permission, cleanup, with_queue}
 use Rattle.model.specs.Layout.{at_place}
 use Rattle.model.specs.Outcome.{ok, refuse, ◌>>◌, require}
-use Rattle.refusals.specs.Refusals.{ringFull}
+use Rattle.refusals.specs.Refusals.{ring_full}
 use Rattle.model.specs.Updates.{push, gather, pop}
-use Rattle.tables.specs.Tables.{noUpdate, updateAt, markAt, withPlaces, withRing, withMarks, withUpdate, withMark}
-use Rattle.decoded.specs.Rows.{getD-up, same_up, set-up}
-use Rattle.decoded.specs.Tables.{updateFor, placeFor, markFor, ringFor, marksFor, tables_of}
+use Rattle.tables.specs.Tables.{no_update, update_at, mark_at, with_places, with_ring, with_marks, with_update, with_mark}
+use Rattle.decoded.specs.Rows.{get_or-up, same_up, set-up}
+use Rattle.decoded.specs.Tables.{update_for, place_for, mark_for, ring_for, marks_for, tables_of}
 
 -- ---- lists
 
@@ -48,7 +48,7 @@ elem-map g f e (a ∷ l) (suc i) = elem-map g f e l i
 
 -- g is what a place has, by what is queued there: its update, or its mark
 abbrev places : {A : Type 0} → (Option state.Update → A) → ℕ → Queue → List A
-places g n q = map (λ k. g (at_place n q k)) (countUp 0 (n + 1))
+places g n q = map (λ k. g (at_place n q k)) (count_up 0 (n + 1))
 
 module _ (n f : ℕ) (hf : f < n + 1) where
   abbrev queue : List state.Update → Queue
@@ -62,10 +62,10 @@ module _ (n f : ℕ) (hf : f < n + 1) where
       (ap (λ k. g (get_elem? m k)) (along-at (n + 1) f hf j h))
       (λ k ne b. o ((k + (n + 1) - f) % (n + 1)) (along-other (n + 1) f hf j k h b ne)))
 
-  pub marks-set : (l m : List state.Update) (j : ℕ) → j < n + 1 → ((i : ℕ) → i ≢ j → markFor (get_elem? m i) ≡ markFor (get_elem? l i))
-      → marksFor n (record { read_place = f; items = m }) ≡ set (marksFor n (record { read_place = f; items = l })) ((f + j) % (n + 1)) (markFor (get_elem? m j))
-  unfolding marksFor
-  marks-set l m j h o = places-set markFor l m j h o
+  pub marks-set : (l m : List state.Update) (j : ℕ) → j < n + 1 → ((i : ℕ) → i ≢ j → mark_for (get_elem? m i) ≡ mark_for (get_elem? l i))
+      → marks_for n (record { read_place = f; items = m }) ≡ set (marks_for n (record { read_place = f; items = l })) ((f + j) % (n + 1)) (mark_for (get_elem? m j))
+  unfolding marks_for
+  marks-set l m j h o = places-set mark_for l m j h o
 
   places-pushed : {A : Type 0} (g : Option state.Update → A) (l : List state.Update) (u : state.Update) → length l < n + 1
       → places g n (queue (l ++ (u ∷ []))) ≡ set (places g n (queue l)) ((f + length l) % (n + 1)) (g (some u))
@@ -74,14 +74,14 @@ module _ (n f : ℕ) (hf : f < n + 1) where
       ∙ ap (λ o. set (places g n (queue l)) ((f + length l) % (n + 1)) (g o)) (last-at l u)
 
   pub ring-pushed : (l : List state.Update) (u : state.Update) → length l < n + 1
-      → ringFor n (record { read_place = f; items = l ++ (u ∷ []) }) ≡ set (ringFor n (record { read_place = f; items = l })) ((f + length l) % (n + 1)) (updateFor (some u))
-  unfolding ringFor
-  ring-pushed l u h = places-pushed updateFor l u h
+      → ring_for n (record { read_place = f; items = l ++ (u ∷ []) }) ≡ set (ring_for n (record { read_place = f; items = l })) ((f + length l) % (n + 1)) (update_for (some u))
+  unfolding ring_for
+  ring-pushed l u h = places-pushed update_for l u h
 
   pub marks-pushed : (l : List state.Update) (u : state.Update) → length l < n + 1
-      → marksFor n (record { read_place = f; items = l ++ (u ∷ []) }) ≡ set (marksFor n (record { read_place = f; items = l })) ((f + length l) % (n + 1)) (markFor (some u))
-  unfolding marksFor
-  marks-pushed l u h = places-pushed markFor l u h
+      → marks_for n (record { read_place = f; items = l ++ (u ∷ []) }) ≡ set (marks_for n (record { read_place = f; items = l })) ((f + length l) % (n + 1)) (mark_for (some u))
+  unfolding marks_for
+  marks-pushed l u h = places-pushed mark_for l u h
 
   places-popped : {A : Type 0} (g : Option state.Update → A) (l : List state.Update) (u : state.Update) → length (u ∷ l) < n + 1
       → places g n (record { read_place = (f + 1) % (n + 1); items = l }) ≡ set (places g n (queue (u ∷ l))) f (g none)
@@ -91,14 +91,14 @@ module _ (n f : ℕ) (hf : f < n + 1) where
       (λ k ne b. ap (λ i. g (get_elem? (u ∷ l) i)) (sym (next-along (n + 1) f hf k b ne))))
 
   pub ring-popped : (l : List state.Update) (u : state.Update) → length (u ∷ l) < n + 1
-      → ringFor n (record { read_place = (f + 1) % (n + 1); items = l }) ≡ set (ringFor n (record { read_place = f; items = u ∷ l })) f noUpdate
-  unfolding ringFor
-  ring-popped l u h = places-popped updateFor l u h
+      → ring_for n (record { read_place = (f + 1) % (n + 1); items = l }) ≡ set (ring_for n (record { read_place = f; items = u ∷ l })) f no_update
+  unfolding ring_for
+  ring-popped l u h = places-popped update_for l u h
 
   pub marks-popped : (l : List state.Update) (u : state.Update) → length (u ∷ l) < n + 1
-      → marksFor n (record { read_place = (f + 1) % (n + 1); items = l }) ≡ set (marksFor n (record { read_place = f; items = u ∷ l })) f 0
-  unfolding marksFor
-  marks-popped l u h = places-popped markFor l u h
+      → marks_for n (record { read_place = (f + 1) % (n + 1); items = l }) ≡ set (marks_for n (record { read_place = f; items = u ∷ l })) f 0
+  unfolding marks_for
+  marks-popped l u h = places-popped mark_for l u h
 
   -- the two places meet where nothing is queued; the next write place is the read place where the ring is full
   empty-at : (l : List state.Update) → length l < n + 1 → eqb f ((f + length l) % (n + 1)) ≡ is_empty l
@@ -118,13 +118,13 @@ module _ (n f : ℕ) (hf : f < n + 1) where
 -- ---- the whole tables
 
 module _ (s : State) (hf : s.queue.read_place < s.sizes.updates + 1) (fits : length s.queue.items < s.sizes.updates + 1) where
-  pub update-read : (k : ℕ) → k < s.sizes.updates + 1 → updateAt (tables_of s) k ≡ placeFor s.sizes.updates s.queue k
-  unfolding tables_of updateAt ringFor
-  update-read k h = getD-up (placeFor s.sizes.updates s.queue) (s.sizes.updates + 1) k noUpdate h
+  pub update-read : (k : ℕ) → k < s.sizes.updates + 1 → update_at (tables_of s) k ≡ place_for s.sizes.updates s.queue k
+  unfolding tables_of update_at ring_for
+  update-read k h = get_or-up (place_for s.sizes.updates s.queue) (s.sizes.updates + 1) k no_update h
 
-  pub mark-read : (k : ℕ) → k < s.sizes.updates + 1 → markAt (tables_of s) k ≡ markFor (at_place s.sizes.updates s.queue k)
-  unfolding tables_of markAt marksFor
-  mark-read k h = getD-up (λ i. markFor (at_place s.sizes.updates s.queue i)) (s.sizes.updates + 1) k 0 h
+  pub mark-read : (k : ℕ) → k < s.sizes.updates + 1 → mark_at (tables_of s) k ≡ mark_for (at_place s.sizes.updates s.queue k)
+  unfolding tables_of mark_at marks_for
+  mark-read k h = get_or-up (λ i. mark_for (at_place s.sizes.updates s.queue i)) (s.sizes.updates + 1) k 0 h
 
   -- ---- the tests of the places
 
@@ -138,18 +138,18 @@ module _ (s : State) (hf : s.queue.read_place < s.sizes.updates + 1) (fits : len
 
   -- ---- an update joins the queue
 
-  pub push-is : (u : state.Update) → length s.queue.items < s.sizes.updates → push u s ≡ ok (withQueue (record { read_place = s.queue.read_place; items = s.queue.items ++ (u ∷ []) }) s)
+  pub push-is : (u : state.Update) → length s.queue.items < s.sizes.updates → push u s ≡ ok (with_queue (record { read_place = s.queue.read_place; items = s.queue.items ++ (u ∷ []) }) s)
   unfolding push require ◌>>◌
   push-is u h = rw (lt-ltb (length s.queue.items) s.sizes.updates h)
 
-  pub push-refused : (u : state.Update) → s.sizes.updates ≤ length s.queue.items → push u s ≡ refuse ringFull
+  pub push-refused : (u : state.Update) → s.sizes.updates ≤ length s.queue.items → push u s ≡ refuse ring_full
   unfolding push require ◌>>◌
   push-refused u h = rw (le-ltb (length s.queue.items) s.sizes.updates h)
 
   pub push-tables : (u : state.Update)
-      → tables_of (withQueue (record { read_place = s.queue.read_place; items = s.queue.items ++ (u ∷ []) }) s)
-      ≡ withPlaces (withMark (withUpdate (tables_of s) (tables_of s).write (updateFor (some u))) (tables_of s).write (markFor (some u))) (tables_of s).read (((tables_of s).write + 1) % (s.sizes.updates + 1))
-  unfolding tables_of withPlaces withUpdate withRing withMark withMarks
+      → tables_of (with_queue (record { read_place = s.queue.read_place; items = s.queue.items ++ (u ∷ []) }) s)
+      ≡ with_places (with_mark (with_update (tables_of s) (tables_of s).write (update_for (some u))) (tables_of s).write (mark_for (some u))) (tables_of s).read (((tables_of s).write + 1) % (s.sizes.updates + 1))
+  unfolding tables_of with_places with_update with_ring with_mark with_marks
   push-tables u =
       let n = s.sizes.updates in
       let f = s.queue.read_place in
@@ -158,30 +158,30 @@ module _ (s : State) (hf : s.queue.read_place < s.sizes.updates + 1) (fits : len
       let m = marks-pushed n f hf l u fits in
       let e : f + length (l ++ (u ∷ [])) ≡ f + length l + 1 = omega (arith, length-append l (u ∷ [])) in
       let w : (f + length (l ++ (u ∷ []))) % (n + 1) ≡ ((f + length l) % (n + 1) + 1) % (n + 1) = ap (λ (x : ℕ). x % (n + 1)) e ∙ sym (wrap-add (n + 1) (f + length l) 1 (omega arith)) in
-      λ i. withPlaces (withMarks (withRing (tables_of s) (r i)) (m i)) f (w i)
+      λ i. with_places (with_marks (with_ring (tables_of s) (r i)) (m i)) f (w i)
 
   -- ---- updates that stay gather marks
 
   -- each is changed, but for its marks it is the same
-  pub marked-tables : (g : state.Update → state.Update) → ((u : state.Update) → updateFor (some (g u)) ≡ updateFor (some u))
-      → tables_of (withQueue (record { read_place = s.queue.read_place; items = map g s.queue.items }) s)
-      ≡ withMarks (tables_of s) (marksFor s.sizes.updates (record { read_place = s.queue.read_place; items = map g s.queue.items }))
-  unfolding tables_of withPlaces withRing withMarks ringFor
+  pub marked-tables : (g : state.Update → state.Update) → ((u : state.Update) → update_for (some (g u)) ≡ update_for (some u))
+      → tables_of (with_queue (record { read_place = s.queue.read_place; items = map g s.queue.items }) s)
+      ≡ with_marks (tables_of s) (marks_for s.sizes.updates (record { read_place = s.queue.read_place; items = map g s.queue.items }))
+  unfolding tables_of with_places with_ring with_marks ring_for
   marked-tables g e =
       let n = s.sizes.updates in
       let f = s.queue.read_place in
       let l = s.queue.items in
       let q : Queue = record { read_place = f; items = map g l } in
-      let r = same_up (placeFor n q) (placeFor n s.queue) (n + 1) (λ k b. elem-map updateFor g e l ((k + (n + 1) - f) % (n + 1))) in
+      let r = same_up (place_for n q) (place_for n s.queue) (n + 1) (λ k b. elem-map update_for g e l ((k + (n + 1) - f) % (n + 1))) in
       let w : (f + length (map g l)) % (n + 1) ≡ (f + length l) % (n + 1) = ap (λ (x : ℕ). (f + x) % (n + 1)) (length-map l g) in
-      λ i. withPlaces (withMarks (withRing (tables_of s) (r i)) (marksFor n q)) f (w i)
+      λ i. with_places (with_marks (with_ring (tables_of s) (r i)) (marks_for n q)) f (w i)
 
   pub gather-tables : (h : state.Handle) (m : ℕ)
-      → tables_of (withQueue (record { read_place = s.queue.read_place; items = map (gather h m) s.queue.items }) s)
-      ≡ withMarks (tables_of s) (marksFor s.sizes.updates (record { read_place = s.queue.read_place; items = map (gather h m) s.queue.items }))
+      → tables_of (with_queue (record { read_place = s.queue.read_place; items = map (gather h m) s.queue.items }) s)
+      ≡ with_marks (tables_of s) (marks_for s.sizes.updates (record { read_place = s.queue.read_place; items = map (gather h m) s.queue.items }))
   gather-tables h m = marked-tables (gather h m) same
     where
-      same : (u : state.Update) → updateFor (some (gather h m u)) ≡ updateFor (some u)
+      same : (u : state.Update) → update_for (some (gather h m u)) ≡ update_for (some u)
       same (permission k c x) = refl
       same (cleanup a b) = refl
 
@@ -192,32 +192,32 @@ module _ (s : State) (hf : s.queue.read_place < s.sizes.updates + 1) (fits : len
   pop-none e = rw e
 
   module _ (u : state.Update) (us : List state.Update) (e : s.queue.items ≡ u ∷ us) where
-    pub pop-is : pop s ≡ (some u, withQueue (record { read_place = (s.queue.read_place + 1) % (s.sizes.updates + 1); items = us }) s)
+    pub pop-is : pop s ≡ (some u, with_queue (record { read_place = (s.queue.read_place + 1) % (s.sizes.updates + 1); items = us }) s)
     unfolding pop
     pop-is = rw e
 
-    pub pop-read : updateAt (tables_of s) (tables_of s).read ≡ updateFor (some u)
+    pub pop-read : update_at (tables_of s) (tables_of s).read ≡ update_for (some u)
     unfolding tables_of
     pop-read =
         update-read s.queue.read_place hf
-        ∙ ap (λ k. updateFor (get_elem? s.queue.items k)) (along-first (s.sizes.updates + 1) s.queue.read_place hf)
-        ∙ ap (λ l. updateFor (get_elem? l 0)) e
+        ∙ ap (λ k. update_for (get_elem? s.queue.items k)) (along-first (s.sizes.updates + 1) s.queue.read_place hf)
+        ∙ ap (λ l. update_for (get_elem? l 0)) e
 
-    pub pop-mark : markAt (tables_of s) (tables_of s).read ≡ markFor (some u)
+    pub pop-mark : mark_at (tables_of s) (tables_of s).read ≡ mark_for (some u)
     unfolding tables_of
     pop-mark =
         mark-read s.queue.read_place hf
-        ∙ ap (λ k. markFor (get_elem? s.queue.items k)) (along-first (s.sizes.updates + 1) s.queue.read_place hf)
-        ∙ ap (λ l. markFor (get_elem? l 0)) e
+        ∙ ap (λ k. mark_for (get_elem? s.queue.items k)) (along-first (s.sizes.updates + 1) s.queue.read_place hf)
+        ∙ ap (λ l. mark_for (get_elem? l 0)) e
 
-    pub pop-tables : tables_of (withQueue (record { read_place = (s.queue.read_place + 1) % (s.sizes.updates + 1); items = us }) s)
-        ≡ withPlaces (withMark (withUpdate (tables_of s) (tables_of s).read noUpdate) (tables_of s).read 0) (((tables_of s).read + 1) % (s.sizes.updates + 1)) (tables_of s).write
-    unfolding tables_of withPlaces withUpdate withRing withMark withMarks
+    pub pop-tables : tables_of (with_queue (record { read_place = (s.queue.read_place + 1) % (s.sizes.updates + 1); items = us }) s)
+        ≡ with_places (with_mark (with_update (tables_of s) (tables_of s).read no_update) (tables_of s).read 0) (((tables_of s).read + 1) % (s.sizes.updates + 1)) (tables_of s).write
+    unfolding tables_of with_places with_update with_ring with_mark with_marks
     pop-tables =
         let n = s.sizes.updates in
         let f = s.queue.read_place in
         let short : length (u ∷ us) < n + 1 = omega (arith, fits, ap length e) in
-        let r = ring-popped n f hf us u short ∙ ap (λ l. set (ringFor n (record { read_place = f; items = l })) f noUpdate) (sym e) in
-        let m = marks-popped n f hf us u short ∙ ap (λ l. set (marksFor n (record { read_place = f; items = l })) f 0) (sym e) in
+        let r = ring-popped n f hf us u short ∙ ap (λ l. set (ring_for n (record { read_place = f; items = l })) f no_update) (sym e) in
+        let m = marks-popped n f hf us u short ∙ ap (λ l. set (marks_for n (record { read_place = f; items = l })) f 0) (sym e) in
         let w : ((f + 1) % (n + 1) + length us) % (n + 1) ≡ (f + length s.queue.items) % (n + 1) = wrap-add (n + 1) (f + 1) (length us) (omega arith) ∙ ap (λ (x : ℕ). x % (n + 1)) (omega (arith, ap length e)) in
-        λ i. withPlaces (withMarks (withRing (tables_of s) (r i)) (m i)) ((f + 1) % (n + 1)) (w i)
+        λ i. with_places (with_marks (with_ring (tables_of s) (r i)) (m i)) ((f + 1) % (n + 1)) (w i)

@@ -27,8 +27,8 @@ enum-known-r c = search rules
 enum-known-r-2 : tie.Need-enum-known-r-2
 enum-known-r-2 c = search rules
 
-same_length : tie.Need-same-length
-same_length c = search rules
+same_length_lem : tie.Need-same-length
+same_length_lem c = search rules
 
 returns : tie.Need-returns
 unfolding managed
@@ -49,4 +49,4 @@ unfolding managed
 returns-3 c = on-refused _ _ _ _ c.before.before.before.before.before.reserve.ensures _ c.before.r2.given.1
 
 pub manage-spec : {M : Type 1} → statement M
-manage-spec = tie.close (tie.spec reserve-requires enum-known-v domain-generation-requires insert-requires enum-known-l enum-known-r enum-known-r-2 same_length returns same-length-2 returns-2 same-length-3 returns-3)
+manage-spec = tie.close (tie.spec reserve-requires enum-known-v domain-generation-requires insert-requires enum-known-l enum-known-r enum-known-r-2 same_length_lem returns same-length-2 returns-2 same-length-3 returns-3)

@@ -30,8 +30,8 @@ enum-known-r c = search rules
 enum-known-r-2 : tie.Need-enum-known-r-2
 enum-known-r-2 c = search rules
 
-same_length : tie.Need-same-length
-same_length c = search rules
+same_length_lem : tie.Need-same-length
+same_length_lem c = search rules
 
 returns : tie.Need-returns
 returns c = rw open-under-is (on-done _ _ _ _ (ran-domain _ _ c.before.before.before.before.before.before.before.before.before.before.before.before.before.before.before.before.before.before.requires _ c.before.before.before.before.before.before.before.before.before.before.before.before.before.before.before.live-domain.ensures) _ _ _ c.before.before.before.before.before.before.before.before.before.before.before.before.before.m.given.1 (on-done _ _ _ _ (rw c.before.before.before.before.before.before.before.before.before.before.link-to.ensures at c.before.before.before.before.before.before.before.before.before.new-domain.ensures) _ _ _ c.before.before.before.before.before.i.given.1 c.before.before.manage.ensures))
@@ -49,4 +49,4 @@ returns-3 : tie.Need-returns-3
 returns-3 c = rw open-under-is (on-refused _ _ _ _ (ran-domain _ _ c.before.before.before.before.before.before.requires _ c.before.before.before.live-domain.ensures) _ c.before.r2.given.1)
 
 pub open-under-spec : {M : Type 1} → statement M
-open-under-spec = tie.close (tie.spec live-domain-requires enum-known-m link-to-requires new-domain-requires enum-known-i manage-requires enum-known-r enum-known-r-2 same_length returns same-length-2 returns-2 same-length-3 returns-3)
+open-under-spec = tie.close (tie.spec live-domain-requires enum-known-m link-to-requires new-domain-requires enum-known-i manage-requires enum-known-r enum-known-r-2 same_length_lem returns same-length-2 returns-2 same-length-3 returns-3)

@@ -32,8 +32,8 @@ part-clear-end c = omega (arith, domain-inside _ c.before.before.before.before.b
 clear-requires : tie.Need-clear-requires
 clear-requires c κs = search rules
 
-same_length : tie.Need-same-length
-same_length c = search rules
+same_length_lem : tie.Need-same-length
+same_length_lem c = search rules
 
 returns : tie.Need-returns
 returns c = domain-cleared _ c.before.before.before.before.before.before.before.before.before.before.before.before.requires _ _ _ _ c.before.before.before.before.before.before.before.before.before.read-sizes.ensures c.before.before.before.before.before.before.before.before.domain-width.ensures _ c.before.before.before.before.before.before.if1.true c.before.before.before.before.domain-at.ensures c.before.before.clear.ensures
@@ -57,7 +57,7 @@ clear-domain-spec =
     part-clear-start
     part-clear-end
     clear-requires
-    same_length
+    same_length_lem
     returns
     same-length-2
     returns-2)

@@ -1,6 +1,6 @@
 -- A place in domain i, or the end of the words.
 use Rattle.tables.specs.Domains.{domain-place-low, slot-place, no-slot-place}
-use Rattle.sizes.specs.Sizes.{sizesOf}
+use Rattle.sizes.specs.Sizes.{sizes_of}
 use borrow.Author.Rules.{rules}
 use native.Mathlib.Omega.{arith}
 use Rattle.domain_rows.proofs.slot_at.Statement.{statement}
@@ -13,15 +13,15 @@ domain-at-requires : tie.Need-domain-at-requires
 domain-at-requires c κs = search rules
 
 mul-result : tie.Need-overflow-mul-result
-unfolding sizesOf
+unfolding sizes_of
 mul-result c = omega (arith, c.before.before.size.ensures, c.before.before.before.before.requires.limits.slots-high)
 
 add-result : tie.Need-overflow-add-result
-unfolding sizesOf
+unfolding sizes_of
 add-result c = omega (arith, c.before.before.size.ensures, c.before.before.before.before.requires.limits.slots-high)
 
 add-result-2 : tie.Need-overflow-add-result-2
-unfolding sizesOf
+unfolding sizes_of
 add-result-2 c = omega (arith, c.before.before.size.ensures, c.before.before.before.before.requires.limits.slots-high, c.domain-at.ensures, domain-place-low c.before.before.before.before.args.t.now c.before.before.before.before.args.i c.before.before.before.before.requires)
 
 returns : tie.Need-returns

@@ -12,8 +12,8 @@ clear-requires c κs = search rules
 is-sound-requires : tie.Need-is-sound-requires
 is-sound-requires c κs = (c.before.if1.true, zeroed-clear c.before.before.before.before.before.before.before.before.args.w.now _ (c.before.before.before.before.clear.ensures))
 
-same_length : tie.Need-same-length
-same_length c = search rules
+same_length_lem : tie.Need-same-length
+same_length_lem c = search rules
 
 returns : tie.Need-returns
 returns c = (c.before.before.is-sound.ensures.0 ∙ admits-same _ _ (sym (zeroed-long c.before.before.before.before.before.before.before.before.before.before.before.args.w.now) ∙ sym (ap length (c.before.before.before.before.before.before.before.clear.ensures)) ∙ c.before.before.before.before.if1.true), c.before.before.is-sound.ensures.1 ∙ c.before.before.before.before.before.before.before.clear.ensures)
@@ -27,4 +27,4 @@ returns-2 c = (admits-other _ _ (λ e. c.if1.false (ap length (c.before.before.b
 pub admits-spec : {M : Type 1} → statement M
 admits-spec =
     tie.close
-    (tie.spec clear-requires is-sound-requires same_length returns same-length-2 returns-2)
+    (tie.spec clear-requires is-sound-requires same_length_lem returns same-length-2 returns-2)

@@ -11,8 +11,8 @@ admits-requires c κs = search rules
 copy-requires : tie.Need-copy-requires
 copy-requires c κs = search rules
 
-same_length : tie.Need-same-length
-same_length c = search rules
+same_length_lem : tie.Need-same-length
+same_length_lem c = search rules
 
 returns : tie.Need-returns
 returns c = (sym (c.before.before.before.before.if1.true) ∙ c.before.before.before.before.before.before.before.admits.ensures.0, c.before.before.copy.ensures ∙ rw (c.before.before.before.before.before.before.before.admits.ensures.1) (begun _ _ (sym (c.before.before.before.before.before.before.before.admits.ensures.0) ∙ c.before.before.before.before.if1.true)))
@@ -25,4 +25,4 @@ returns-2 c = (sym (c.if1.false) ∙ c.before.before.before.admits.ensures.0, c.
 
 pub begin-spec : {M : Type 1} → statement M
 begin-spec =
-    tie.close (tie.spec admits-requires copy-requires same_length returns same-length-2 returns-2)
+    tie.close (tie.spec admits-requires copy-requires same_length_lem returns same-length-2 returns-2)

@@ -22,8 +22,8 @@ clear-requires-2 c κs = search rules
 refused-requires : tie.Need-refused-requires
 refused-requires c κs = search rules
 
-same_length : tie.Need-same-length
-same_length c = search rules
+same_length_lem : tie.Need-same-length
+same_length_lem c = search rules
 
 returns : tie.Need-returns
 returns c = rw (c.before.before.before.before.before.a.given.1) (refl, refl, c.before.before.clear.ensures)
@@ -47,7 +47,7 @@ finish_spec =
     copy-requires
     clear-requires-2
     refused-requires
-    same_length
+    same_length_lem
     returns
     same-length-2
     same-length-3

@@ -2,7 +2,7 @@
 use Prim.Native.Nat.{◌-◌}
 use Rattle.free_list.specs.Steps.{count_room, allocate-some, allocate-none}
 use Rattle.arena.specs.Words.{links-many}
-use Rattle.tables.specs.View.{arenaOf}
+use Rattle.tables.specs.View.{arena_of}
 use borrow.Author.Rules.{rules}
 use native.Mathlib.Omega.{arith}
 use Rattle.free_list.proofs.allocate.Statement.{statement}
@@ -27,17 +27,17 @@ sub-set-top : tie.Need-overflow-sub-set-top
 sub-set-top c = search rules
 
 add-set-top : tie.Need-overflow-add-set-top
-unfolding arenaOf
-add-set-top c = let s = c.before.before.before.before.before.before.before.before.before.before.before.before.before.before.before in omega (arith, c.before.before.before.before.before.before.before.word2.ensures, count_room (arenaOf s.args.n s.args.p.now) (rw (← c.before.before.before.before.before.before.before.before.before.before.before.before.head-link.ensures) c.before.before.before.before.before.before.before.before.before.before.before.if1.true), links-many s.args.n s.args.p.now s.requires)
+unfolding arena_of
+add-set-top c = let s = c.before.before.before.before.before.before.before.before.before.before.before.before.before.before.before in omega (arith, c.before.before.before.before.before.before.before.word2.ensures, count_room (arena_of s.args.n s.args.p.now) (rw (← c.before.before.before.before.before.before.before.before.before.before.before.before.head-link.ensures) c.before.before.before.before.before.before.before.before.before.before.before.if1.true), links-many s.args.n s.args.p.now s.requires)
 
 set-top-requires : tie.Need-set-top-requires
 set-top-requires c κs = search rules
 
-same_length : tie.Need-same-length
-same_length c = search rules
+same_length_lem : tie.Need-same-length
+same_length_lem c = search rules
 
 returns : tie.Need-returns
-unfolding arenaOf
+unfolding arena_of
 returns c = allocate-some _ _ _ _ _ _ _ c.before.before.before.before.before.before.before.before.before.before.before.before.before.before.before.head-link.ensures c.before.before.before.before.before.before.before.before.before.before.before.before.before.before.if1.true c.before.before.before.before.before.before.before.before.before.before.before.before.word.ensures c.before.before.before.before.before.before.before.before.before.before.word2.ensures c.before.before.before.before.before.before.before.before.generation.ensures c.before.before.before.before.before.before.set_link.ensures c.before.before.set-top.ensures
 
 same-length-2 : tie.Need-same-length-2
@@ -58,7 +58,7 @@ allocate_spec =
     sub-set-top
     add-set-top
     set-top-requires
-    same_length
+    same_length_lem
     returns
     same-length-2
     returns-2)

@@ -2,7 +2,7 @@
 use Prim.Native.Nat.{◌-◌}
 use Rattle.free_list.specs.Steps.{held-facts, free-done, free-spent, free-not}
 use Rattle.arena.specs.Words.{links-many}
-use Rattle.tables.specs.View.{arenaOf}
+use Rattle.tables.specs.View.{arena_of}
 use borrow.Author.Rules.{rules}
 use native.Mathlib.Omega.{arith}
 use Rattle.free_list.proofs.free.Statement.{statement}
@@ -21,7 +21,7 @@ word-requires-2 : tie.Need-word-requires-2
 word-requires-2 c κs = search rules
 
 add-set-link : tie.Need-overflow-add-set-link
-unfolding arenaOf
+unfolding arena_of
 add-set-link c = let s = c.before.before.before.before.before.before.before.before.before.before.before.before in omega (arith, c.before.before.before.word.ensures, held-facts _ _ _ c.before.before.before.before.before.before.before.before.before.is_held_lem.ensures c.before.before.before.before.before.before.before.before.if1.true, links-many s.args.n s.args.p.now s.requires)
 
 set-link-requires : tie.Need-set-link-requires
@@ -34,17 +34,17 @@ set-generation-requires : tie.Need-set-generation-requires
 set-generation-requires c κs = search rules
 
 sub-set-top : tie.Need-overflow-sub-set-top
-unfolding arenaOf
+unfolding arena_of
 sub-set-top c = omega (arith, c.before.before.before.before.before.before.before.before.before.word2.ensures, held-facts _ _ _ c.before.before.before.before.before.before.before.before.before.before.before.before.before.before.before.before.before.is_held_lem.ensures c.before.before.before.before.before.before.before.before.before.before.before.before.before.before.before.before.if1.true)
 
 set-top-requires : tie.Need-set-top-requires
 set-top-requires c κs = search rules
 
-same_length : tie.Need-same-length
-same_length c = search rules
+same_length_lem : tie.Need-same-length
+same_length_lem c = search rules
 
 returns : tie.Need-returns
-unfolding arenaOf
+unfolding arena_of
 returns c = free-done _ _ _ _ _ _ _ _ _ c.before.before.before.before.before.before.before.before.before.before.before.before.before.before.before.before.before.before.before.before.is_held_lem.ensures c.before.before.before.before.before.before.before.before.before.before.before.before.before.before.before.before.before.before.before.if1.true c.before.before.before.before.before.before.before.before.before.before.before.before.before.before.before.before.before.generation.ensures c.before.before.before.before.before.before.before.before.before.before.before.before.before.before.before.before.if2.true c.before.before.before.before.before.before.before.before.before.before.before.before.before.before.word.ensures c.before.before.before.before.before.before.before.before.before.before.before.before.word2.ensures c.before.before.before.before.before.before.before.before.before.before.set_link.ensures c.before.before.before.before.before.before.set-generation.ensures c.before.before.set-top.ensures
 
 same-length-2 : tie.Need-same-length-2
@@ -73,7 +73,7 @@ free_spec =
     set-generation-requires
     sub-set-top
     set-top-requires
-    same_length
+    same_length_lem
     returns
     same-length-2
     returns-2

@@ -2,7 +2,7 @@
 use Prim.Native.Nat.{◌-◌}
 use Rattle.free_list.specs.Steps.{head-link-is, no-head-link}
 use Rattle.arena.specs.Words.{links-many}
-use Rattle.tables.specs.View.{arenaOf}
+use Rattle.tables.specs.View.{arena_of}
 use borrow.Author.Rules.{rules}
 use Rattle.free_list.proofs.head_link.Statement.{statement}
 use Rattle.free_list.proofs.head_link.Tie as tie
@@ -17,11 +17,11 @@ link-requires : tie.Need-link-requires
 link-requires c κs = search rules
 
 returns : tie.Need-returns
-unfolding arenaOf
+unfolding arena_of
 returns c = head-link-is _ _ _ _ _ (links-many _ _ c.before.before.before.before.before.requires) c.before.size2.ensures c.before.before.before.size.ensures c.before.before.if1.true c.link.ensures
 
 returns-2 : tie.Need-returns-2
-unfolding arenaOf
+unfolding arena_of
 returns-2 c = no-head-link _ _ _ (links-many _ _ c.before.before.before.requires) c.before.size.ensures c.if1.false
 
 pub head-link-spec : {M : Type 1} → statement M

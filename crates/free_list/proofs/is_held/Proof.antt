@@ -1,8 +1,8 @@
 -- Each test is what its definition says.
 use Prim.Native.Nat.{◌-◌}
-use Rattle.arena.specs.Arena.{heldB}
+use Rattle.arena.specs.Arena.{held_b}
 use Rattle.arena.specs.Words.{links-many}
-use Rattle.tables.specs.View.{arenaOf}
+use Rattle.tables.specs.View.{arena_of}
 use borrow.Author.Rules.{rules}
 use Rattle.free_list.proofs.is_held.Statement.{statement}
 use Rattle.free_list.proofs.is_held.Tie as tie
@@ -26,7 +26,7 @@ both-requires-3 : tie.Need-both-requires-3
 both-requires-3 c κs = search rules
 
 returns : tie.Need-returns
-unfolding heldB arenaOf
+unfolding held_b arena_of
 returns c = rw (links-many _ _ c.before.before.before.before.before.before.before.requires) (cc)
 
 pub is-held-spec : {M : Type 1} → statement M

@@ -1,5 +1,5 @@
 -- The raised record is stored.
-use Rattle.gain_turns.specs.Turns.{raiseTurn}
+use Rattle.gain_turns.specs.Turns.{raise_turn}
 use borrow.Author.Rules.{rules}
 use mathlib.Core.Path.{◌∙◌}
 use Rattle.gain_turns.proofs.raise.Statement.{statement}
@@ -20,11 +20,11 @@ crossings-requires c κs = search rules
 going-requires : tie.Need-going-requires
 going-requires c κs = search rules
 
-same_length : tie.Need-same-length
-same_length c = search rules
+same_length_lem : tie.Need-same-length
+same_length_lem c = search rules
 
 returns : tie.Need-returns
-unfolding raiseTurn
+unfolding raise_turn
 returns c = (c.going.ensures ∙ rw (c.before.crossings.ensures, c.before.before.before.before.before.before.before.increase.ensures), rw (c.before.before.before.before.before.before.before.increase.ensures, c.before.before.before.before.before.slot-to.ensures) at c.before.before.before.before.store-record.ensures)
 
 pub raise-spec : {M : Type 1} → statement M
@@ -36,5 +36,5 @@ raise-spec =
     store-record-requires
     crossings-requires
     going-requires
-    same_length
+    same_length_lem
     returns)

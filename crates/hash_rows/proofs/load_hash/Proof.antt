@@ -1,6 +1,6 @@
 -- The words fetched are those of the hash, or none.
 use Rattle.tables.specs.Accessors.{hash-loaded}
-use Rattle.tables.specs.View.{hashOf}
+use Rattle.tables.specs.View.{hash_of}
 use Rattle.words.specs.Runs.{none-fetched}
 use borrow.Author.Rules.{rules}
 use mathlib.Core.Path.{sym, ap, ◌∙◌}
@@ -23,7 +23,7 @@ returns : tie.Need-returns
 returns c = c.hash-of.ensures ∙ hash-loaded _ c.before.before.before.before.before.requires _ _ _ c.before.before.before.hash_at.ensures c.before.before.run.ensures
 
 returns-2 : tie.Need-returns-2
-returns-2 c = c.no-hash.ensures ∙ ap hashOf (sym (none-fetched _ _ 5 _ c.before.before.run.ensures c.before.if1.false)) ∙ hash-loaded _ c.before.before.before.before.before.requires _ _ _ c.before.before.before.hash_at.ensures c.before.before.run.ensures
+returns-2 c = c.no-hash.ensures ∙ ap hash_of (sym (none-fetched _ _ 5 _ c.before.before.run.ensures c.before.if1.false)) ∙ hash-loaded _ c.before.before.before.before.before.requires _ _ _ c.before.before.before.hash_at.ensures c.before.before.run.ensures
 
 pub load-hash-spec : {M : Type 1} → statement M
 load-hash-spec =

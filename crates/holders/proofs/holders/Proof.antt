@@ -2,7 +2,7 @@
 use Prim.Native.Nat.{◌+◌, ◌≤◌}
 use Rattle.holders.proofs.Filling.{Filling, filling-start, filling-end, filling-one, filling-other, holders-start}
 use Rattle.tables.specs.View.{view}
-use Rattle.sizes.specs.Sizes.{sizesOf}
+use Rattle.sizes.specs.Sizes.{sizes_of}
 use borrow.Author.Rules.{rules}
 use lib.ListN.{length, length-set}
 use mathlib.Core.Logic.{⊎_elim}
@@ -30,11 +30,11 @@ put-requires : tie.Need-put-requires invariant-loop decreases-loop
 put-requires c κs = search rules
 
 add-n : tie.Need-overflow-add-n invariant-loop decreases-loop
-unfolding sizesOf
+unfolding sizes_of
 add-n c = omega (arith, c.before.before.before.before.before.before.before.before.size.ensures, c.before.before.before.before.before.before.before.before.before.before.before.requires.limits.domains-high)
 
 add-d : tie.Need-overflow-add-d invariant-loop decreases-loop
-unfolding sizesOf
+unfolding sizes_of
 add-d c = omega (arith, c.before.before.before.before.size.ensures, c.before.before.before.before.before.before.before.requires.limits.domains-high)
 
 sub-left : tie.Need-overflow-sub-left invariant-loop decreases-loop
@@ -49,11 +49,11 @@ loop-again c = ⊎_elim
     (λ w. rw (w.1, w.2) (omega arith, omega arith, c.before.before.before.loop.invariant.2, filling-other _ _ _ _ _ _ _ _ c.before.before.loop-test.true c.before.before.before.loop.invariant.3 (sym c.before.is-holder.ensures ∙ w.0.left)))
     c.if1.branch
 
-same_length : tie.Need-same-length invariant-loop decreases-loop
-same_length c = c.before.loop.invariant.2
+same_length_lem : tie.Need-same-length invariant-loop decreases-loop
+same_length_lem c = c.before.loop.invariant.2
 
 returns : tie.Need-returns invariant-loop decreases-loop
 returns c = rw (← (holders-start c.before.before.before.before.before.args.t.now c.before.before.before.before.before.args.a c.before.before.size.result c.before.before.size.ensures)) (filling-end _ _ _ _ _ _ _ _ c.loop-test.false c.before.loop.invariant.3)
 
 pub holders-spec : {M : Type 1} → statement M
-holders-spec = tie.close (tie.spec invariant-loop decreases-loop size-requires loop-holds is-holder-requires put-requires add-n add-d sub-left loop-less loop-again same_length returns)
+holders-spec = tie.close (tie.spec invariant-loop decreases-loop size-requires loop-holds is-holder-requires put-requires add-n add-d sub-left loop-less loop-again same_length_lem returns)

@@ -1,5 +1,5 @@
 -- Both tests.
-use Rattle.holders.specs.Holders.{isHolder}
+use Rattle.holders.specs.Holders.{is_holder}
 use borrow.Author.Rules.{rules}
 use Rattle.holders.proofs.is_holder.Statement.{statement}
 use Rattle.holders.proofs.is_holder.Tie as tie
@@ -14,7 +14,7 @@ both-requires : tie.Need-both-requires
 both-requires c κs = search rules
 
 returns : tie.Need-returns
-unfolding isHolder
+unfolding is_holder
 returns c = rw (c.both.ensures, c.before.before.domain-is-free.ensures, c.before.largest-reach.ensures)
 
 pub is-holder-spec : {M : Type 1} → statement M

@@ -35,8 +35,8 @@ loop-less c = search rules
 loop-again : tie.Need-loop-preserved invariant-loop decreases-loop
 loop-again c = (search rules, search rules, move-more c.before.before.before.args.b.now c.before.before.loop.b c.before.before.before.args.at c.before.before.loop.i (omega (arith, c.before.before.loop.invariant.1, c.before.before.before.requires, c.before.loop-test.true)) c.before.before.loop.invariant.2 c.before.before.loop.invariant.3, move-rest c.before.before.before.args.b.now c.before.before.loop.b c.before.before.before.args.at c.before.before.loop.i (omega (arith, c.before.before.loop.invariant.1, c.before.before.before.requires, c.before.loop-test.true)) c.before.before.loop.invariant.3)
 
-same_length : tie.Need-same-length invariant-loop decreases-loop
-same_length c = search rules
+same_length_lem : tie.Need-same-length invariant-loop decreases-loop
+same_length_lem c = search rules
 
 returns : tie.Need-returns invariant-loop decreases-loop
 returns c = λ k u. c.before.loop.invariant.2 k (omega (arith, c.loop-test.false))
@@ -54,5 +54,5 @@ move_down_spec =
     add-i
     loop-less
     loop-again
-    same_length
+    same_length_lem
     returns)

@@ -23,8 +23,8 @@ read-requires c κs = search rules
 answered-requires : tie.Need-answered-requires
 answered-requires c κs = (search rules, moved-behind c.before.before.before.before.before.before.args.b.now c.before.before.before.before.before.before.args.h.end _ c.before.before.before.read.result _ (to_z-of_z w64 c.before.before.before.read.result (record { sfits = c.before.before.before.read.type-inv })) c.before.before.b.given.1 c.before.before.before.read.ensures)
 
-same_length : tie.Need-same-length
-same_length c = search rules
+same_length_lem : tie.Need-same-length
+same_length_lem c = search rules
 
 returns : tie.Need-returns
 returns c = read-once c.before.before.before.before.before.before.before.args.h c.before.before.before.before.before.before.before.args.b.now _ c.before.before.before.before.before.before.before.requires _ _ c.answered.ensures (moved-behind c.before.before.before.before.before.before.before.args.b.now c.before.before.before.before.before.before.before.args.h.end _ c.before.before.before.before.read.result _ (to_z-of_z w64 c.before.before.before.before.read.result (record { sfits = c.before.before.before.before.read.type-inv })) refl c.before.before.before.before.read.ensures)
@@ -38,5 +38,5 @@ read-behind-spec =
     part-read-end
     read-requires
     answered-requires
-    same_length
+    same_length_lem
     returns)

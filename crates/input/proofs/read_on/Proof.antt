@@ -19,8 +19,8 @@ loop-holds c = search rules
 sub-if1 : tie.Need-overflow-sub-if1 invariant-loop decreases-loop
 sub-if1 c = search rules
 
-same_length : tie.Need-same-length invariant-loop decreases-loop
-same_length c = search rules
+same_length_lem : tie.Need-same-length invariant-loop decreases-loop
+same_length_lem c = search rules
 
 returns : tie.Need-returns invariant-loop decreases-loop
 returns c = search rules
@@ -48,7 +48,7 @@ read-on-spec =
     decreases-loop
     loop-holds
     sub-if1
-    same_length
+    same_length_lem
     returns
     read-behind-requires
     loop-less

@@ -20,8 +20,8 @@ move-down-requires c κs = search rules
 read-on-requires : tie.Need-read-on-requires
 read-on-requires c κs = search rules
 
-same_length : tie.Need-same-length
-same_length c = search rules
+same_length_lem : tie.Need-same-length
+same_length_lem c = search rules
 
 returns-3 : tie.Need-returns-3
 returns-3 c = (search rules, (keeps_then _ _ _ _ _ _ (keeps-moved c.before.before.before.before.before.before.before.before.before.before.before.before.before.args.h _ _ c.before.before.before.before.before.before.move_down.ensures) c.before.before.read-on.ensures.1.0, c.before.before.read-on.ensures.1.1))
@@ -29,4 +29,4 @@ returns-3 c = (search rules, (keeps_then _ _ _ _ _ _ (keeps-moved c.before.befor
 pub ready-spec : {M : Type 1} → statement M
 ready-spec =
     tie.close
-    (tie.spec sub-n returns returns-2 move-down-requires read-on-requires same_length returns-3)
+    (tie.spec sub-n returns returns-2 move-down-requires read-on-requires same_length_lem returns-3)

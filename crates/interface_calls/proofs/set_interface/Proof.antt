@@ -3,7 +3,7 @@ use mathlib.Core.Path.{refl}
 use borrow.Author.Tests.{eq-eqb, ne_eqb}
 use Rattle.answers.specs.Then.{stays, on-done, on-refused}
 use Rattle.checks.specs.Reads.{ran-domain}
-use Rattle.interface_calls.specs.Calls.{setInterface}
+use Rattle.interface_calls.specs.Calls.{set_interface}
 use borrow.Author.Rules.{rules}
 use Rattle.interface_calls.proofs.set_interface.Statement.{statement}
 use Rattle.interface_calls.proofs.set_interface.Tie as tie
@@ -20,11 +20,11 @@ load-interface-requires c κs = search rules
 store-interface-requires : tie.Need-store-interface-requires
 store-interface-requires c κs = search rules
 
-same_length : tie.Need-same-length
-same_length c = search rules
+same_length_lem : tie.Need-same-length
+same_length_lem c = search rules
 
 returns : tie.Need-returns
-unfolding setInterface
+unfolding set_interface
 returns c = on-done _ _ _ _ (ran-domain _ _ c.before.before.before.before.before.before.before.before.before.before.before.before.before.before.requires _ c.before.before.before.before.before.before.before.before.before.before.before.live-domain.ensures) _ _ _ c.before.before.before.before.before.before.before.before.before.d.given.1 (rw (← c.before.before.before.before.before.before.load-interface.ensures, eq-eqb _ _ c.before.before.before.before.if1.true) (refl, c.before.before.store-interface.ensures))
 
 enum-known-r : tie.Need-enum-known-r
@@ -34,14 +34,14 @@ same-length-2 : tie.Need-same-length-2
 same-length-2 c = search rules
 
 returns-2 : tie.Need-returns-2
-unfolding setInterface
+unfolding set_interface
 returns-2 c = on-done _ _ _ _ (ran-domain _ _ c.before.before.before.before.before.before.before.before.before.before.requires _ c.before.before.before.before.before.before.before.live-domain.ensures) _ _ _ c.before.before.before.before.before.d.given.1 (rw (← c.before.before.load-interface.ensures, ne_eqb _ _ c.if1.false) (refl, stays _ c.before.before.before.before.before.before.before.before.before.before.requires))
 
 same-length-3 : tie.Need-same-length-3
 same-length-3 c = search rules
 
 returns-3 : tie.Need-returns-3
-unfolding setInterface
+unfolding set_interface
 returns-3 c = on-refused _ _ _ _ (ran-domain _ _ c.before.before.before.before.before.before.requires _ c.before.before.before.live-domain.ensures) _ c.before.r.given.1
 
 pub set-interface-spec : {M : Type 1} → statement M
@@ -52,7 +52,7 @@ set-interface-spec =
     enum-known-d
     load-interface-requires
     store-interface-requires
-    same_length
+    same_length_lem
     returns
     enum-known-r
     same-length-2

@@ -5,12 +5,12 @@ use Rattle.std.proofs.Common.{sym, ap, ◌∙◌, arith, get_or-set_same}
 use Rattle.std.proofs.Math.Path.{subst}
 use Prim.Native.Nat.{ℕ, ◌+◌}
 use Rattle.std.proofs.Math.Option.{Option, none, some}
-use Rattle.model.specs.Lists.{oneIf, is_empty, countIf, In, if◌then◌else◌}
+use Rattle.model.specs.Lists.{one_if, is_empty, count_if, In, if◌then◌else◌}
 use Rattle.model.specs.Outcome.{ok, ◌>>=◌}
-use Rattle.model.specs.State.{Handle, Capa, noCapa, LocalList, Domain, Region, State, domainAt, putDomain, withLocals}
-use Rattle.model.specs.Pool.{handle_of, isLive}
-use Rattle.model.specs.Locals.{freeLocal, freeInvalidCapas, hasCapacity, insertLocal, insertCapa, removeCapa, emptyCapa}
-use Rattle.model.specs.Sound.{ListSound, RevokeFit, HandleFit, isRegionOf, isManagementOf}
+use Rattle.model.specs.State.{Handle, Capa, no_capa, LocalList, Domain, Region, State, domain_at, put_domain, with_locals}
+use Rattle.model.specs.Pool.{handle_of, is_live}
+use Rattle.model.specs.Locals.{free_local, free_invalid_capas, has_capacity, insert_local, insert_capa, remove_capa, empty_capa}
+use Rattle.model.specs.Sound.{ListSound, RevokeFit, HandleFit, is_region_of, is_management_of}
 use Rattle.laws.specs.Accepted.{All, accepted, bind, checked}
 use Rattle.laws.specs.Tree.Slots.{in-length}
 use Rattle.laws.specs.Capas.List.{written, count-written, free-keeps, write_keeps, Put, insert-keeps, Swept, swept-self, sweep}
@@ -22,17 +22,17 @@ use Rattle.laws.specs.Tree.Steps.{domain-at}
 -- ---- the list of domain x in slot d is l from now on
 
 abbrev pub relist : ℕ → Domain → LocalList → State → State
-relist d x l s = putDomain d (withLocals l x) s
+relist d x l s = put_domain d (with_locals l x) s
 
 module _ (s : State) (d : ℕ) (x : Domain) (e : In s.domains d x) (l : LocalList) where
-  pub relist-in : In (relist d x l s).domains d (withLocals l x)
-  relist-in = get_or-set_same s.domains d (some (withLocals l x)) none (in-length s.domains d x e)
+  pub relist-in : In (relist d x l s).domains d (with_locals l x)
+  relist-in = get_or-set_same s.domains d (some (with_locals l x)) none (in-length s.domains d x e)
 
-  pub relist-live : (h : Handle) → T (isLive s.domainPool s.domains h) → T (isLive s.domainPool (relist d x l s).domains h)
-  relist-live = live_on s d x (withLocals l x) e refl
+  pub relist-live : (h : Handle) → T (is_live s.domain_pool s.domains h) → T (is_live s.domain_pool (relist d x l s).domains h)
+  relist-live = live_on s d x (with_locals l x) e refl
 
   pub relist-others : OthersSound s → OthersSound (relist d x l s)
-  relist-others h = put-others s d x (withLocals l x) e refl refl h
+  relist-others h = put-others s d x (with_locals l x) e refl refl h
 
 -- Domain x in slot d has its list, which was swept if it was full, with a free slot.
 pub record Room (s : State) (d : ℕ) (x : Domain) (t : State) : Type 0 where
@@ -47,43 +47,43 @@ pub record Inserted (s : State) (d : ℕ) (x : Domain) (c : Capa) (i : ℕ) (t :
   pub is : t ≡ relist d x list s
   pub put : Put c x.locals i list
 
-swept-if : (s : State) (l : LocalList) (b : Bool) → Swept s l (if b then freeInvalidCapas s l else l)
+swept-if : (s : State) (l : LocalList) (b : Bool) → Swept s l (if b then free_invalid_capas s l else l)
 swept-if s l true = sweep s l
 swept-if s l false = swept-self s l
 
-capacity-go : (s : State) (d : ℕ) → All (Room s d (domainAt s d)) (hasCapacity d s)
-unfolding hasCapacity
-capacity-go s d = checked _ _ (λ t. accepted (record { list = _; is = refl; swept = swept-if s (domainAt s d).locals (is_empty (domainAt s d).locals.free); free = t }))
+capacity-go : (s : State) (d : ℕ) → All (Room s d (domain_at s d)) (has_capacity d s)
+unfolding has_capacity
+capacity-go s d = checked _ _ (λ t. accepted (record { list = _; is = refl; swept = swept-if s (domain_at s d).locals (is_empty (domain_at s d).locals.free); free = t }))
 
-pub capacity : (s : State) (d : ℕ) (x : Domain) → In s.domains d x → All (Room s d x) (hasCapacity d s)
-capacity s d x e = subst (λ (y : Domain). All (Room s d y) (hasCapacity d s)) (domain-at s d x e) (capacity-go s d)
+pub capacity : (s : State) (d : ℕ) (x : Domain) → In s.domains d x → All (Room s d x) (has_capacity d s)
+capacity s d x e = subst (λ (y : Domain). All (Room s d y) (has_capacity d s)) (domain-at s d x e) (capacity-go s d)
 
 -- ---- shares before and after capability c is put into list d; read backwards, it is taken out
 
 pub record Plus (s : State) (d : ℕ) (c : Capa) (own man own' man' : Shares) : Type 0 where
-  pub regions : (i : ℕ) (g : Region) → In s.regions i g → own' i d ≡ own i d + oneIf (isRegionOf (handle_of s.regionPool i) (some c))
-  pub domains : (k : ℕ) (z : Domain) → In s.domains k z → man' k d ≡ man k d + oneIf (isManagementOf (handle_of s.domainPool k) (some c))
-  pub ownElse : (i k : ℕ) → k ≢ d → own' i k ≡ own i k
-  pub manElse : (i k : ℕ) → k ≢ d → man' i k ≡ man i k
+  pub regions : (i : ℕ) (g : Region) → In s.regions i g → own' i d ≡ own i d + one_if (is_region_of (handle_of s.region_pool i) (some c))
+  pub domains : (k : ℕ) (z : Domain) → In s.domains k z → man' k d ≡ man k d + one_if (is_management_of (handle_of s.domain_pool k) (some c))
+  pub own_else : (i k : ℕ) → k ≢ d → own' i k ≡ own i k
+  pub man_else : (i k : ℕ) → k ≢ d → man' i k ≡ man i k
 
 module _ (own man : Shares) (s : State) (h : Held own man s) (d : ℕ) (x : Domain) (e : In s.domains d x) where
   -- the list as Sound has it
   abbrev Fits : LocalList → Type 0
-  Fits l = ListSound s.sizes.slots s.regionPool s.regions s.domainPool s.domains l
+  Fits l = ListSound s.sizes.slots s.region_pool s.regions s.domain_pool s.domains l
 
   -- the list is l from now on, and the slots in it are counted anew
   relist-held : (own' man' : Shares) (l : LocalList) → Fits l
-      → ((i : ℕ) (g : Region) → In s.regions i g → countIf (isRegionOf (handle_of s.regionPool i)) l.held ≡ own' i d)
-      → ((k : ℕ) (z : Domain) → In s.domains k z → countIf (isManagementOf (handle_of s.domainPool k)) l.held ≡ man' k d)
+      → ((i : ℕ) (g : Region) → In s.regions i g → count_if (is_region_of (handle_of s.region_pool i)) l.held ≡ own' i d)
+      → ((k : ℕ) (z : Domain) → In s.domains k z → count_if (is_management_of (handle_of s.domain_pool k)) l.held ≡ man' k d)
       → ((i k : ℕ) → k ≢ d → own i k ≡ own' i k) → ((i k : ℕ) → k ≢ d → man i k ≡ man' i k) → Held own' man' (relist d x l s)
-  relist-held own' man' l f a b o m = put-held s d x (withLocals l x) e refl own man own' man' h (h.coresWords d x e) (h.interfaceWords d x e) f a b o m
+  relist-held own' man' l f a b o m = put-held s d x (with_locals l x) e refl own man own' man' h (h.cores_words d x e) (h.interface_words d x e) f a b o m
 
   -- ---- the sweep
 
   sweep-held : (l : LocalList) → Swept s x.locals l → Held own man (relist d x l s)
   sweep-held l w = relist-held own man l (w.keeps _ _ _ _ _ (h.lists d x e))
-      (λ i g f. w.counts (isRegionOf (handle_of s.regionPool i)) refl (no-region s (handle_of s.regionPool i) (handle-live s.regionPool s.regions i g f)) ∙ h.regionSlots i g f d x e)
-      (λ k z f. w.counts (isManagementOf (handle_of s.domainPool k)) refl (no-management s (handle_of s.domainPool k) (handle-live s.domainPool s.domains k z f)) ∙ h.managementSlots k z f d x e)
+      (λ i g f. w.counts (is_region_of (handle_of s.region_pool i)) refl (no-region s (handle_of s.region_pool i) (handle-live s.region_pool s.regions i g f)) ∙ h.region_slots i g f d x e)
+      (λ k z f. w.counts (is_management_of (handle_of s.domain_pool k)) refl (no-management s (handle_of s.domain_pool k) (handle-live s.domain_pool s.domains k z f)) ∙ h.management_slots k z f d x e)
       (λ i k o. refl) (λ i k o. refl)
 
   pub room-held : (t : State) → Room s d x t → Held own man t
@@ -94,27 +94,27 @@ module _ (own man : Shares) (s : State) (h : Held own man s) (d : ℕ) (x : Doma
   module _ (own' man' : Shares) where
     put_in : (c : Capa) (i : ℕ) (l : LocalList) → Plus s d c own man own' man' → Fits l → Put c x.locals i l → Held own' man' (relist d x l s)
     put_in c i l p f t = relist-held own' man' l f
-        (λ j g u. omega (arith, t.counts (isRegionOf (handle_of s.regionPool j)) refl, h.regionSlots j g u d x e, p.regions j g u))
-        (λ k z u. omega (arith, t.counts (isManagementOf (handle_of s.domainPool k)) refl, h.managementSlots k z u d x e, p.domains k z u))
-        (λ j k o. sym (p.ownElse j k o)) (λ j k o. sym (p.manElse j k o))
+        (λ j g u. omega (arith, t.counts (is_region_of (handle_of s.region_pool j)) refl, h.region_slots j g u d x e, p.regions j g u))
+        (λ k z u. omega (arith, t.counts (is_management_of (handle_of s.domain_pool k)) refl, h.management_slots k z u d x e, p.domains k z u))
+        (λ j k o. sym (p.own_else j k o)) (λ j k o. sym (p.man_else j k o))
 
     -- slot i, which held c, is written so that no region's and no domain's capability is in it
-    take_out : (c : Capa) (i : ℕ) (y : Option Capa) (fs : List ℕ) → In x.locals.held i c → ((k : Handle) → isRegionOf k y ≡ false) → ((k : Handle) → isManagementOf k y ≡ false) → Plus s d c own' man' own man → Fits (written i y fs x.locals) → Held own' man' (relist d x (written i y fs x.locals) s)
-    take_out c i y fs u a b p f = relist-held own' man' (written i y fs x.locals) f
-        (λ j g v. omega (arith, count-written (isRegionOf (handle_of s.regionPool j)) x.locals.held i c y u, ap oneIf (a (handle_of s.regionPool j)), h.regionSlots j g v d x e, p.regions j g v))
-        (λ k z v. omega (arith, count-written (isManagementOf (handle_of s.domainPool k)) x.locals.held i c y u, ap oneIf (b (handle_of s.domainPool k)), h.managementSlots k z v d x e, p.domains k z v))
-        p.ownElse p.manElse
+    take_out_lem : (c : Capa) (i : ℕ) (y : Option Capa) (fs : List ℕ) → In x.locals.held i c → ((k : Handle) → is_region_of k y ≡ false) → ((k : Handle) → is_management_of k y ≡ false) → Plus s d c own' man' own man → Fits (written i y fs x.locals) → Held own' man' (relist d x (written i y fs x.locals) s)
+    take_out_lem c i y fs u a b p f = relist-held own' man' (written i y fs x.locals) f
+        (λ j g v. omega (arith, count-written (is_region_of (handle_of s.region_pool j)) x.locals.held i c y u, ap one_if (a (handle_of s.region_pool j)), h.region_slots j g v d x e, p.regions j g v))
+        (λ k z v. omega (arith, count-written (is_management_of (handle_of s.domain_pool k)) x.locals.held i c y u, ap one_if (b (handle_of s.domain_pool k)), h.management_slots k z v d x e, p.domains k z v))
+        p.own_else p.man_else
 
-    pub remove-held : (c : Capa) (i : ℕ) → In x.locals.held i c → Plus s d c own' man' own man → Held own' man' (removeCapa d i s)
-    unfolding removeCapa
-    remove-held c i u p = subst (λ (y : Domain). Held own' man' (relist d y (freeLocal i y.locals) s)) (sym (domain-at s d x e)) (take_out c i none (i ∷ x.locals.free) u (λ k. refl) (λ k. refl) p (free-keeps _ _ _ _ _ x.locals (h.lists d x e) i c u))
+    pub remove-held : (c : Capa) (i : ℕ) → In x.locals.held i c → Plus s d c own' man' own man → Held own' man' (remove_capa d i s)
+    unfolding remove_capa
+    remove-held c i u p = subst (λ (y : Domain). Held own' man' (relist d y (free_local i y.locals) s)) (sym (domain-at s d x e)) (take_out_lem c i none (i ∷ x.locals.free) u (λ k. refl) (λ k. refl) p (free-keeps _ _ _ _ _ x.locals (h.lists d x e) i c u))
 
-    pub empty-held : (c : Capa) (i : ℕ) → In x.locals.held i c → Plus s d c own' man' own man → Held own' man' (emptyCapa d i s)
-    unfolding emptyCapa
-    empty-held c i u p = subst (λ (y : Domain). Held own' man' (relist d y (written i (some noCapa) y.locals.free y.locals) s)) (sym (domain-at s d x e)) (take_out c i (some noCapa) x.locals.free u (λ k. refl) (λ k. refl) p (write_keeps _ _ _ _ _ x.locals (h.lists d x e) i c noCapa u tt tt))
+    pub empty-held : (c : Capa) (i : ℕ) → In x.locals.held i c → Plus s d c own' man' own man → Held own' man' (empty_capa d i s)
+    unfolding empty_capa
+    empty-held c i u p = subst (λ (y : Domain). Held own' man' (relist d y (written i (some no_capa) y.locals.free y.locals) s)) (sym (domain-at s d x e)) (take_out_lem c i (some no_capa) x.locals.free u (λ k. refl) (λ k. refl) p (write_keeps _ _ _ _ _ x.locals (h.lists d x e) i c no_capa u tt tt))
 
-    pub insert-held : (c : Capa) → RevokeFit s.regionPool s.regions (some c) → HandleFit s.regionPool s.regions s.domainPool s.domains (some c) → Plus s d c own man own' man' → All (λ y. Inserted s d x c y.0 y.1 × Held own' man' y.1) (insertCapa d c s)
-    unfolding insertCapa
+    pub insert-held : (c : Capa) → RevokeFit s.region_pool s.regions (some c) → HandleFit s.region_pool s.regions s.domain_pool s.domains (some c) → Plus s d c own man own' man' → All (λ y. Inserted s d x c y.0 y.1 × Held own' man' y.1) (insert_capa d c s)
+    unfolding insert_capa
     insert-held c r f p =
-        subst (λ (y : Domain). All (λ (z : ℕ × State). Inserted s d x c z.0 z.1 × Held own' man' z.1) (insertLocal c y.locals >>= λ (i, l). ok (i, relist d y l s))) (sym (domain-at s d x e))
+        subst (λ (y : Domain). All (λ (z : ℕ × State). Inserted s d x c z.0 z.1 × Held own' man' z.1) (insert_local c y.locals >>= λ (i, l). ok (i, relist d y l s))) (sym (domain-at s d x e))
         (bind (insert-keeps _ _ _ _ _ c x.locals (h.lists d x e) r f) (λ z k. accepted (record { list = z.1; is = refl; put = k.1 }, put_in c z.0 z.1 p k.0 k.1)))

@@ -3,7 +3,7 @@
 use Rattle.std.proofs.Math.Option.{none, some}
 use Rattle.model.specs.Outcome.{Outcome}
 use Rattle.model.specs.State.{State}
-use Rattle.model.specs.Perform.{Step, Call, performStep, perform}
+use Rattle.model.specs.Perform.{Step, Call, perform_step, perform}
 use Rattle.model.specs.CallWords.{StepWords, CallWords}
 use Rattle.model.specs.Sound.{Sound}
 use Rattle.laws.specs.Accepted.{All, accepted, bind, bind-any, weaken, both}
@@ -26,8 +26,8 @@ whole : {A : Type 0} {m : Outcome (A × State)} → All (λ x. Sound x.1) m → 
 whole k = weaken k (λ x h. capas-sound x.1 h)
 
 -- A step that changes no region and no tracker keeps Sound whole.
-step-capas : (s : State) (c : Step) → Sound s → StepWords c → All (λ x. CapasSound x.1) (performStep s c)
-unfolding performStep
+step-capas : (s : State) (c : Step) → Sound s → StepWords c → All (λ x. CapasSound x.1) (perform_step s c)
+unfolding perform_step
 step-capas s (Step.Open none c) h w = bind (whole (open-sound s none c h w)) (λ x k. accepted k)
 step-capas s (Step.Open (some m) c) h w = bind (whole (open-sound s (some m) c h w.1)) (λ x k. accepted k)
 step-capas s (Step.Channel m to) h w = bind (whole (channel-sound s m to h)) (λ x k. accepted k)

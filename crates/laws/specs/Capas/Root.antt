@@ -1,7 +1,7 @@
 -- Root: room is made, the region gets its capability, and the tracker's step leaves the lists alone.
 use Rattle.std.specs.Prelude.{[]}
 use Rattle.model.specs.State.{Handle, Root, Access, State}
-use Rattle.model.specs.Calls.{createRootRegion}
+use Rattle.model.specs.Calls.{create_root_region}
 use Rattle.laws.specs.Accepted.{All, accepted, bind}
 use Rattle.laws.specs.Capas.Held.{CapasSound}
 use Rattle.laws.specs.Capas.Checks.{live-domain}
@@ -9,8 +9,8 @@ use Rattle.laws.specs.Capas.NewRegion.{new-region, new-sound}
 use Rattle.laws.specs.Capas.Room.{room-region, room-capas, room_in}
 use Rattle.laws.specs.Capas.Activate.{activate-capas}
 
-pub root-capas : (h : Handle) (a : Access) (s : State) → CapasSound s → All (λ y. CapasSound y.1) (createRootRegion h a s)
-unfolding createRootRegion
+pub root-capas : (h : Handle) (a : Access) (s : State) → CapasSound s → All (λ y. CapasSound y.1) (create_root_region h a s)
+unfolding create_root_region
 root-capas h a s c =
     bind (live-domain s h) (λ d l.
     bind (room-region s d l.domain a l.is) (λ s₁ r.

@@ -7,9 +7,9 @@ use Rattle.model.specs.Lists.{In}
 use Rattle.model.specs.Outcome.{◌>>=◌}
 use Rattle.model.specs.State.{State, Domain, Region, Access}
 use Rattle.model.specs.Fields.{Field}
-use Rattle.model.specs.Counts.{storedCounts, regionCount}
+use Rattle.model.specs.Counts.{stored_counts, region_count}
 use Rattle.model.specs.Regions.{activate, deactivate}
-use Rattle.model.specs.Calls.{exchangeRights}
+use Rattle.model.specs.Calls.{exchange_rights}
 use Rattle.laws.specs.Accepted.{All, accepted, bind, weaken, branch-on}
 use Rattle.laws.specs.Tracker.Fields.{Enough}
 use Rattle.laws.specs.Tree.Shares.{grant}
@@ -17,23 +17,23 @@ use Rattle.laws.specs.Tree.Facts.{Regions}
 use Rattle.laws.specs.Tree.CountsInclude.{CountsInclude, include-enough}
 use Rattle.laws.specs.Keep.SameDomains.{SameOutside, same-domains-live, same-domains-in, same-outside-self, same-outside-then}
 use Rattle.laws.specs.Keep.Tracked.{Tracked, tracked-same, activate-tracked, deactivate-tracked, lost-le}
-use Rattle.laws.specs.Keep.Agreement.{countsOver, Owners, TrackersAgreeWith, TrackersAgree}
+use Rattle.laws.specs.Keep.Agreement.{counts_over, Owners, TrackersAgreeWith, TrackersAgree}
 
 -- domain d can lose the range with rights r
 abbrev pub CountsIncludeRange : List (Option Region) → ℕ → ℕ → ℕ → ℕ → Type 0
 CountsIncludeRange rs d b e r = (a : ℕ) → b ≤ a → a < e → CountsInclude rs d a r
 
 -- what the counts of the regions rs include can be lost, where the trackers store them
-pub include-stored : (s : State) (rs : List (Option Region)) → Tracked s (countsOver rs) → (d a r : ℕ) → CountsInclude rs d a r → Enough r (storedCounts s d a)
-include-stored s rs h d a r p = include-enough rs d a r (storedCounts s d a) p (λ f. h.counts f d a)
+pub include-stored : (s : State) (rs : List (Option Region)) → Tracked s (counts_over rs) → (d a r : ℕ) → CountsInclude rs d a r → Enough r (stored_counts s d a)
+include-stored s rs h d a r p = include-enough rs d a r (stored_counts s d a) p (λ f. h.counts f d a)
 
 -- ---- a step on a tracker leaves the regions and the live domains
 
-pub same-outside-agree : (s t : State) → SameOutside s t → Regions s.regions → Owners s → Tracked t (countsOver s.regions) → TrackersAgree t
+pub same-outside-agree : (s t : State) → SameOutside s t → Regions s.regions → Owners s → Tracked t (counts_over s.regions) → TrackersAgree t
 same-outside-agree s t b r o k = record {
-  tracked = subst (λ rs. Tracked t (countsOver rs)) (sym b.regions) k;
+  tracked = subst (λ rs. Tracked t (counts_over rs)) (sym b.regions) k;
   regions = subst Regions (sym b.regions) r;
-  owners = λ i g e. same-domains-live b.sameDomains g.owner (o i g (rw b.regions at e));
+  owners = λ i g e. same-domains-live b.same_domains g.owner (o i g (rw b.regions at e));
 }
 
 module _ (rs : List (Option Region)) (s : State) (h : TrackersAgreeWith rs s) (d : ℕ) (x : Domain) (e : In s.domains d x) (a : Access) (z : a.start < a.end) where
@@ -41,35 +41,35 @@ module _ (rs : List (Option Region)) (s : State) (h : TrackersAgreeWith rs s) (d
   abbrev range : ℕ → Field → ℕ → ℕ → ℕ
   range r f k b = grant f d a.start a.end r k b
 
-  pub activate-agree : ((f : Field) (k b : ℕ) → regionCount f s.regions k b ≡ regionCount f rs k b + range a.rights f k b) → All (λ t. TrackersAgree t × SameOutside s t) (activate [] d a s)
-  activate-agree m = weaken (activate-tracked [] s (countsOver rs) (countsOver s.regions) h.tracked d x e a z m) (λ t (k, b). (same-outside-agree s t b h.regions h.owners k, b))
+  pub activate-agree : ((f : Field) (k b : ℕ) → region_count f s.regions k b ≡ region_count f rs k b + range a.rights f k b) → All (λ t. TrackersAgree t × SameOutside s t) (activate [] d a s)
+  activate-agree m = weaken (activate-tracked [] s (counts_over rs) (counts_over s.regions) h.tracked d x e a z m) (λ t (k, b). (same-outside-agree s t b h.regions h.owners k, b))
 
   -- ---- the same range with other rights r is lost, and this one gained
 
-  module _ (r : ℕ) (p : CountsIncludeRange rs d a.start a.end r) (m : (f : Field) (k b : ℕ) → regionCount f s.regions k b + range r f k b ≡ regionCount f rs k b + range a.rights f k b) where
+  module _ (r : ℕ) (p : CountsIncludeRange rs d a.start a.end r) (m : (f : Field) (k b : ℕ) → region_count f s.regions k b + range r f k b ≡ region_count f rs k b + range a.rights f k b) where
     abbrev old : Access
     old = record { start = a.start; end = a.end; rights = r }
 
     -- what is left between the two
     abbrev left : Field → ℕ → ℕ → ℕ
-    left f k b = regionCount f rs k b - range r f k b
+    left f k b = region_count f rs k b - range r f k b
 
-    had : (b : ℕ) → a.start ≤ b → b < a.end → Enough r (storedCounts s d b)
+    had : (b : ℕ) → a.start ≤ b → b < a.end → Enough r (stored_counts s d b)
     had b u v = include-stored s rs h.tracked d b r (p b u v)
 
-    counted : (f : Field) (k b : ℕ) → range r f k b ≤ regionCount f rs k b
-    counted = lost-le s (countsOver rs) left h.tracked d x e old z had
+    counted : (f : Field) (k b : ℕ) → range r f k b ≤ region_count f rs k b
+    counted = lost-le s (counts_over rs) left h.tracked d x e old z had
 
     equal : T (eqb r a.rights) → TrackersAgree s
-    equal t = same-outside-agree s s (same-outside-self s) h.regions h.owners (tracked-same s (countsOver rs) (countsOver s.regions) (λ f k b. omega (arith, m f k b, ap (λ (n : ℕ). range n f k b) (eqb→eq r a.rights t))) h.tracked)
+    equal t = same-outside-agree s s (same-outside-self s) h.regions h.owners (tracked-same s (counts_over rs) (counts_over s.regions) (λ f k b. omega (arith, m f k b, ap (λ (n : ℕ). range n f k b) (eqb→eq r a.rights t))) h.tracked)
 
     differ : All (λ t. TrackersAgree t × SameOutside s t) (deactivate [] d old s >>= λ t. activate [] d a t)
     differ =
-        bind (deactivate-tracked [] s (countsOver rs) left h.tracked d x e old z (λ f k b. omega (arith, counted f k b)) had) (λ t (k, b).
-        let y = same-domains-in b.sameDomains d x e in
-        weaken (activate-tracked [] t left (countsOver s.regions) k d y.0 y.1 a z (λ f j c. omega (arith, m f j c, counted f j c)))
+        bind (deactivate-tracked [] s (counts_over rs) left h.tracked d x e old z (λ f k b. omega (arith, counted f k b)) had) (λ t (k, b).
+        let y = same-domains-in b.same_domains d x e in
+        weaken (activate-tracked [] t left (counts_over s.regions) k d y.0 y.1 a z (λ f j c. omega (arith, m f j c, counted f j c)))
         (λ u (j, c). (same-outside-agree s u (same-outside-then b c) h.regions h.owners j, same-outside-then b c)))
 
-    pub exchange-agree : All (λ t. TrackersAgree t × SameOutside s t) (exchangeRights d r a s)
-    unfolding exchangeRights
+    pub exchange-agree : All (λ t. TrackersAgree t × SameOutside s t) (exchange_rights d r a s)
+    unfolding exchange_rights
     exchange-agree = branch-on (eqb r a.rights) (λ t. accepted (equal t, same-outside-self s)) (λ t. differ)

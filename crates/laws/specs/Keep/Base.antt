@@ -2,7 +2,7 @@
 use Rattle.std.specs.Prelude.{◌≡◌, refl, ℕ}
 use Rattle.std.proofs.Common.{sym, ap, subst, ◌∙◌}
 use Rattle.std.proofs.Math.Option.{Option, none, some}
-use Rattle.model.specs.Lists.{is_some, atSlot, In}
+use Rattle.model.specs.Lists.{is_some, at_slot, In}
 use Rattle.model.specs.State.{State, Sizes, Word, Pool, Domain, cleanup}
 use Rattle.model.specs.Updates.{push}
 use Rattle.model.specs.Sound.{Sound}
@@ -13,10 +13,10 @@ use Rattle.laws.specs.Keep.Pools.{Table, table_same}
 use Rattle.laws.specs.Keep.Ring.{Ring, sound-ring, queue-kept-ring, cleanup-ring}
 
 abbrev pub RegionTable : State → Type 0
-RegionTable s = Table s.sizes.regions s.regions s.regionPool
+RegionTable s = Table s.sizes.regions s.regions s.region_pool
 
 abbrev pub DomainTable : State → Type 0
-DomainTable s = Table s.sizes.domains s.domains s.domainPool
+DomainTable s = Table s.sizes.domains s.domains s.domain_pool
 
 pub record Base (s : State) : Type 0 where
   pub ring : Ring s
@@ -24,7 +24,7 @@ pub record Base (s : State) : Type 0 where
   pub domains : DomainTable s
 
 pub sound-base : (s : State) → Sound s → Base s
-sound-base s h = record { ring = sound-ring s h; regions = record { size = h.outside.regionsLength; pool = h.outside.regionPool }; domains = record { size = h.outside.domainsLength; pool = h.outside.domainPool } }
+sound-base s h = record { ring = sound-ring s h; regions = record { size = h.outside.regions_length; pool = h.outside.region_pool }; domains = record { size = h.outside.domains_length; pool = h.outside.domain_pool } }
 
 -- ---- the domains are the same, but for their trackers
 
@@ -36,7 +36,7 @@ same-domains-cores s t b r d y e =
 same-domains-ring : (s t : State) → SameDomains s t → t.queue ≡ s.queue → Ring s → Ring t
 same-domains-ring s t b q r = queue-kept-ring s t (record {
   sizes = b.sizes;
-  gens = ap (λ (p : Pool). p.gens) b.domainPool;
+  gens = ap (λ (p : Pool). p.gens) b.domain_pool;
   size = b.size;
   live = same-domains-live b;
   cores = same-domains-cores s t b r;
@@ -49,8 +49,8 @@ some-untracked (some x) = refl
 
 same-domains-domains : (s t : State) → SameDomains s t → DomainTable s → DomainTable t
 same-domains-domains s t b k =
-    let same : (d : ℕ) → is_some (atSlot t.domains d) ≡ is_some (atSlot s.domains d) = λ d. sym (some-untracked (atSlot t.domains d)) ∙ ap is_some (b.domains d) ∙ some-untracked (atSlot s.domains d) in
-    subst (λ (p : Pool). Table t.sizes.domains t.domains p) (sym b.domainPool) (subst (λ (z : Sizes). Table z.domains t.domains s.domainPool) (sym b.sizes) (table_same s.sizes.domains s.domains t.domains s.domainPool b.size same k))
+    let same : (d : ℕ) → is_some (at_slot t.domains d) ≡ is_some (at_slot s.domains d) = λ d. sym (some-untracked (at_slot t.domains d)) ∙ ap is_some (b.domains d) ∙ some-untracked (at_slot s.domains d) in
+    subst (λ (p : Pool). Table t.sizes.domains t.domains p) (sym b.domain_pool) (subst (λ (z : Sizes). Table z.domains t.domains s.domain_pool) (sym b.sizes) (table_same s.sizes.domains s.domains t.domains s.domain_pool b.size same k))
 
 pub same-domains-base : (s t : State) → SameDomains s t → t.queue ≡ s.queue → RegionTable t → Base s → Base t
 same-domains-base s t b q k r = record { ring = same-domains-ring s t b q r.ring; regions = k; domains = same-domains-domains s t b r.domains }
@@ -59,8 +59,8 @@ same-domains-base s t b q k r = record { ring = same-domains-ring s t b q r.ring
 pub same-outside-base : (s t : State) → SameOutside s t → Ring t → Base s → Base t
 same-outside-base s t b k r = record {
   ring = k;
-  regions = subst (λ (p : Pool). Table t.sizes.regions t.regions p) (sym b.regionPool) (subst (λ rs. Table t.sizes.regions rs s.regionPool) (sym b.regions) (subst (λ (z : Sizes). Table z.regions s.regions s.regionPool) (sym b.sameDomains.sizes) r.regions));
-  domains = same-domains-domains s t b.sameDomains r.domains;
+  regions = subst (λ (p : Pool). Table t.sizes.regions t.regions p) (sym b.region_pool) (subst (λ rs. Table t.sizes.regions rs s.region_pool) (sym b.regions) (subst (λ (z : Sizes). Table z.regions s.regions s.region_pool) (sym b.same_domains.sizes) r.regions));
+  domains = same-domains-domains s t b.same_domains r.domains;
 }
 
 -- ---- a range is queued

@@ -3,8 +3,8 @@
 -- themselves. The fourth: that interfaces are words.
 use Rattle.std.proofs.Math.Option.{Option, none, some}
 use Rattle.model.specs.State.{State, Update}
-use Rattle.model.specs.Making.{makeIn}
-use Rattle.model.specs.Perform.{Step, Call, performStep, perform}
+use Rattle.model.specs.Making.{make_in}
+use Rattle.model.specs.Perform.{Step, Call, perform_step, perform}
 use Rattle.model.specs.CallWords.{StepWords, CallWords}
 use Rattle.model.specs.Sound.{Sound}
 use Rattle.laws.specs.Accepted.{All, accepted, bind, bind-any, and_then}
@@ -28,8 +28,8 @@ module _ (s : State) (sound : Sound s) where
   whole : Whole s
   whole = (sound-agree s sound, sound-base s sound)
 
-  step_keeps : (c : Step) → StepWords c → All After (performStep s c)
-  unfolding performStep
+  step_keeps : (c : Step) → StepWords c → All After (perform_step s c)
+  unfolding perform_step
   step_keeps (Step.Open none cores) w = bind (open-keeps s sound none cores w) (λ (a, t) k. accepted k)
   step_keeps (Step.Open (some h) cores) w = bind (open-keeps s sound (some h) cores w.1) (λ (a, t) k. accepted k)
   step_keeps (Step.Channel h to) w = bind (channel-keeps s whole h to) (λ (a, t) k. accepted k)
@@ -44,7 +44,7 @@ module _ (s : State) (sound : Sound s) where
   step_keeps (Step.CreateRevokeCapa h l) w = bind (create-revoke-capa-keeps s whole h l) (λ (n, t) k. accepted k)
 
   pub perform-keeps : (c : Call) → CallWords c → All After (perform s c)
-  unfolding perform makeIn
+  unfolding perform make_in
   perform-keeps (Call.Make z) w = bind (bind (empty-sound z) (λ t k. and_then {Q = Whole} _ (accepted (sound-agree t k, sound-base t k)))) (λ t k. accepted k)
   perform-keeps (Call.Do c) w = step_keeps c w
   perform-keeps Call.Pop w = bind {P = λ (y : Option Update × State). Whole y.1} (accepted (pop-keeps s sound)) (λ (a, t) k. accepted k)

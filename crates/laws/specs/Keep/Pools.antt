@@ -4,12 +4,12 @@ use Rattle.std.proofs.Common.{sym, ap, subst, ◌∙◌, arith, length-set, get_
 use Rattle.std.proofs.Math.Option.{Option, none, some}
 use mathlib.Core.List.{List, [], ◌∷◌}
 use Rattle.std.proofs.Math.Decide.{ℕ_discrete}
-use Rattle.model.specs.Lists.{oneIf, countIf, is_some, atSlot, In, Each}
+use Rattle.model.specs.Lists.{one_if, count_if, is_some, at_slot, In, Each}
 use Rattle.refusals.specs.declared.Refusal.{Refusal}
 use Rattle.model.specs.State.{Word, Pool}
 use Rattle.model.specs.Pool.{allocate, free}
-use Rattle.model.specs.Tracker.{noCounts}
-use Rattle.model.specs.Sound.{PoolSound, slotUses}
+use Rattle.model.specs.Tracker.{no_counts}
+use Rattle.model.specs.Sound.{PoolSound, slot_uses}
 use Rattle.laws.specs.Accepted.{All, accepted, refused, weaken, both}
 use Rattle.laws.specs.Answers.{answer}
 use Rattle.laws.specs.Tracker.Pools.{free-moves}
@@ -18,20 +18,20 @@ use Rattle.laws.specs.Keep.Locals.{allocate-free}
 -- a table of n slots and its pool
 pub record Table {A : Type 0} (n : ℕ) (l : List (Option A)) (p : Pool) : Type 0 where
   pub size : length l ≡ n
-  pub pool : PoolSound n (slotUses l) p
+  pub pool : PoolSound n (slot_uses l) p
 
 module _ {A : Type 0} (l : List (Option A)) (i : ℕ) (low : i < length l) where
-  use-here : (o : Option A) → slotUses (set l i o) i ≡ oneIf (is_some o)
-  use-here o = ap (λ (z : Option A). oneIf (is_some z)) (get_or-set_same l i o none low)
+  use-here : (o : Option A) → slot_uses (set l i o) i ≡ one_if (is_some o)
+  use-here o = ap (λ (z : Option A). one_if (is_some z)) (get_or-set_same l i o none low)
 
-  use-there : (o : Option A) (k : ℕ) → k ≢ i → slotUses (set l i o) k ≡ slotUses l k
-  use-there o k m = ap (λ (z : Option A). oneIf (is_some z)) (get_or-set_other l i k o none m)
+  use-there : (o : Option A) (k : ℕ) → k ≢ i → slot_uses (set l i o) k ≡ slot_uses l k
+  use-there o k m = ap (λ (z : Option A). one_if (is_some z)) (get_or-set_other l i k o none m)
 
 -- the same slots are in use
-pub table_same : {A : Type 0} (n : ℕ) (l m : List (Option A)) (p : Pool) → length m ≡ length l → ((k : ℕ) → is_some (atSlot m k) ≡ is_some (atSlot l k)) → Table n l p → Table n m p
+pub table_same : {A : Type 0} (n : ℕ) (l m : List (Option A)) (p : Pool) → length m ≡ length l → ((k : ℕ) → is_some (at_slot m k) ≡ is_some (at_slot l k)) → Table n l p → Table n m p
 table_same n l m p z e t = record {
   size = z ∙ t.size;
-  pool = record { gensLength = t.pool.gensLength; gensWords = t.pool.gensWords; once = λ k. omega (arith, t.pool.once k, ap oneIf (e k)) };
+  pool = record { gens_length = t.pool.gens_length; gens_words = t.pool.gens_words; once = λ k. omega (arith, t.pool.once k, ap one_if (e k)) };
 }
 
 module _ {A : Type 0} (n : ℕ) (l : List (Option A)) (p : Pool) (t : Table n l p) where
@@ -42,7 +42,7 @@ module _ {A : Type 0} (n : ℕ) (l : List (Option A)) (p : Pool) (t : Table n l 
     | no m ↦ ap is_some (get_or-set_other l i k (some y) none m)
   ]) t
 
-  taken : (r : Refusal) (gs fs : List ℕ) → All (λ (x : ℕ × Pool). (x.1.gens ≡ gs) × ((k : ℕ) → oneIf (eqb k x.0) + countIf (eqb k) x.1.free ≡ countIf (eqb k) fs)) (allocate r (record { gens = gs; free = fs }))
+  taken : (r : Refusal) (gs fs : List ℕ) → All (λ (x : ℕ × Pool). (x.1.gens ≡ gs) × ((k : ℕ) → one_if (eqb k x.0) + count_if (eqb k) x.1.free ≡ count_if (eqb k) fs)) (allocate r (record { gens = gs; free = fs }))
   unfolding allocate
   taken r gs [] = refused
   taken r gs (i ∷ is) = accepted (refl, λ k. refl)
@@ -52,25 +52,25 @@ module _ {A : Type 0} (n : ℕ) (l : List (Option A)) (p : Pool) (t : Table n l 
   table-takes r = weaken (both (allocate-free l n p t.size t.pool r) (taken r p.gens p.free)) (λ (i, q) ((low, vacant), (g, c)) y. record {
     size = length-set l i (some y) ∙ t.size;
     pool = record {
-      gensLength = ap length g ∙ t.pool.gensLength;
-      gensWords = subst (Each Word) (sym g) t.pool.gensWords;
+      gens_length = ap length g ∙ t.pool.gens_length;
+      gens_words = subst (Each Word) (sym g) t.pool.gens_words;
       once = λ k. elim (ℕ_discrete k i) [
-        | yes m ↦ rw m (omega (arith, t.pool.once i, c i, use-here l i low (some y), ap (λ (z : Option A). oneIf (is_some z)) vacant, ap oneIf (eq-eqb i i refl)))
-        | no m ↦ omega (arith, t.pool.once k, c k, use-there l i low (some y) k m, ap oneIf (ne_eqb k i m))
+        | yes m ↦ rw m (omega (arith, t.pool.once i, c i, use-here l i low (some y), ap (λ (z : Option A). one_if (is_some z)) vacant, ap one_if (eq-eqb i i refl)))
+        | no m ↦ omega (arith, t.pool.once k, c k, use-there l i low (some y) k m, ap one_if (ne_eqb k i m))
       ];
     };
   })
 
   -- a slot in use is freed
   pub table-frees : (i : ℕ) (x : A) → In l i x → i < length l → All (λ q. Table n (set l i none) q) (free i p)
-  table-frees i x e low = weaken (answer (free-moves (record { slot = i; start = 0; end = 0; counts = noCounts }) p)) (λ q m. record {
+  table-frees i x e low = weaken (answer (free-moves (record { slot = i; start = 0; end = 0; counts = no_counts }) p)) (λ q m. record {
     size = length-set l i none ∙ t.size;
     pool = record {
-      gensLength = m.gensLength ∙ t.pool.gensLength;
-      gensWords = m.gensWords t.pool.gensWords;
+      gens_length = m.gens_length ∙ t.pool.gens_length;
+      gens_words = m.gens_words t.pool.gens_words;
       once = λ k. elim (ℕ_discrete k i) [
-        | yes v ↦ rw v (omega (arith, t.pool.once i, m.slots i, use-here l i low none, ap (λ (z : Option A). oneIf (is_some z)) e, ap oneIf (eq-eqb i i refl)))
-        | no v ↦ omega (arith, t.pool.once k, m.slots k, use-there l i low none k v, ap oneIf (ne_eqb k i v))
+        | yes v ↦ rw v (omega (arith, t.pool.once i, m.slots i, use-here l i low none, ap (λ (z : Option A). one_if (is_some z)) e, ap one_if (eq-eqb i i refl)))
+        | no v ↦ omega (arith, t.pool.once k, m.slots k, use-there l i low none k v, ap one_if (ne_eqb k i v))
       ];
     };
   })

@@ -4,10 +4,10 @@ use Rattle.std.proofs.Common.{sym, subst, ◌∙◌, get_or-set_same, get_or-set
 use Rattle.std.proofs.Math.Option.{Option, none, some}
 use Rattle.std.proofs.Math.Decide.{ℕ_discrete}
 use Rattle.base.specs.Options.{none-some, some_same}
-use Rattle.model.specs.Lists.{is_some, atSlot, In}
+use Rattle.model.specs.Lists.{is_some, at_slot, In}
 
 -- what is live stays live
-pub taken-alive : {A : Type 0} (l : List (Option A)) (i : ℕ) (x : A) → i < length l → (k : ℕ) → T (is_some (atSlot l k)) → T (is_some (atSlot (set l i (some x)) k))
+pub taken-alive : {A : Type 0} (l : List (Option A)) (i : ℕ) (x : A) → i < length l → (k : ℕ) → T (is_some (at_slot l k)) → T (is_some (at_slot (set l i (some x)) k))
 taken-alive l i x low k t = elim (ℕ_discrete k i) [
   | yes m ↦ rw (m, get_or-set_same l i (some x) none low) tt
   | no m ↦ rw (get_or-set_other l i k (some x) none m) t

@@ -8,7 +8,7 @@ use Rattle.base.specs.Tests.{is_true, is_false}
 use Rattle.model.specs.Lists.{is_empty}
 use Rattle.model.specs.Outcome.{Outcome, ◌>>=◌}
 use Rattle.model.specs.State.{Counts, Record, Pool}
-use Rattle.model.specs.Tracker.{newCounts, splitAt, cutBefore, cutAfter, fillGap}
+use Rattle.model.specs.Tracker.{new_counts, split_at, cut_before, cut_after, fill_gap}
 use Rattle.laws.specs.Accepted.{All, accepted, bind, bind-any, branch-on}
 use Rattle.laws.specs.Tracker.Look.{look}
 use Rattle.laws.specs.Tracker.Span.{Span}
@@ -24,16 +24,16 @@ reads_none s e k h a = elim (cmp a s) [ lt i ↦ simp W | ge i ↦ let j : e ≤
 -- ---- the fill of a gap
 
 pub record Gap (r s e : ℕ) (x : List Record × Pool) : Type 0 where
-  pub reads : Reads x.0 s e (some (newCounts r))
+  pub reads : Reads x.0 s e (some (new_counts r))
   pub span : (lo hi : ℕ) → lo ≤ s → lo ≤ hi → e ≤ hi → Span lo hi x.0
   pub filled : not (is_empty x.0) ≡ ltb s e
 
-pub gap-law : (r s e : ℕ) (p : Pool) → All (Gap r s e) (fillGap r s e p)
-unfolding fillGap
+pub gap-law : (r s e : ℕ) (p : Pool) → All (Gap r s e) (fill_gap r s e p)
+unfolding fill_gap
 gap-law r s e p =
     branch-on (ltb s e)
     (λ t. let h = ltb→lt s e t in bind-any _ (λ x. accepted (record { reads = λ a. refl; span = λ lo hi u v w. (u, h, w); filled = sym (is_true t) })))
-    (λ t. let h = nltb→le s e t in accepted (record { reads = reads_none s e (newCounts r) h; span = λ lo hi u v w. v; filled = sym (is_false t) }))
+    (λ t. let h = nltb→le s e t in accepted (record { reads = reads_none s e (new_counts r) h; span = λ lo hi u v w. v; filled = sym (is_false t) }))
 
 -- ---- the cuts of a record
 
@@ -45,8 +45,8 @@ record Before (q : Record) (s : ℕ) (x : List Record × Record × Pool) : Type 
   end : x.1.end ≡ q.end
   counts : x.1.counts ≡ q.counts
 
-before-law : (s : ℕ) (q : Record) (p : Pool) → All (Before q s) (cutBefore s q p)
-unfolding cutBefore splitAt
+before-law : (s : ℕ) (q : Record) (p : Pool) → All (Before q s) (cut_before s q p)
+unfolding cut_before split_at
 before-law s q p =
     branch-on (ltb q.start s)
     (λ t. let h = ltb→lt q.start s t in
@@ -63,8 +63,8 @@ record After (q : Record) (e : ℕ) (x : Record × List Record × Pool) : Type 0
   end : x.0.end ≡ min q.end e
   counts : x.0.counts ≡ q.counts
 
-after-law : (e : ℕ) (q : Record) (p : Pool) → All (After q e) (cutAfter e q p)
-unfolding cutAfter splitAt
+after-law : (e : ℕ) (q : Record) (p : Pool) → All (After q e) (cut_after e q p)
+unfolding cut_after split_at
 after-law e q p =
     branch-on (ltb e q.end)
     (λ t. let h = ltb→lt e q.end t in
@@ -77,8 +77,8 @@ after-law e q p =
 pub record Cut (s e : ℕ) (q : Record) (b : List Record) (m : Record) (c : List Record) : Type 0 where
   pub before : Reads b q.start s (some q.counts)
   pub after : Reads c e q.end (some q.counts)
-  pub spanBefore : Span q.start m.start b
-  pub spanAfter : Span m.end q.end c
+  pub span_before : Span q.start m.start b
+  pub span_after : Span m.end q.end c
   pub start : m.start ≡ max q.start s
   pub end : m.end ≡ min q.end e
   pub counts : m.counts ≡ q.counts
@@ -87,13 +87,13 @@ cut-both : (s e : ℕ) (q : Record) (x : List Record × Record × Pool) (y : Rec
 cut-both s e q x y f g = record {
   before = f.reads;
   after = λ a. g.reads a ∙ ap₂ (λ (m : ℕ) (k : Counts). within e m a (some k) none) f.end f.counts;
-  spanBefore = rw g.start f.span;
-  spanAfter = rw f.end at g.span;
+  span_before = rw g.start f.span;
+  span_after = rw f.end at g.span;
   start = g.start ∙ f.start;
   end = omega arith;
   counts = g.counts ∙ f.counts;
 }
 
 -- whatever is done with the three
-pub cutting : {B : Type 0} {Q : B → Type 0} (s e : ℕ) (q : Record) (p : Pool) (k : List Record → Record → List Record → Pool → Outcome B) → ((b : List Record) (m : Record) (c : List Record) (p' : Pool) → Cut s e q b m c → All Q (k b m c p')) → All Q (cutBefore s q p >>= λ x. cutAfter e x.1 x.2 >>= λ y. k x.0 y.0 y.1 y.2)
+pub cutting : {B : Type 0} {Q : B → Type 0} (s e : ℕ) (q : Record) (p : Pool) (k : List Record → Record → List Record → Pool → Outcome B) → ((b : List Record) (m : Record) (c : List Record) (p' : Pool) → Cut s e q b m c → All Q (k b m c p')) → All Q (cut_before s q p >>= λ x. cut_after e x.1 x.2 >>= λ y. k x.0 y.0 y.1 y.2)
 cutting s e q p k h = bind (before-law s q p) (λ x f. bind (after-law e x.1 x.2) (λ y g. h x.0 y.0 y.1 y.2 (cut-both s e q x y f g)))

@@ -7,18 +7,18 @@ use Rattle.base.specs.Cases.{lt, ge, cmp, below, inside, above, pos}
 use Rattle.model.specs.State.{Counts, Record, Pool}
 use Rattle.model.specs.Fields.{Field, get, counter}
 use Rattle.model.specs.Tracker.{gain, lose}
-use Rattle.model.specs.Counts.{countsAt}
+use Rattle.model.specs.Counts.{counts_at}
 use Rattle.model.specs.Sound.{Rising}
 use Rattle.laws.specs.Accepted.{All, weaken}
 use Rattle.laws.specs.Fields.{get_none, get-new, get-raise, get-lower}
-use Rattle.laws.specs.Tracker.Look.{look, countsOf, counts-look}
+use Rattle.laws.specs.Tracker.Look.{look, counts_of, counts-look}
 use Rattle.laws.specs.Tracker.One.{gained, lost}
 use Rattle.laws.specs.Tracker.Laws.{gain-law, lose-law}
 use Rattle.laws.specs.Within.{within, W}
 
 -- the stored count at an address
-abbrev pub countAt : Field → List Record → ℕ → ℕ
-countAt f l a = get f (countsAt l a)
+abbrev pub count_at : Field → List Record → ℕ → ℕ
+count_at f l a = get f (counts_at l a)
 
 -- ---- one set of counts
 
@@ -31,11 +31,11 @@ pub record Enough (r : ℕ) (k : Counts) : Type 0 where
 pub enough : (r : ℕ) (k : Counts) (others : Field → ℕ) → ((f : Field) → get f k ≡ others f + counter f r) → ((f : Field) → others f ≤ others Field.Reach) → Enough r k
 enough r k others h m = record { counted = λ f. omega (arith, h f); last = λ e f. omega (arith, h f, h Field.Reach, m f) }
 
-gained-count : (f : Field) (r : ℕ) (x : Option Counts) → get f (countsOf (gained r x)) ≡ get f (countsOf x) + counter f r
+gained-count : (f : Field) (r : ℕ) (x : Option Counts) → get f (counts_of (gained r x)) ≡ get f (counts_of x) + counter f r
 gained-count f r none = omega (arith, get-new f r, get_none f)
 gained-count f r (some k) = get-raise f r k
 
-lost-count : (f : Field) (r : ℕ) (x : Option Counts) → Enough r (countsOf x) → get f (countsOf (lost r x)) + counter f r ≡ get f (countsOf x)
+lost-count : (f : Field) (r : ℕ) (x : Option Counts) → Enough r (counts_of x) → get f (counts_of (lost r x)) + counter f r ≡ get f (counts_of x)
 lost-count f r none h = absurd (omega (arith, h.counted Field.Reach))
 lost-count f r (some k) h = let i = h.counted f in let i' = h.counted Field.Reach in elim (cmp 1 k.reach) [
   | lt j ↦ rw (ne_eqb (k.reach - 1) 0 (omega arith)) (omega (arith, get-lower f r k))
@@ -45,14 +45,14 @@ lost-count f r (some k) h = let i = h.counted f in let i' = h.counted Field.Reac
 -- ---- gain and loss
 
 module _ (r s e : ℕ) (l : List Record) (p : Pool) (o : Rising 0 l) (z : s < e) where
-  pub gain-count : All (λ w. (f : Field) (a : ℕ) → countAt f w.records a ≡ countAt f l a + within s e a (counter f r) 0) (gain r s e l p)
+  pub gain-count : All (λ w. (f : Field) (a : ℕ) → count_at f w.records a ≡ count_at f l a + within s e a (counter f r) 0) (gain r s e l p)
   gain-count = weaken (gain-law r s e l p o z) (λ w h f a. rw (counts-look w.records a, counts-look l a, h a) (elim (pos s e a) [
     | below i ↦ simp W (omega arith)
     | inside i j ↦ simp W (gained-count f r (look l a))
     | above i ↦ simp W (omega arith)
   ]))
 
-  pub lose-count : ((a : ℕ) → s ≤ a → a < e → Enough r (countsAt l a)) → All (λ w. (f : Field) (a : ℕ) → countAt f w.records a + within s e a (counter f r) 0 ≡ countAt f l a) (lose r s e l p)
+  pub lose-count : ((a : ℕ) → s ≤ a → a < e → Enough r (counts_at l a)) → All (λ w. (f : Field) (a : ℕ) → count_at f w.records a + within s e a (counter f r) 0 ≡ count_at f l a) (lose r s e l p)
   lose-count n = weaken (lose-law r s e l p o z) (λ w h f a. rw (counts-look w.records a, counts-look l a, h a) (elim (pos s e a) [
     | below i ↦ simp W (omega arith)
     | inside i j ↦ simp W (lost-count f r (look l a) (rw (counts-look l a) at (n a i j)))

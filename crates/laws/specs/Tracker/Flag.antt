@@ -29,11 +29,11 @@ at-look c e t = rw e t
 
 module _ (c : Option Counts → Bool) (s e : ℕ) where
   -- the flag of the gap before a record, and of the record itself
-  abbrev pub gapFlag : Record → Bool
-  gapFlag q = c none && ltb s (min e q.start)
+  abbrev pub gap_flag : Record → Bool
+  gap_flag q = c none && ltb s (min e q.start)
 
-  abbrev pub ownFlag : Record → Bool
-  ownFlag q = meets s e q && c (some q.counts)
+  abbrev pub own_flag : Record → Bool
+  own_flag q = meets s e q && c (some q.counts)
 
   pub flag-nil : Flagged c s e [] (c none && ltb s e)
   flag-nil = (
@@ -41,15 +41,15 @@ module _ (c : Option Counts → Bool) (s e : ℕ) where
     λ x. and_i (c none) (ltb s e) x.3 (lt→ltb s e (let h = x.1 in let k = x.2 in omega arith)),
   )
 
-  pub flag-cons : (lo : ℕ) (q : Record) (l : List Record) (z : Bool) → Rising lo (q ∷ l) → (q.start < e → s < e) → Flagged c (max s q.end) e l z → Flagged c s e (q ∷ l) (gapFlag q || ownFlag q || z)
+  pub flag-cons : (lo : ℕ) (q : Record) (l : List Record) (z : Bool) → Rising lo (q ∷ l) → (q.start < e → s < e) → Flagged c (max s q.end) e l z → Flagged c s e (q ∷ l) (gap_flag q || own_flag q || z)
   flag-cons lo q l z o h f = (to, from)
     where
-      by-gap : T (gapFlag q) → Changed c s e (q ∷ l)
+      by-gap : T (gap_flag q) → Changed c s e (q ∷ l)
       by-gap t =
           let k = ltb→lt s (min e q.start) (search and_r) in
           (s, le_refl s, omega arith, at-look c (look-low q.start s (q ∷ l) (le_refl _, o.1, o.2) (omega arith)) (search and_l))
 
-      by-record : T (ownFlag q) → Changed c s e (q ∷ l)
+      by-record : T (own_flag q) → Changed c s e (q ∷ l)
       by-record t =
           let i = ltb→lt s q.end (search (and_l, and_r)) in
           let j = ltb→lt q.start e (search (and_l, and_r)) in
@@ -59,21 +59,21 @@ module _ (c : Option Counts → Bool) (s e : ℕ) where
       by-others : Changed c (max s q.end) e l → Changed c s e (q ∷ l)
       by-others x = let i = x.1 in (x.0, omega arith, x.2, at-look c (within-hi q.start q.end x.0 (some q.counts) (look l x.0) (omega arith)) x.3)
 
-      to : T (gapFlag q || ownFlag q || z) → Changed c s e (q ∷ l)
-      to t = or_cases (gapFlag q || ownFlag q) z t (λ u. or_cases (gapFlag q) (ownFlag q) u by-gap by-record) (λ u. by-others (f.0 u))
+      to : T (gap_flag q || own_flag q || z) → Changed c s e (q ∷ l)
+      to t = or_cases (gap_flag q || own_flag q) z t (λ u. or_cases (gap_flag q) (own_flag q) u by-gap by-record) (λ u. by-others (f.0 u))
 
-      from : Changed c s e (q ∷ l) → T (gapFlag q || ownFlag q || z)
+      from : Changed c s e (q ∷ l) → T (gap_flag q || own_flag q || z)
       from x = let a = x.0 in let i = x.1 in let j = x.2 in elim (pos q.start q.end a) [
         | below u ↦
             let t = at-look c (sym (look-low q.start a (q ∷ l) (le_refl _, o.1, o.2) u)) x.3 in
-            or_l (gapFlag q || ownFlag q) z (or_l (gapFlag q) (ownFlag q) (and_i (c none) (ltb s (min e q.start)) t (lt→ltb s (min e q.start) (omega arith))))
+            or_l (gap_flag q || own_flag q) z (or_l (gap_flag q) (own_flag q) (and_i (c none) (ltb s (min e q.start)) t (lt→ltb s (min e q.start) (omega arith))))
         | inside u v ↦
             let t = at-look c (sym (within_in q.start q.end a (some q.counts) (look l a) u v)) x.3 in
             let m = and_i (ltb s q.end) (ltb q.start e) (lt→ltb s q.end (omega arith)) (lt→ltb q.start e (omega arith)) in
-            or_l (gapFlag q || ownFlag q) z (or_r (gapFlag q) (ownFlag q) (and_i (meets s e q) (c (some q.counts)) m t))
+            or_l (gap_flag q || own_flag q) z (or_r (gap_flag q) (own_flag q) (and_i (meets s e q) (c (some q.counts)) m t))
         | above u ↦
             let t = at-look c (sym (within-hi q.start q.end a (some q.counts) (look l a) u)) x.3 in
-            or_r (gapFlag q || ownFlag q) z (f.1 (a, omega arith, j, t))
+            or_r (gap_flag q || own_flag q) z (f.1 (a, omega arith, j, t))
       ]
 
   -- where nothing changes at an address with no record, the range may begin where the records do

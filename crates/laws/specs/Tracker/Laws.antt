@@ -5,7 +5,7 @@ use Rattle.std.proofs.Common.{◌∙◌, arith}
 use Rattle.std.proofs.Math.Option.{Option}
 use Rattle.model.specs.Outcome.{Outcome}
 use Rattle.model.specs.State.{Counts, Record, Pool}
-use Rattle.model.specs.Fields.{Field, isMarked}
+use Rattle.model.specs.Fields.{Field, is_marked}
 use Rattle.model.specs.Tracker.{Walk, merged, gain, lose}
 use Rattle.model.specs.Sound.{Rising, Merged}
 use Rattle.laws.specs.Accepted.{All, accepted, bind, weaken}
@@ -21,7 +21,7 @@ pub record Done (g : Option Counts → Option Counts) (s e : ℕ) (l : List Reco
   pub reads : Turned g s e l w.records
   pub rising : Rising 0 w.records
   pub merged : Merged w.records
-  pub flag : (f : Field) → Flagged (moves g f) s e l (isMarked f w.marks)
+  pub flag : (f : Field) → Flagged (moves g f) s e l (is_marked f w.marks)
 
 merged-done : (g : Option Counts → Option Counts) (s e : ℕ) (l : List Record) (m : Outcome Walk) → All (Walked g 0 s e l) m → All (Done g s e l) (merged m)
 unfolding merged

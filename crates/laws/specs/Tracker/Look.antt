@@ -7,8 +7,8 @@ use Rattle.std.proofs.lemmas.Bool.{lt-leb}
 use Rattle.base.specs.Cases.{lt, ge, cmp, below, inside, above, pos}
 use Rattle.model.specs.Lists.{Each}
 use Rattle.model.specs.State.{Counts, Record}
-use Rattle.model.specs.Counts.{countsAt}
-use Rattle.model.specs.Tracker.{noCounts}
+use Rattle.model.specs.Counts.{counts_at}
+use Rattle.model.specs.Tracker.{no_counts}
 use Rattle.model.specs.Sound.{Rising}
 use Rattle.laws.specs.Within.{within, W, within_in, within-hi}
 
@@ -45,11 +45,11 @@ look-head lo q l o = within_in _ _ _ _ _ (omega arith) o.1
 
 -- ---- the stored counts
 
-abbrev pub countsOf : Option Counts → Counts
-countsOf none = noCounts
-countsOf (some k) = k
+abbrev pub counts_of : Option Counts → Counts
+counts_of none = no_counts
+counts_of (some k) = k
 
-pub counts-look : (l : List Record) (a : ℕ) → countsAt l a ≡ countsOf (look l a)
+pub counts-look : (l : List Record) (a : ℕ) → counts_at l a ≡ counts_of (look l a)
 counts-look [] a = refl
 counts-look (q ∷ l) a = elim (pos q.start q.end a) [
   | below h ↦ rw (lt-leb q.start a h) (simp W (counts-look l a))

@@ -8,7 +8,7 @@ use Rattle.std.specs.Float.Ieee.Fits.{and_l, and_r, and_i}
 use Rattle.base.specs.Cases.{lt, ge, cmp, below, inside, above, pos}
 use Rattle.model.specs.State.{Counts, Record, Pool}
 use Rattle.model.specs.Fields.{Field, get, each}
-use Rattle.model.specs.Tracker.{withEnd, sameCounts, mergeable, mergeInto, coalesce}
+use Rattle.model.specs.Tracker.{with_end, same_counts, mergeable, merge_into, coalesce}
 use Rattle.model.specs.Sound.{Rising, Merged}
 use Rattle.laws.specs.Fields.{every-field}
 use Rattle.laws.specs.Accepted.{All, accepted, bind, bind-any, weaken, branch-on}
@@ -17,7 +17,7 @@ use Rattle.laws.specs.Within.{within, W}
 
 -- ---- when two records may be one
 
-same→eq : (j k : Counts) → T (sameCounts j k) → j ≡ k
+same→eq : (j k : Counts) → T (same_counts j k) → j ≡ k
 same→eq j k t =
     let e : (f : Field) → get f j ≡ get f k = λ f. eqb→eq _ _ (every-field (λ g. eqb (get g j) (get g k)) (search and_l) f) in
     let u : j.uncacheable ≡ k.uncacheable = eqb→eq _ _ (search and_r) in
@@ -31,7 +31,7 @@ pub →mergeable : (q n : Record) → q.end ≡ n.start → q.counts ≡ n.count
 
 -- ---- one merge
 
-join : (q n : Record) (l : List Record) (a : ℕ) → q.start < q.end → n.start < n.end → q.end ≡ n.start → q.counts ≡ n.counts → look (withEnd n.end q ∷ l) a ≡ look (q ∷ n ∷ l) a
+join : (q n : Record) (l : List Record) (a : ℕ) → q.start < q.end → n.start < n.end → q.end ≡ n.start → q.counts ≡ n.counts → look (with_end n.end q ∷ l) a ≡ look (q ∷ n ∷ l) a
 join q n l a h i e k = elim (pos q.start n.end a) [
   | below j ↦ let u : a < n.start = omega arith in simp W
   | inside j m ↦ elim (cmp a q.end) [
@@ -72,7 +72,7 @@ pub record Coalesced (lo : ℕ) (l : List Record) (x : List Record × Pool) : Ty
   pub apart : (n : Record) → Apart n l → Apart n x.0
 
 module _ (lo : ℕ) (q n : Record) (l : List Record) (o : Rising lo (q ∷ n ∷ l)) (x : List Record × Pool) where
-  joined : T (mergeable q n) → Coalesced lo (withEnd n.end q ∷ l) x → Coalesced lo (q ∷ n ∷ l) x
+  joined : T (mergeable q n) → Coalesced lo (with_end n.end q ∷ l) x → Coalesced lo (q ∷ n ∷ l) x
   joined t f =
       let ek = mergeable→ q n t in
       record { alike = λ a. f.alike a ∙ join q n l a o.1 o.2.1 ek.0 ek.1; rising = f.rising; merged = f.merged; apart = f.apart }
@@ -85,13 +85,13 @@ module _ (lo : ℕ) (q n : Record) (l : List Record) (o : Rising lo (q ∷ n ∷
     apart = λ m h. h;
   }
 
-merge-law : (lo : ℕ) (q : Record) (l : List Record) (p : Pool) → Rising lo (q ∷ l) → All (Coalesced lo (q ∷ l)) (mergeInto q l p)
-unfolding mergeInto
+merge-law : (lo : ℕ) (q : Record) (l : List Record) (p : Pool) → Rising lo (q ∷ l) → All (Coalesced lo (q ∷ l)) (merge_into q l p)
+unfolding merge_into
 merge-law lo q [] p o = accepted (record { alike = λ a. refl; rising = o; merged = tt; apart = λ m h. h })
 merge-law lo q (n ∷ l) p o =
     branch-on (mergeable q n)
     (λ t. let ek = mergeable→ q n t in let e = ek.0 in
-    bind-any _ (λ p'. weaken (merge-law lo (withEnd n.end q) l p' (omega arith, omega arith, o.2.2)) (λ x f. joined lo q n l o x t f)))
+    bind-any _ (λ p'. weaken (merge-law lo (with_end n.end q) l p' (omega arith, omega arith, o.2.2)) (λ x f. joined lo q n l o x t f)))
     (λ t. bind (merge-law q.end n l p o.2) (λ x f. accepted (left lo q n l o x t f)))
 
 pub coalesce-law : (lo : ℕ) (l : List Record) (p : Pool) → Rising lo l → All (Coalesced lo l) (coalesce l p)

@@ -4,9 +4,9 @@ use Rattle.std.specs.Prelude.{◌≡◌, refl, ◌⊎◌, ℕ, List, [], ◌∷�
 use Rattle.std.proofs.Common.{arith}
 use Rattle.model.specs.Outcome.{Outcome, refuse}
 use Rattle.refusals.specs.declared.Refusal.{Refusal}
-use Rattle.refusals.specs.Refusals.{noTracker, spent}
+use Rattle.refusals.specs.Refusals.{no_tracker, spent}
 use Rattle.model.specs.State.{Record, Pool}
-use Rattle.model.specs.Tracker.{Walk, raise, withEnd, withCounts, splitAt, cutBefore, cutAfter, fillGap, addTo, addRegion, keepOrDrop, removeFrom, removeRegion, meets, mergeable, mergeInto, coalesce, merged, gain, lose}
+use Rattle.model.specs.Tracker.{Walk, raise, with_end, with_counts, split_at, cut_before, cut_after, fill_gap, add_to, add_region, keep_or_drop, remove_from, remove_region, meets, mergeable, merge_into, coalesce, merged, gain, lose}
 use Rattle.laws.specs.Accepted.{All}
 use Rattle.laws.specs.Answers.{Gives, gives, gives_then, gives-weaken, gives-branch, answer, refusal}
 use Rattle.laws.specs.Tracker.Pools.{Moved, NoRecord, uses-append, moved_none, moved_then, frame, allocate-moves, free-moves}
@@ -17,38 +17,38 @@ Walks p l w = Moved p w.pool l w.records
 
 -- ---- the pieces
 
-split_moves : (a : ℕ) (q : Record) (p : Pool) → Gives (λ (x : Record × Record × Pool). Moved p x.2 (q ∷ []) (x.0 ∷ x.1 ∷ [])) NoRecord (splitAt a q p)
-unfolding splitAt
+split_moves : (a : ℕ) (q : Record) (p : Pool) → Gives (λ (x : Record × Record × Pool). Moved p x.2 (q ∷ []) (x.0 ∷ x.1 ∷ [])) NoRecord (split_at a q p)
+unfolding split_at
 split_moves a q p = gives_then (allocate-moves p) (λ x h. gives (frame (h (record { slot = x.0; start = a; end = q.end; counts = q.counts }) refl) (λ i. omega arith)))
 
-before-moves : (s : ℕ) (q : Record) (p : Pool) → Gives (λ (x : List Record × Record × Pool). Moved p x.2 (q ∷ []) (x.0 ++ (x.1 ∷ []))) NoRecord (cutBefore s q p)
-unfolding cutBefore
+before-moves : (s : ℕ) (q : Record) (p : Pool) → Gives (λ (x : List Record × Record × Pool). Moved p x.2 (q ∷ []) (x.0 ++ (x.1 ∷ []))) NoRecord (cut_before s q p)
+unfolding cut_before
 before-moves s q p = gives-branch (ltb q.start s) (gives_then (split_moves s q p) (λ x h. gives h)) (gives (moved_none p (q ∷ [])))
 
-after-moves : (e : ℕ) (q : Record) (p : Pool) → Gives (λ (x : Record × List Record × Pool). Moved p x.2 (q ∷ []) (x.0 ∷ x.1)) NoRecord (cutAfter e q p)
-unfolding cutAfter
+after-moves : (e : ℕ) (q : Record) (p : Pool) → Gives (λ (x : Record × List Record × Pool). Moved p x.2 (q ∷ []) (x.0 ∷ x.1)) NoRecord (cut_after e q p)
+unfolding cut_after
 after-moves e q p = gives-branch (ltb e q.end) (gives_then (split_moves e q p) (λ x h. gives h)) (gives (moved_none p (q ∷ [])))
 
-gap-moves : (r s e : ℕ) (p : Pool) → Gives (λ (x : List Record × Pool). Moved p x.1 [] x.0) NoRecord (fillGap r s e p)
-unfolding fillGap
+gap-moves : (r s e : ℕ) (p : Pool) → Gives (λ (x : List Record × Pool). Moved p x.1 [] x.0) NoRecord (fill_gap r s e p)
+unfolding fill_gap
 gap-moves r s e p = gives-branch (ltb s e) (gives_then (allocate-moves p) (λ x h. gives (h _ refl))) (gives (moved_none p []))
 
-drop-moves : (q : Record) (p : Pool) → Gives (λ (x : List Record × Pool). Moved p x.1 (q ∷ []) x.0) NoRecord (keepOrDrop q p)
-unfolding keepOrDrop
+drop-moves : (q : Record) (p : Pool) → Gives (λ (x : List Record × Pool). Moved p x.1 (q ∷ []) x.0) NoRecord (keep_or_drop q p)
+unfolding keep_or_drop
 drop-moves q p = gives-branch (eqb q.counts.reach 0) (gives_then (free-moves q p) (λ p' h. gives h)) (gives (moved_none p (q ∷ [])))
 
 -- ---- the walks
 
-add-to-moves : (r s e : ℕ) (q : Record) (p : Pool) → Gives (Walks p (q ∷ [])) NoRecord (addTo r s e q p)
-unfolding addTo
+add-to-moves : (r s e : ℕ) (q : Record) (p : Pool) → Gives (Walks p (q ∷ [])) NoRecord (add_to r s e q p)
+unfolding add_to
 add-to-moves r s e q p =
     gives-branch (meets s e q)
     (gives_then (before-moves s q p) (λ x h. gives_then (after-moves e x.1 x.2) (λ y k.
-    gives (moved_then h k (λ i. omega (arith, uses-append i x.0 (x.1 ∷ []), uses-append i x.0 (withCounts (raise r y.0.counts) y.0 ∷ y.1)))))))
+    gives (moved_then h k (λ i. omega (arith, uses-append i x.0 (x.1 ∷ []), uses-append i x.0 (with_counts (raise r y.0.counts) y.0 ∷ y.1)))))))
     (gives (moved_none p (q ∷ [])))
 
-pub add-moves : (r s e : ℕ) (l : List Record) (p : Pool) → Gives (Walks p l) NoRecord (addRegion r s e l p)
-unfolding addRegion
+pub add-moves : (r s e : ℕ) (l : List Record) (p : Pool) → Gives (Walks p l) NoRecord (add_region r s e l p)
+unfolding add_region
 add-moves r s e [] p = gives_then (gap-moves r s e p) (λ x h. gives h)
 add-moves r s e (q ∷ l) p =
     gives_then (gap-moves _ _ _ p) (λ x h.
@@ -56,8 +56,8 @@ add-moves r s e (q ∷ l) p =
     gives_then (add-moves _ _ _ l w.pool) (λ v j.
     gives (moved_then (moved_then {l₂ = q ∷ []} {m₂ = x.0 ++ w.records} h k (λ i. omega (arith, uses-append i x.0 w.records))) j (λ i. omega (arith, uses-append i (x.0 ++ w.records) v.records))))))
 
-remove-from-moves : (r s e : ℕ) (q : Record) (p : Pool) → Gives (Walks p (q ∷ [])) NoRecord (removeFrom r s e q p)
-unfolding removeFrom
+remove-from-moves : (r s e : ℕ) (q : Record) (p : Pool) → Gives (Walks p (q ∷ [])) NoRecord (remove_from r s e q p)
+unfolding remove_from
 remove-from-moves r s e q p =
     gives-branch (meets s e q)
     (gives_then (before-moves s q p) (λ x h. gives_then (after-moves e x.1 x.2) (λ y k. gives_then (drop-moves _ y.2) (λ u j.
@@ -65,19 +65,19 @@ remove-from-moves r s e q p =
     (λ i. omega (arith, uses-append i x.0 (y.0 ∷ y.1), uses-append i x.0 u.0, uses-append i (x.0 ++ u.0) y.1)))))))
     (gives (moved_none p (q ∷ [])))
 
-pub remove-moves : (r s e : ℕ) (l : List Record) (p : Pool) → Gives (Walks p l) NoRecord (removeRegion r s e l p)
-unfolding removeRegion
+pub remove-moves : (r s e : ℕ) (l : List Record) (p : Pool) → Gives (Walks p l) NoRecord (remove_region r s e l p)
+unfolding remove_region
 remove-moves r s e [] p = gives (moved_none p [])
 remove-moves r s e (q ∷ l) p = gives_then (remove-from-moves r s e q p) (λ w k. gives_then (remove-moves r s e l w.pool) (λ v j. gives (moved_then k j (λ i. omega (arith, uses-append i w.records v.records)))))
 
 -- ---- the merge
 
-merge-moves : (q : Record) (l : List Record) (p : Pool) → Gives (λ (x : List Record × Pool). Moved p x.1 (q ∷ l) x.0) NoRecord (mergeInto q l p)
-unfolding mergeInto
+merge-moves : (q : Record) (l : List Record) (p : Pool) → Gives (λ (x : List Record × Pool). Moved p x.1 (q ∷ l) x.0) NoRecord (merge_into q l p)
+unfolding merge_into
 merge-moves q [] p = gives (moved_none p (q ∷ []))
 merge-moves q (n ∷ l) p =
     gives-branch (mergeable q n)
-    (gives_then (free-moves n p) (λ p₁ h. gives-weaken (merge-moves (withEnd n.end q) l p₁) (λ x k. moved_then h k (λ i. omega arith))))
+    (gives_then (free-moves n p) (λ p₁ h. gives-weaken (merge-moves (with_end n.end q) l p₁) (λ x k. moved_then h k (λ i. omega arith))))
     (gives_then (merge-moves n l p) (λ x h. gives (frame h (λ i. omega arith))))
 
 coalesce-moves : (l : List Record) (p : Pool) → Gives (λ (x : List Record × Pool). Moved p x.1 l x.0) NoRecord (coalesce l p)
@@ -107,8 +107,8 @@ module _ (r s e : ℕ) (l : List Record) (p : Pool) where
   lose-slots = answer lose-moves
 
   -- nothing else is refused
-  pub gain-refusals : (x : Refusal) → gain r s e l p ≡ refuse x → (x ≡ noTracker) ⊎ (x ≡ spent)
+  pub gain-refusals : (x : Refusal) → gain r s e l p ≡ refuse x → (x ≡ no_tracker) ⊎ (x ≡ spent)
   gain-refusals = refusal gain-moves
 
-  pub lose-refusals : (x : Refusal) → lose r s e l p ≡ refuse x → (x ≡ noTracker) ⊎ (x ≡ spent)
+  pub lose-refusals : (x : Refusal) → lose r s e l p ≡ refuse x → (x ≡ no_tracker) ⊎ (x ≡ spent)
   lose-refusals = refusal lose-moves

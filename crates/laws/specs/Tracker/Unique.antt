@@ -6,10 +6,10 @@ use Rattle.std.proofs.Math.Option.{Option, none, some}
 use Rattle.base.specs.Cases.{lt, ge, cmp}
 use Rattle.model.specs.Lists.{Each}
 use Rattle.model.specs.State.{Counts, Record}
-use Rattle.model.specs.Counts.{countsAt}
+use Rattle.model.specs.Counts.{counts_at}
 use Rattle.model.specs.Tracker.{mergeable}
 use Rattle.model.specs.Sound.{Rising, Merged}
-use Rattle.laws.specs.Tracker.Look.{look, look-low, look-head, countsOf, counts-look, Has, has-look}
+use Rattle.laws.specs.Tracker.Look.{look, look-low, look-head, counts_of, counts-look, Has, has-look}
 use Rattle.laws.specs.Tracker.Span.{weaken-rising}
 use Rattle.laws.specs.Tracker.Merge.{Apart, →mergeable, merged-head, merged-tail}
 use Rattle.laws.specs.Within.{within_in, within-hi}
@@ -67,14 +67,14 @@ unique lo (q ∷ l) (n ∷ m) o o' g g' f =
     ]))
 
 -- counts with a reach above 0 stand in a record
-same-options : (x y : Option Counts) → Has (λ k. 0 < k.reach) x → Has (λ k. 0 < k.reach) y → countsOf x ≡ countsOf y → x ≡ y
+same-options : (x y : Option Counts) → Has (λ k. 0 < k.reach) x → Has (λ k. 0 < k.reach) y → counts_of x ≡ counts_of y → x ≡ y
 same-options none none v w e = refl
 same-options none (some k) v w e = absurd (omega (arith, ap (λ (c : Counts). c.reach) e))
 same-options (some k) none v w e = absurd (omega (arith, ap (λ (c : Counts). c.reach) e))
 same-options (some j) (some k) v w e = ap some e
 
 -- The same stored counts everywhere.
-pub unique-counts : (l m : List Record) → Rising 0 l → Rising 0 m → Merged l → Merged m → Each (λ q. 0 < q.counts.reach) l → Each (λ q. 0 < q.counts.reach) m → ((a : ℕ) → countsAt l a ≡ countsAt m a) → map stripped l ≡ map stripped m
+pub unique-counts : (l m : List Record) → Rising 0 l → Rising 0 m → Merged l → Merged m → Each (λ q. 0 < q.counts.reach) l → Each (λ q. 0 < q.counts.reach) m → ((a : ℕ) → counts_at l a ≡ counts_at m a) → map stripped l ≡ map stripped m
 unique-counts l m o o' g g' v w f =
     unique 0 l m o o' g g'
     (λ a. same-options (look l a) (look m a) (has-look (λ k. 0 < k.reach) l v a) (has-look (λ k. 0 < k.reach) m w a) (sym (counts-look l a) ∙ f a ∙ counts-look m a))

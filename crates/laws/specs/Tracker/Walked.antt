@@ -9,8 +9,8 @@ use Rattle.base.specs.Tests.{false-is}
 use Rattle.rights.specs.Rights.{union}
 use Rattle.model.specs.Lists.{if◌then◌else◌, is_empty}
 use Rattle.model.specs.State.{Counts, Record, Pool}
-use Rattle.model.specs.Fields.{Field, get, isMarked}
-use Rattle.model.specs.Tracker.{Walk, noCounts, newCounts, crosses, fillMarks, addRegion, removeRegion}
+use Rattle.model.specs.Fields.{Field, get, is_marked}
+use Rattle.model.specs.Tracker.{Walk, no_counts, new_counts, crosses, fill_marks, add_region, remove_region}
 use Rattle.model.specs.Sound.{Rising}
 use Rattle.laws.specs.Accepted.{All, accepted, bind}
 use Rattle.laws.specs.Tracker.Look.{look, first-none, look-append, look-low}
@@ -18,7 +18,7 @@ use Rattle.laws.specs.Tracker.Span.{Span, span-append, span-rising, rising-of}
 use Rattle.laws.specs.Tracker.Cut.{Reads, Gap, gap-law}
 use Rattle.laws.specs.Tracker.Marks.{marked-where, marked-union, marked-none}
 use Rattle.laws.specs.Tracker.One.{gained, lost, moves, One, add-one, remove-one}
-use Rattle.laws.specs.Tracker.Flag.{Flagged, gapFlag, flag-nil, flag-cons, flag-late}
+use Rattle.laws.specs.Tracker.Flag.{Flagged, gap_flag, flag-nil, flag-cons, flag-late}
 use Rattle.laws.specs.Within.{within, W, within_same}
 
 -- what the list reads as after a change g from s up to e
@@ -27,7 +27,7 @@ Turned g s e l m = (a : ℕ) → look m a ≡ within s e a (g (look l a)) (look 
 
 -- nothing moves where nothing is made of no counts
 still : (g : Option Counts → Option Counts) (f : Field) → g none ≡ none → moves g f none ≡ false
-still g f h = rw h (same (eqb (get f noCounts) 0))
+still g f h = rw h (same (eqb (get f no_counts) 0))
   where
     same : (b : Bool) → (if b then not b else b) ≡ false
     same true = refl
@@ -36,7 +36,7 @@ still g f h = rw h (same (eqb (get f noCounts) 0))
 pub record Walked (g : Option Counts → Option Counts) (lo s e : ℕ) (l : List Record) (w : Walk) : Type 0 where
   pub reads : Turned g s e l w.records
   pub rising : Rising lo w.records
-  pub flag : (f : Field) → Flagged (moves g f) s e l (isMarked f w.marks)
+  pub flag : (f : Field) → Flagged (moves g f) s e l (is_marked f w.marks)
 
 module _ (g : Option Counts → Option Counts) (s e : ℕ) where
   -- what is in the gap, the first record and the rest, put together
@@ -56,16 +56,16 @@ module _ (g : Option Counts → Option Counts) (s e : ℕ) where
   ]))
 
   -- n fills the gap before q, h is what became of q, and w of the others; x has the marks of all three
-  walked-cons : (lo : ℕ) (q : Record) (l n : List Record) (x : ℕ) (h w : Walk) → Rising lo (q ∷ l) → (q.start < e → s < e) → Reads n s (min e q.start) (g none) → Span lo q.start n → ((f : Field) → isMarked f x ≡ (gapFlag (moves g f) s e q || isMarked f h.marks || isMarked f w.marks)) → One g s e q h → Walked g q.end (max s q.end) e l w → Walked g lo s e (q ∷ l) (record { records = n ++ h.records ++ w.records; pool = w.pool; marks = x })
+  walked-cons : (lo : ℕ) (q : Record) (l n : List Record) (x : ℕ) (h w : Walk) → Rising lo (q ∷ l) → (q.start < e → s < e) → Reads n s (min e q.start) (g none) → Span lo q.start n → ((f : Field) → is_marked f x ≡ (gap_flag (moves g f) s e q || is_marked f h.marks || is_marked f w.marks)) → One g s e q h → Walked g q.end (max s q.end) e l w → Walked g lo s e (q ∷ l) (record { records = n ++ h.records ++ w.records; pool = w.pool; marks = x })
   walked-cons lo q l n x h w o z rn k m one rest = record {
     reads = chain q l n h.records w.records o.1 o.2 rn one.reads rest.reads;
     rising = span-rising lo q.end (n ++ h.records) w.records (span-append lo q.start q.end n h.records k one.span) rest.rising;
-    flag = λ f. rw (m f, one.flag f) (flag-cons (moves g f) s e lo q l (isMarked f w.marks) o z (rest.flag f));
+    flag = λ f. rw (m f, one.flag f) (flag-cons (moves g f) s e lo q l (is_marked f w.marks) o z (rest.flag f));
   }
 
   -- where nothing is made of an address with no record, the range may begin where the records do
   walked-late : (lo : ℕ) (l : List Record) (w : Walk) → g none ≡ none → Rising lo l → Walked g lo s e l w → Walked g lo (max s lo) e l w
-  walked-late lo l w n o k = record { reads = late; rising = k.rising; flag = λ f. flag-late (moves g f) s e lo l (isMarked f w.marks) (still g f n) o (k.flag f) }
+  walked-late lo l w n o k = record { reads = late; rising = k.rising; flag = λ f. flag-late (moves g f) s e lo l (is_marked f w.marks) (still g f n) o (k.flag f) }
     where
       late : Turned g (max s lo) e l w.records
       late a = k.reads a ∙ elim (cmp a lo) [
@@ -80,24 +80,24 @@ module _ (g : Option Counts → Option Counts) (s e : ℕ) where
 -- ---- the marks of a step
 
 -- what is filled has the marks of its counts
-fill-marked : (r : ℕ) (f : Field) (n : List Record) → isMarked f (fillMarks r n) ≡ (moves (gained r) f none && not (is_empty n))
+fill-marked : (r : ℕ) (f : Field) (n : List Record) → is_marked f (fill_marks r n) ≡ (moves (gained r) f none && not (is_empty n))
 fill-marked r f [] = marked-none f ∙ sym (and-false (moves (gained r) f none))
-fill-marked r f (q ∷ n) = marked-where (λ g. crosses (get g noCounts) (get g (newCounts r))) f ∙ sym (and-true (moves (gained r) f none))
+fill-marked r f (q ∷ n) = marked-where (λ g. crosses (get g no_counts) (get g (new_counts r))) f ∙ sym (and-true (moves (gained r) f none))
 
 -- a gap, a record and the others; and without a gap
 module _ (r : ℕ) (f : Field) (s e : ℕ) (q : Record) where
-  three-marked : (n : List Record) (h w : ℕ) → not (is_empty n) ≡ ltb s (min e q.start) → isMarked f (union (union (fillMarks r n) h) w) ≡ (gapFlag (moves (gained r) f) s e q || isMarked f h || isMarked f w)
-  three-marked n h w k = rw (marked-union f (union (fillMarks r n) h) w, marked-union f (fillMarks r n) h, fill-marked r f n, k)
+  three-marked : (n : List Record) (h w : ℕ) → not (is_empty n) ≡ ltb s (min e q.start) → is_marked f (union (union (fill_marks r n) h) w) ≡ (gap_flag (moves (gained r) f) s e q || is_marked f h || is_marked f w)
+  three-marked n h w k = rw (marked-union f (union (fill_marks r n) h) w, marked-union f (fill_marks r n) h, fill-marked r f n, k)
 
-  two-marked : (h w : ℕ) → isMarked f (union h w) ≡ (gapFlag (moves (lost r) f) s e q || isMarked f h || isMarked f w)
+  two-marked : (h w : ℕ) → is_marked f (union h w) ≡ (gap_flag (moves (lost r) f) s e q || is_marked f h || is_marked f w)
   two-marked h w = rw (still (lost r) f refl) (marked-union f h w)
 
 -- From s on, s < e or nothing is left to fill.
-pub add-walked : (r s e lo : ℕ) (l : List Record) (p : Pool) → Rising lo l → lo ≤ s → s < max e (lo + 1) → All (Walked (gained r) lo s e l) (addRegion r s e l p)
-unfolding addRegion
+pub add-walked : (r s e lo : ℕ) (l : List Record) (p : Pool) → Rising lo l → lo ≤ s → s < max e (lo + 1) → All (Walked (gained r) lo s e l) (add_region r s e l p)
+unfolding add_region
 add-walked r s e lo [] p o u z = bind (gap-law r s e p) (λ x h. accepted (filled x h))
   where
-    filled : (x : List Record × Pool) → Gap r s e x → Walked (gained r) lo s e [] (record { records = x.0; pool = x.1; marks = fillMarks r x.0 })
+    filled : (x : List Record × Pool) → Gap r s e x → Walked (gained r) lo s e [] (record { records = x.0; pool = x.1; marks = fill_marks r x.0 })
     filled x h = record { reads = h.reads; rising = rising-of lo (max s e) x.0 (h.span lo (max s e) u (omega arith) (omega arith)); flag = λ f. rw (fill-marked r f x.0, h.filled) (flag-nil (moves (gained r) f) s e) }
 add-walked r s e lo (q ∷ l) p o u z =
     bind (gap-law r s (min e q.start) p) (λ x f.
@@ -105,8 +105,8 @@ add-walked r s e lo (q ∷ l) p o u z =
     bind (add-walked r (max s q.end) e q.end l h.pool o.2 (omega arith) (omega arith)) (λ w rest.
     accepted (walked-cons (gained r) s e lo q l x.0 _ h w o (λ i. omega arith) f.reads (f.span lo q.start u o.0 (omega arith)) (λ g. three-marked r g s e q x.0 h.marks w.marks f.filled) one rest))))
 
-pub remove-walked : (r s e lo : ℕ) (l : List Record) (p : Pool) → Rising lo l → s < e → All (Walked (lost r) lo s e l) (removeRegion r s e l p)
-unfolding removeRegion
+pub remove-walked : (r s e lo : ℕ) (l : List Record) (p : Pool) → Rising lo l → s < e → All (Walked (lost r) lo s e l) (remove_region r s e l p)
+unfolding remove_region
 remove-walked r s e lo [] p o z = accepted nothing
   where
     nothing : Walked (lost r) lo s e [] (record { records = []; pool = p; marks = 0 })

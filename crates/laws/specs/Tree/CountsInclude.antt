@@ -4,10 +4,10 @@ use Rattle.std.specs.Prelude.{◌≡◌, refl, ℕ, zero, suc, ◌+◌, ◌≤�
 use Rattle.std.proofs.Common.{◌∙◌, arith, eq-eqb, ne_eqb}
 use Rattle.std.proofs.Math.Option.{Option, none, some}
 use Rattle.base.specs.Cases.{below, inside, above, pos, Test, test}
-use Rattle.model.specs.Lists.{if◌then◌else◌, atSlot, In}
+use Rattle.model.specs.Lists.{if◌then◌else◌, at_slot, In}
 use Rattle.model.specs.State.{Region, Counts}
 use Rattle.model.specs.Fields.{Field, counter, passes}
-use Rattle.model.specs.Counts.{Agree, regionCount}
+use Rattle.model.specs.Counts.{Agree, region_count}
 use Rattle.laws.specs.Stack.{one_at_most}
 use Rattle.laws.specs.Tracker.Fields.{Enough, enough}
 use Rattle.laws.specs.Tree.Sum.{sum, sum-le, sum_one}
@@ -18,7 +18,7 @@ use Rattle.laws.specs.Within.{W, within_in}
 -- the counts of d at a are those of rights r and of others
 pub record CountsInclude (rs : List (Option Region)) (d a r : ℕ) : Type 0 where
   pub rest : Field → ℕ
-  pub whole : (f : Field) → regionCount f rs d a ≡ rest f + counter f r
+  pub whole : (f : Field) → region_count f rs d a ≡ rest f + counter f r
   pub less : (f : Field) → rest f ≤ rest Field.Reach
 
 pub include-enough : (rs : List (Option Region)) (d a r : ℕ) (k : Counts) → CountsInclude rs d a r → Agree rs d a k → Enough r k
@@ -51,10 +51,10 @@ module _ (rs : List (Option Region)) (k : ℕ) (g : Region) (e : In rs k g) (a :
   but-le : (f : Field) (j : ℕ) → but f j ≤ but Field.Reach j
   but-le f j = elim (test (eqb j k)) [
     | Test.holds t ↦ rw t (omega arith)
-    | Test.fails t ↦ rw t (clear-le (carved rs j a) _ _ (share-le f (atSlot rs j) g.owner a))
+    | Test.fails t ↦ rw t (clear-le (carved rs j a) _ _ (share-le f (at_slot rs j) g.owner a))
   ]
 
-  but-whole : g.start ≤ a → a < g.end → carved rs k a ≡ 0 → (f : Field) → regionCount f rs g.owner a ≡ sum (but f) (length rs) + counter f g.rights
+  but-whole : g.start ≤ a → a < g.end → carved rs k a ≡ 0 → (f : Field) → region_count f rs g.owner a ≡ sum (but f) (length rs) + counter f g.rights
   but-whole u v z f =
       let own : weight f rs g.owner a k ≡ counter f g.rights = clear-0 (carved rs k a) _ z ∙ rw e (within_in _ _ _ _ _ u v ∙ rw (eq-eqb g.owner g.owner refl)) in
       let gone : but f k ≡ 0 = rw (eq-eqb k k refl) in

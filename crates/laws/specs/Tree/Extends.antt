@@ -4,7 +4,7 @@ use Rattle.std.specs.Prelude.{◌≡◌, refl, ℕ, ◌<◌, T}
 use Rattle.std.proofs.Common.{ap, arith}
 use Rattle.rights.specs.Rights.{union, allowed}
 use Rattle.rights.specs.Joined.{joined-read, joined-write, joined-exec, joined-super, union-byte, joined-child, joined-parent}
-use Rattle.model.specs.Lists.{oneIf}
+use Rattle.model.specs.Lists.{one_if}
 use Rattle.model.specs.Fields.{Field, counter}
 use Rattle.laws.specs.Tree.Facts.{byte-allowed}
 
@@ -19,10 +19,10 @@ extends-same old new e = record { counted = λ f. rw e; byte = λ h. omega arith
 
 joined-counter : (r f : ℕ) → T (allowed 0 f) → (k : Field) → counter k (union r f) ≡ counter k r
 joined-counter r f t Field.Reach = refl
-joined-counter r f t Field.Read = ap oneIf (joined-read r f t)
-joined-counter r f t Field.Write = ap oneIf (joined-write r f t)
-joined-counter r f t Field.Exec = ap oneIf (joined-exec r f t)
-joined-counter r f t Field.Super = ap oneIf (joined-super r f t)
+joined-counter r f t Field.Read = ap one_if (joined-read r f t)
+joined-counter r f t Field.Write = ap one_if (joined-write r f t)
+joined-counter r f t Field.Exec = ap one_if (joined-exec r f t)
+joined-counter r f t Field.Super = ap one_if (joined-super r f t)
 
 pub extends-joined : (r f : ℕ) → T (allowed 0 f) → Extends r (union r f)
 extends-joined r f t = record {

@@ -4,21 +4,21 @@ use Rattle.std.proofs.Common.{sym, ap, ◌∙◌, arith, eqb→eq, lit<, ne_eqb,
 use Rattle.std.proofs.Math.Option.{Option, none, some}
 use Rattle.std.specs.Int.Bits.{bit_and}
 use Rattle.std.proofs.lemmas.Nat.{and_le_l, or_lt}
-use Rattle.rights.specs.Rights.{HASH, CLEANUP, VITAL, union, withExtras, allowed}
+use Rattle.rights.specs.Rights.{HASH, CLEANUP, VITAL, union, with_extras, allowed}
 use Rattle.rights.specs.Bits.{bit}
 use Rattle.rights.specs.Bits.{bit}
 use Rattle.base.specs.Cases.{lt, ge, cmp, holds, fails, test}
 use Rattle.base.specs.Tests.{true-is, is_true}
 use Rattle.base.specs.Options.{none-some, some_same}
 use Rattle.rights.specs.Laws.{allowed-bits}
-use Rattle.model.specs.Lists.{oneIf, countIf, atSlot, In}
+use Rattle.model.specs.Lists.{one_if, count_if, at_slot, In}
 use Rattle.model.specs.State.{Region, Kind, Root, Alias, Carve, parent_of}
 use Rattle.model.specs.Fields.{Field, counter}
-use Rattle.model.specs.Tree.{isCarve, isRootKind, accessOf, overlaps}
+use Rattle.model.specs.Tree.{is_carve, is_root_kind, access_of, overlaps}
 use Rattle.model.specs.Sound.{RegionSound, Rooted, names}
 use Rattle.laws.specs.Stack.{one, one_at_most}
 use Rattle.laws.specs.Tree.Slots.{live-is, each_in}
-use Rattle.laws.specs.Tree.Shares.{childOf, carveOf, child}
+use Rattle.laws.specs.Tree.Shares.{child_of, carve_of, child}
 
 -- every live region of the table is sound
 abbrev pub Regions : List (Option Region) → Type 0
@@ -26,16 +26,16 @@ Regions rs = (i : ℕ) (g : Region) → In rs i g → RegionSound rs i g
 
 -- ---- ones and zeros
 
-pub self : (i : ℕ) → oneIf (eqb i i) ≡ 1
+pub self : (i : ℕ) → one_if (eqb i i) ≡ 1
 self i = one i i refl
 
-pub same : (i j : ℕ) → 0 < oneIf (eqb i j) → i ≡ j
+pub same : (i j : ℕ) → 0 < one_if (eqb i j) → i ≡ j
 same i j h = elim (test (eqb i j)) [ holds t ↦ eqb→eq i j (true-is t) | fails t ↦ absurd (omega (arith, rw t at h)) ]
 
-pub other : (i j : ℕ) → i ≢ j → oneIf (eqb i j) ≡ 0
+pub other : (i j : ℕ) → i ≢ j → one_if (eqb i j) ≡ 0
 other i j h = rw (ne_eqb i j h)
 
-pub carve-child : (k : Kind) (p : ℕ) → carveOf k p ≤ childOf k p
+pub carve-child : (k : Kind) (p : ℕ) → carve_of k p ≤ child_of k p
 carve-child Root p = omega arith
 carve-child (Alias q) p = omega arith
 carve-child (Carve q) p = omega arith
@@ -44,29 +44,29 @@ pub child-le : (x : Option Region) (p : ℕ) → child x p ≤ 1
 child-le none p = omega arith
 child-le (some g) p = one_at_most (names (parent_of g.kind) p)
 
-pub named : (o : Option ℕ) (p : ℕ) → 0 < oneIf (names o p) → o ≡ some p
+pub named : (o : Option ℕ) (p : ℕ) → 0 < one_if (names o p) → o ≡ some p
 named none p h = absurd (omega arith)
 named (some q) p h = ap some (same q p h)
 
 -- what is no root has a parent
-pub not_root : (k : Kind) → T (not (isRootKind k)) → (p : ℕ) × (parent_of k ≡ some p)
+pub not_root : (k : Kind) → T (not (is_root_kind k)) → (p : ℕ) × (parent_of k ≡ some p)
 not_root Root t = absurd t
 not_root (Alias p) t = (p, refl)
 not_root (Carve p) t = (p, refl)
 
-pub has-parent : (k : Kind) (p : ℕ) → 0 < childOf k p → parent_of k ≡ some p
+pub has-parent : (k : Kind) (p : ℕ) → 0 < child_of k p → parent_of k ≡ some p
 has-parent k p h = named (parent_of k) p h
 
-pub hangs : (k : Kind) (p : ℕ) → parent_of k ≡ some p → (q : ℕ) → childOf k q ≡ oneIf (eqb p q)
+pub hangs : (k : Kind) (p : ℕ) → parent_of k ≡ some p → (q : ℕ) → child_of k q ≡ one_if (eqb p q)
 hangs k p e q = rw e
 
-pub is-carve : (k : Kind) (p : ℕ) → 0 < carveOf k p → T (isCarve k)
+pub is-carve : (k : Kind) (p : ℕ) → 0 < carve_of k p → T (is_carve k)
 is-carve Root p h = absurd (omega arith)
 is-carve (Alias q) p h = absurd (omega arith)
 is-carve (Carve q) p h = tt
 
-pub carve-is : (k : Kind) (p : ℕ) → T (isCarve k) → carveOf k p ≡ childOf k p
-carve-is k p t = rw (is_true {b = isCarve k} t)
+pub carve-is : (k : Kind) (p : ℕ) → T (is_carve k) → carve_of k p ≡ child_of k p
+carve-is k p t = rw (is_true {b = is_carve k} t)
 
 -- ---- ranges and rights
 
@@ -74,13 +74,13 @@ carve-is k p t = rw (is_true {b = isCarve k} t)
 abbrev pub Apart : Region → Region → Type 0
 Apart x y = y.start < x.end → y.end ≤ x.start
 
-pub no-overlap : (x y : Region) → T (not (overlaps (accessOf x) y)) → Apart x y
+pub no-overlap : (x y : Region) → T (not (overlaps (access_of x) y)) → Apart x y
 no-overlap x y t l = elim (cmp x.start y.end) [
   | lt u ↦ absurd (rw (lt-ltb x.start y.end u, lt-ltb y.start x.end l) at t)
   | ge u ↦ u
 ]
 
-bit-allowed : (b c : Bool) → (T c → T (b || false || false || false)) → oneIf c ≤ oneIf b
+bit-allowed : (b c : Bool) → (T c → T (b || false || false || false)) → one_if c ≤ one_if b
 bit-allowed true true h = omega arith
 bit-allowed false true h = absurd (h tt)
 bit-allowed b false h = omega arith
@@ -99,7 +99,7 @@ byte-allowed p c t h =
     let hash = or_lt 8 p HASH h (lit< tt) in
     let clean = or_lt 8 (union p HASH) CLEANUP hash (lit< tt) in
     let vital = or_lt 8 (union (union p HASH) CLEANUP) VITAL clean (lit< tt) in
-    omega (arith, eqb→eq (bit_and (withExtras p) c) c t, and_le_l (withExtras p) c, vital)
+    omega (arith, eqb→eq (bit_and (with_extras p) c) c t, and_le_l (with_extras p) c, vital)
 
 -- y lies in the range and rights of the region in slot p
 pub record Under (rs : List (Option Region)) (p : ℕ) (y : Region) : Type 0 where
@@ -112,45 +112,45 @@ pub record Under (rs : List (Option Region)) (p : ℕ) (y : Region) : Type 0 whe
 -- the region in a slot is told by the slot
 pub lies : (rs : List (Option Region)) (p : ℕ) (y h : Region) → Under rs p y → In rs p h → (h.start ≤ y.start) × (y.end ≤ h.end) × T (allowed h.rights y.rights)
 lies rs p y h u e =
-    let z = some_same (atSlot rs p) h u.parent e u.is in
+    let z = some_same (at_slot rs p) h u.parent e u.is in
     rw z (u.low, u.high, u.rights)
 
 -- ---- a parent is not its own
 
 not_own : (rs : List (Option Region)) (i j : ℕ) (g : Region) → In rs i g → parent_of g.kind ≡ some i → Rooted rs j → j ≡ i → ⊥
-not_own rs i j g e q (Rooted.top _ h u v) o = let z : h ≡ g = some_same (atSlot rs i) h g (rw o at u) e in none-some (parent_of g.kind) i (rw z at v) q
+not_own rs i j g e q (Rooted.top _ h u v) o = let z : h ≡ g = some_same (at_slot rs i) h g (rw o at u) e in none-some (parent_of g.kind) i (rw z at v) q
 not_own rs i j g e q (Rooted.under _ p h u v r) o =
-    let z : h ≡ g = some_same (atSlot rs i) h g (rw o at u) e in
+    let z : h ≡ g = some_same (at_slot rs i) h g (rw o at u) e in
     not_own rs i p g e q r (some_same (parent_of g.kind) p i (rw z at v) q)
 
 -- ---- sound regions
 
 module _ (rs : List (Option Region)) (s : Regions rs) where
-  pub under : (k p : ℕ) (x : Region) → In rs k x → 0 < childOf x.kind p → Under rs p x
+  pub under : (k p : ℕ) (x : Region) → In rs k x → 0 < child_of x.kind p → Under rs p x
   under k p x e h =
       let q = has-parent x.kind p h in
-      let l = live-is (atSlot rs p) ((s k x e).parentLive p q) in
+      let l = live-is (at_slot rs p) ((s k x e).parent_live p q) in
       let n = (s k x e).inside p l.0 q l.1 in
-      record { parent = l.0; is = l.1; low = n.0; high = n.1; rights = (s k x e).rightsInside p l.0 q l.1 }
+      record { parent = l.0; is = l.1; low = n.0; high = n.1; rights = (s k x e).rights_inside p l.0 q l.1 }
 
-  pub apart : (j k p : ℕ) (x y : Region) → j ≢ k → In rs j x → In rs k y → 0 < carveOf x.kind p → 0 < childOf y.kind p → Apart x y
+  pub apart : (j k p : ℕ) (x y : Region) → j ≢ k → In rs j x → In rs k y → 0 < carve_of x.kind p → 0 < child_of y.kind p → Apart x y
   apart j k p x y d e e' u v =
       let q = has-parent x.kind p (omega (arith, carve-child x.kind p)) in
-      no-overlap x y ((s j x e).carvesApart k y e' d (is-carve x.kind p u) (q ∙ sym (has-parent y.kind p v)))
+      no-overlap x y ((s j x e).carves_apart k y e' d (is-carve x.kind p u) (q ∙ sym (has-parent y.kind p v)))
 
-  pub own : (i : ℕ) (g : Region) → In rs i g → childOf g.kind i ≡ 0
-  own i g e = elim (cmp 0 (childOf g.kind i)) [
+  pub own : (i : ℕ) (g : Region) → In rs i g → child_of g.kind i ≡ 0
+  own i g e = elim (cmp 0 (child_of g.kind i)) [
     | lt u ↦ absurd (not_own rs i i g e (has-parent g.kind i u) (s i g e).rooted refl)
     | ge u ↦ omega arith
   ]
 
   -- the list of the region in slot p has exactly its live children, each once
-  pub listing : (p : ℕ) (h : Region) → In rs p h → (k : ℕ) → countIf (eqb k) h.children ≡ child (atSlot rs k) p
-  listing p h e k = go (atSlot rs k) refl
+  pub listing : (p : ℕ) (h : Region) → In rs p h → (k : ℕ) → count_if (eqb k) h.children ≡ child (at_slot rs k) p
+  listing p h e k = go (at_slot rs k) refl
     where
-      go : (x : Option Region) → atSlot rs k ≡ x → countIf (eqb k) h.children ≡ child x p
-      go none q = elim (cmp 0 (countIf (eqb k) h.children)) [
-        | lt u ↦ absurd (rw q at (each_in _ h.children (s p h e).childrenLive k u))
+      go : (x : Option Region) → at_slot rs k ≡ x → count_if (eqb k) h.children ≡ child x p
+      go none q = elim (cmp 0 (count_if (eqb k) h.children)) [
+        | lt u ↦ absurd (rw q at (each_in _ h.children (s p h e).children_live k u))
         | ge u ↦ omega arith
       ]
       go (some g) q = (s k g q).listed p h e

@@ -6,74 +6,74 @@ use Rattle.std.proofs.Common.{sym, ap, ◌∙◌, arith, get_or-set_same, get_or
 use Rattle.std.proofs.Math.Option.{Option, none, some, get_or}
 use Rattle.std.proofs.Math.Decide.{ℕ_discrete}
 use Rattle.base.specs.Options.{none-some, some_same}
-use Rattle.model.specs.Lists.{countIf, atSlot, In, without}
-use Rattle.model.specs.State.{Hash, HashWords, Region, Kind, Root, parent_of, noneRegion, withChildren, withOwner, withRightsHash}
-use Rattle.model.specs.Tree.{insertSorted}
+use Rattle.model.specs.Lists.{count_if, at_slot, In, without}
+use Rattle.model.specs.State.{Hash, HashWords, Region, Kind, Root, parent_of, none_region, with_children, with_owner, with_rights_hash}
+use Rattle.model.specs.Tree.{insert_sorted}
 use Rattle.laws.specs.Tree.Slots.{in-length}
-use Rattle.laws.specs.Tree.Shares.{childOf, child}
+use Rattle.laws.specs.Tree.Shares.{child_of, child}
 use Rattle.laws.specs.Tree.Facts.{Regions, self, other, own, hangs}
 use Rattle.laws.specs.Tree.Extends.{Extends, extends-same}
-use Rattle.laws.specs.Tree.Change.{Changed, childIn, childOut, alike_self, set-slot, set-children, between}
+use Rattle.laws.specs.Tree.Change.{Changed, child_in, child_out, alike_self, set-slot, set-children, between}
 use Rattle.laws.specs.Tree.Rule.{Fits}
-use Rattle.laws.specs.Tree.Shape.{Sized, childSlots, child-slots-at, child-slots-free, to-shape, to-lists, from_halves, child-of}
+use Rattle.laws.specs.Tree.Shape.{Sized, child_slots, child-slots-at, child-slots-free, to-shape, to-lists, from_halves, child-of}
 use Rattle.laws.specs.Tree.KeepShape.{Like, had, has, shape-part, root-fits-under, child-fits-under, shape-added}
 use Rattle.laws.specs.Tree.KeepLists.{Takes, Gives, lists-added, lists-removed, lists-same}
 
 -- ---- child lists in a table with a slot written
 
-pub slot_same : (rs : List (Option Region)) (i : ℕ) (x : Option Region) → i < length rs → atSlot (set rs i x) i ≡ x
+pub slot_same : (rs : List (Option Region)) (i : ℕ) (x : Option Region) → i < length rs → at_slot (set rs i x) i ≡ x
 slot_same rs i x l = get_or-set_same rs i x none l
 
-pub slot-other : (rs : List (Option Region)) (i k : ℕ) (x : Option Region) → k ≢ i → atSlot (set rs i x) k ≡ atSlot rs k
+pub slot-other : (rs : List (Option Region)) (i k : ℕ) (x : Option Region) → k ≢ i → at_slot (set rs i x) k ≡ at_slot rs k
 slot-other rs i k x o = get_or-set_other rs i k x none o
 
-child-slots-of : (x y : Option Region) → x ≡ y → (get_or x noneRegion).children ≡ (get_or y noneRegion).children
-child-slots-of x y e = ap (λ (z : Option Region). (get_or z noneRegion).children) e
+child-slots-of : (x y : Option Region) → x ≡ y → (get_or x none_region).children ≡ (get_or y none_region).children
+child-slots-of x y e = ap (λ (z : Option Region). (get_or z none_region).children) e
 
 -- no list changes where the slot's own stays
-child-slots-same : (rs : List (Option Region)) (i : ℕ) (x : Option Region) → i < length rs → (get_or x noneRegion).children ≡ childSlots rs i → (q : ℕ) → childSlots (set rs i x) q ≡ childSlots rs q
+child-slots-same : (rs : List (Option Region)) (i : ℕ) (x : Option Region) → i < length rs → (get_or x none_region).children ≡ child_slots rs i → (q : ℕ) → child_slots (set rs i x) q ≡ child_slots rs q
 child-slots-same rs i x l e q = elim (ℕ_discrete q i) [
-  | yes o ↦ rw o (child-slots-of (atSlot (set rs i x) i) x (slot_same rs i x l) ∙ e)
-  | no o ↦ child-slots-of (atSlot (set rs i x) q) (atSlot rs q) (slot-other rs i q x o)
+  | yes o ↦ rw o (child-slots-of (at_slot (set rs i x) i) x (slot_same rs i x l) ∙ e)
+  | no o ↦ child-slots-of (at_slot (set rs i x) q) (at_slot rs q) (slot-other rs i q x o)
 ]
 
 module _ (rs : List (Option Region)) (s : Regions rs) where
   -- ---- a region is added in a free slot
 
-  module _ (i : ℕ) (g : Region) (l : i < length rs) (free : atSlot rs i ≡ none) (empty : g.children ≡ []) (z : Sized g) where
+  module _ (i : ℕ) (g : Region) (l : i < length rs) (free : at_slot rs i ≡ none) (empty : g.children ≡ []) (z : Sized g) where
     abbrev first : List (Option Region)
     first = set rs i (some g)
 
     pub slot_added : Changed rs first i none (some g)
     slot_added = set-slot rs i none (some g) l free
 
-    child-slots-first : (q : ℕ) → childSlots first q ≡ childSlots rs q
+    child-slots-first : (q : ℕ) → child_slots first q ≡ child_slots rs q
     child-slots-first = child-slots-same rs i (some g) l (empty ∙ sym (child-slots-free rs i free))
 
     pub root_kept : g.kind ≡ Root → Regions first
-    root_kept e = from_halves first (shape-added rs first (to-shape rs s) i g free slot_added (root-fits-under rs g z e)) (lists-added rs first first (to-lists rs s) i g slot_added slot_added (λ q. Takes.same (ap (λ (k : Kind). childOf k q) e) (child-slots-first q)))
+    root_kept e = from_halves first (shape-added rs first (to-shape rs s) i g free slot_added (root-fits-under rs g z e)) (lists-added rs first first (to-lists rs s) i g slot_added slot_added (λ q. Takes.same (ap (λ (k : Kind). child_of k q) e) (child-slots-first q)))
 
     -- an alias or a carve of region h in slot p, by its rule
     module _ (p : ℕ) (h : Region) (at : In rs p h) (r : Fits rs p g) where
       abbrev second : List (Option Region)
-      second = childIn first i g p h
+      second = child_in first i g p h
 
       child-other : p ≢ i
-      child-other e = none-some (atSlot rs i) h free (rw e at at)
+      child-other e = none-some (at_slot rs i) h free (rw e at at)
 
       pub child-at : In first p h
       child-at = slot-other rs i p (some g) child-other ∙ at
 
       pub child-added : Changed rs second i none (some g)
-      child-added = between rs rs first second i none (some g) (alike_self rs) slot_added (set-children first p h (insertSorted first i g.start h.children) child-at)
+      child-added = between rs rs first second i none (some g) (alike_self rs) slot_added (set-children first p h (insert_sorted first i g.start h.children) child-at)
 
       takes-in : Takes rs first second i g p
-      takes-in = Takes.more (hangs g.kind p r.hangs p ∙ self p) (child-slots-of (atSlot second p) (some (withChildren (insertSorted first i g.start h.children) h)) (slot_same first p _ (in-length first p h child-at)) ∙ ap (insertSorted first i g.start) (sym (child-slots-at rs p h at)))
+      takes-in = Takes.more (hangs g.kind p r.hangs p ∙ self p) (child-slots-of (at_slot second p) (some (with_children (insert_sorted first i g.start h.children) h)) (slot_same first p _ (in-length first p h child-at)) ∙ ap (insert_sorted first i g.start) (sym (child-slots-at rs p h at)))
 
       takes : (q : ℕ) → Takes rs first second i g q
       takes q = elim (ℕ_discrete q p) [
         | yes e ↦ rw e takes-in
-        | no e ↦ Takes.same (hangs g.kind p r.hangs q ∙ other p q (λ n. e (sym n))) (child-slots-of (atSlot second q) (atSlot first q) (slot-other first p q _ e) ∙ child-slots-first q)
+        | no e ↦ Takes.same (hangs g.kind p r.hangs q ∙ other p q (λ n. e (sym n))) (child-slots-of (at_slot second q) (at_slot first q) (slot-other first p q _ e) ∙ child-slots-first q)
       ]
 
       pub child-kept : Regions second
@@ -83,18 +83,18 @@ module _ (rs : List (Option Region)) (s : Regions rs) where
 
   module _ (i : ℕ) (g : Region) (e : In rs i g) (empty : g.children ≡ []) (p : ℕ) (h : Region) (at : In rs p h) (q : parent_of g.kind ≡ some p) where
     abbrev unlisted : List (Option Region)
-    unlisted = childOut rs i p h
+    unlisted = child_out rs i p h
 
     abbrev gone : List (Option Region)
     gone = set unlisted i none
 
     parent-other : p ≢ i
-    parent-other n = omega (arith, own rs s i g e, child-of g.kind p q, ap (childOf g.kind) n)
+    parent-other n = omega (arith, own rs s i g e, child-of g.kind p q, ap (child_of g.kind) n)
 
     pub removed-at : In unlisted i g
     removed-at = slot-other rs p i _ (λ n. parent-other (sym n)) ∙ e
 
-    pub removed-free : atSlot gone i ≡ none
+    pub removed-free : at_slot gone i ≡ none
     removed-free = slot_same unlisted i none (in-length unlisted i g removed-at)
 
     pub slot-removed : Changed rs gone i (some g) none
@@ -102,28 +102,28 @@ module _ (rs : List (Option Region)) (s : Regions rs) where
 
     -- the list of slot p, and the others
     gives-out : Gives rs gone i g p
-    gives-out = Gives.less (hangs g.kind p q p ∙ self p) (child-slots-of (atSlot gone p) (some (withChildren (without i h.children) h)) (slot-other unlisted i p none parent-other ∙ slot_same rs p _ (in-length rs p h at)) ∙ ap (without i) (sym (child-slots-at rs p h at)))
+    gives-out = Gives.less (hangs g.kind p q p ∙ self p) (child-slots-of (at_slot gone p) (some (with_children (without i h.children) h)) (slot-other unlisted i p none parent-other ∙ slot_same rs p _ (in-length rs p h at)) ∙ ap (without i) (sym (child-slots-at rs p h at)))
 
     gives : (k : ℕ) → Gives rs gone i g k
     gives k = elim (ℕ_discrete k p) [
       | yes o ↦ rw o gives-out
-      | no o ↦ Gives.same (hangs g.kind p q k ∙ other p k (λ n. o (sym n))) (child-slots-same unlisted i none (in-length unlisted i g removed-at) (sym (child-slots-at unlisted i g removed-at ∙ empty)) k ∙ child-slots-of (atSlot unlisted k) (atSlot rs k) (slot-other rs p k _ o))
+      | no o ↦ Gives.same (hangs g.kind p q k ∙ other p k (λ n. o (sym n))) (child-slots-same unlisted i none (in-length unlisted i g removed-at) (sym (child-slots-at unlisted i g removed-at ∙ empty)) k ∙ child-slots-of (at_slot unlisted k) (at_slot rs k) (slot-other rs p k _ o))
     ]
 
     -- what is left is no child of i
     left : (k : ℕ) (z : Region) → In gone k z → k ≢ i
-    left k z m n = none-some (atSlot gone i) z removed-free (rw n at m)
+    left k z m n = none-some (at_slot gone i) z removed-free (rw n at m)
 
-    parent-left : (k n : ℕ) (z : Region) → In gone k z → 0 < childOf z.kind n → n ≢ i
+    parent-left : (k n : ℕ) (z : Region) → In gone k z → 0 < child_of z.kind n → n ≢ i
     parent-left k n z m c o =
         let b = had rs gone i (some g) none slot-removed k (left k z m) z m in
         omega (
           arith,
           (to-lists rs s).listing i k,
-          ap (countIf (eqb k)) (child-slots-at rs i g e ∙ empty),
+          ap (count_if (eqb k)) (child-slots-at rs i g e ∙ empty),
           ap (λ (x : Option Region). child x i) b.1,
-          ap (λ (x : Kind). childOf x i) b.2.kind,
-          ap (childOf z.kind) o,
+          ap (λ (x : Kind). child_of x i) b.2.kind,
+          ap (child_of z.kind) o,
         )
 
     pub removed-kept : Regions gone
@@ -142,7 +142,7 @@ module _ (rs : List (Option Region)) (s : Regions rs) where
     here = slot_same rs i (some h) (in-length rs i g e)
 
     here-like : (w z : Region) → In rs i w → In changed i z → Like w z
-    here-like w z u v = rw (some_same (atSlot rs i) w g u e, some_same (atSlot changed i) z h v here) l
+    here-like w z u v = rw (some_same (at_slot rs i) w g u e, some_same (at_slot changed i) z h v here) l
 
     had-any : (k : ℕ) (z : Region) → In changed k z → (w : Region) × In rs k w × Like w z
     had-any k z m = elim (ℕ_discrete k i) [
@@ -161,9 +161,9 @@ module _ (rs : List (Option Region)) (s : Regions rs) where
 
   module _ (i : ℕ) (g : Region) (e : In rs i g) where
     -- it becomes domain o's
-    pub owner-kept : (o : ℕ) → Regions (set rs i (some (withOwner o g)))
-    owner-kept o = changed-kept i g e (withOwner o g) (record { kind = refl; start = refl; end = refl; rights = extends-same g.rights g.rights refl; hash = λ w. w }) refl
+    pub owner-kept : (o : ℕ) → Regions (set rs i (some (with_owner o g)))
+    owner-kept o = changed-kept i g e (with_owner o g) (record { kind = refl; start = refl; end = refl; rights = extends-same g.rights g.rights refl; hash = λ w. w }) refl
 
     -- its rights are extended, its hash is another
-    pub rights-hash-kept : (n : ℕ) (y : Option Hash) → Extends g.rights n → HashWords y → Regions (set rs i (some (withRightsHash n y g)))
-    rights-hash-kept n y x w = changed-kept i g e (withRightsHash n y g) (record { kind = refl; start = refl; end = refl; rights = x; hash = λ v. w }) refl
+    pub rights-hash-kept : (n : ℕ) (y : Option Hash) → Extends g.rights n → HashWords y → Regions (set rs i (some (with_rights_hash n y g)))
+    rights-hash-kept n y x w = changed-kept i g e (with_rights_hash n y g) (record { kind = refl; start = refl; end = refl; rights = x; hash = λ v. w }) refl

@@ -5,7 +5,7 @@ use Rattle.std.proofs.Common.{ap, ◌∙◌, arith, lt-ltb, le-ltb}
 use Rattle.base.specs.Cases.{lt, ge, cmp, below, inside, above, pos, holds, fails, test}
 use Rattle.model.specs.Lists.{if◌then◌else◌}
 use Rattle.model.specs.State.{Region}
-use Rattle.model.specs.Tree.{isCarve, Range, piece, effectiveFrom}
+use Rattle.model.specs.Tree.{is_carve, Range, piece, effective_from}
 use Rattle.laws.specs.Tree.Shares.{clear, clear-0, clear-s, clear_zero}
 use Rattle.laws.specs.Within.{within, W, within-lo, within_in, within_same}
 
@@ -22,16 +22,16 @@ spread v (x ∷ l) a = within x.0 x.1 a v 0 + spread v l a
 -- the carves of cs lie in order between cur and e
 abbrev pub Cuts : ℕ → ℕ → List Region → Type 0
 Cuts cur e [] = cur ≤ e
-Cuts cur e (c ∷ cs) = if isCarve c.kind then ((cur ≤ c.start) × (c.start < c.end) × Cuts c.end e cs) else Cuts cur e cs
+Cuts cur e (c ∷ cs) = if is_carve c.kind then ((cur ≤ c.start) × (c.start < c.end) × Cuts c.end e cs) else Cuts cur e cs
 
 -- how many carves of cs cover a
 abbrev pub cuts : List Region → ℕ → ℕ
 cuts [] a = 0
-cuts (c ∷ cs) a = (if isCarve c.kind then within c.start c.end a 1 0 else 0) + cuts cs a
+cuts (c ∷ cs) a = (if is_carve c.kind then within c.start c.end a 1 0 else 0) + cuts cs a
 
 cuts-room : (cur e : ℕ) (cs : List Region) → Cuts cur e cs → cur ≤ e
 cuts-room cur e [] h = h
-cuts-room cur e (c ∷ cs) h = elim (test (isCarve c.kind)) [
+cuts-room cur e (c ∷ cs) h = elim (test (is_carve c.kind)) [
   | holds t ↦ let h' = rw t at h in omega (arith, cuts-room c.end e cs h'.2)
   | fails t ↦ cuts-room cur e cs (rw t at h)
 ]
@@ -51,12 +51,12 @@ piece-first s e m hi l h k j r = elim (cmp s e) [
 piece-last : (s e : ℕ) → Pieces s e (piece s e)
 piece-last s e = elim (cmp s e) [ lt u ↦ rw (lt-ltb s e u) (omega arith) | ge u ↦ rw (le-ltb s e u) tt ]
 
-pub pass-rises : (cur e : ℕ) (cs : List Region) → Cuts cur e cs → Pieces cur e (effectiveFrom cur e cs)
+pub pass-rises : (cur e : ℕ) (cs : List Region) → Cuts cur e cs → Pieces cur e (effective_from cur e cs)
 pass-rises cur e [] h = piece-last cur e
-pass-rises cur e (c ∷ cs) h = elim (test (isCarve c.kind)) [
+pass-rises cur e (c ∷ cs) h = elim (test (is_carve c.kind)) [
   | holds t ↦ let h' = rw t at h in
       let r = cuts-room c.end e cs h'.2 in
-      rw t (piece-first cur c.start c.end e (effectiveFrom c.end e cs) (omega arith) (omega arith) (omega arith) (pass-rises c.end e cs h'.2))
+      rw t (piece-first cur c.start c.end e (effective_from c.end e cs) (omega arith) (omega arith) (omega arith) (pass-rises c.end e cs h'.2))
   | fails t ↦ rw t (pass-rises cur e cs (rw t at h))
 ]
 
@@ -75,7 +75,7 @@ spread-piece v s e a = elim (cmp s e) [
 -- before the first carve nothing is carved
 cuts-before : (cur e a : ℕ) (cs : List Region) → Cuts cur e cs → a < cur → cuts cs a ≡ 0
 cuts-before cur e a [] h l = refl
-cuts-before cur e a (c ∷ cs) h l = elim (test (isCarve c.kind)) [
+cuts-before cur e a (c ∷ cs) h l = elim (test (is_carve c.kind)) [
   | holds t ↦ let h' = rw t at h in rw t (omega (arith, within-lo {A = ℕ} c.start c.end a 1 0 (omega arith), cuts-before c.end e a cs h'.2 (omega arith)))
   | fails t ↦ rw t (omega (arith, cuts-before cur e a cs (rw t at h) l))
 ]
@@ -92,12 +92,12 @@ spread-step v cur s m e a c h i j z = elim (cmp a cur) [
   ]
 ]
 
-pub pass-spread : (v cur e a : ℕ) (cs : List Region) → Cuts cur e cs → spread v (effectiveFrom cur e cs) a ≡ clear (cuts cs a) (within cur e a v 0)
+pub pass-spread : (v cur e a : ℕ) (cs : List Region) → Cuts cur e cs → spread v (effective_from cur e cs) a ≡ clear (cuts cs a) (within cur e a v 0)
 pass-spread v cur e a [] h = spread-piece v cur e a
-pass-spread v cur e a (c ∷ cs) h = elim (test (isCarve c.kind)) [
+pass-spread v cur e a (c ∷ cs) h = elim (test (is_carve c.kind)) [
   | holds t ↦ let h' = rw t at h in
       let r = cuts-room c.end e cs h'.2 in
-      rw t (spread-append v (piece cur c.start) (effectiveFrom c.end e cs) a ∙ rw (spread-piece v cur c.start a, pass-spread v c.end e a cs h'.2) (spread-step v cur c.start c.end e a (cuts cs a) h'.0 h'.1 r (cuts-before c.end e a cs h'.2)))
+      rw t (spread-append v (piece cur c.start) (effective_from c.end e cs) a ∙ rw (spread-piece v cur c.start a, pass-spread v c.end e a cs h'.2) (spread-step v cur c.start c.end e a (cuts cs a) h'.0 h'.1 r (cuts-before c.end e a cs h'.2)))
   | fails t ↦ let same : cuts cs a ≡ 0 + cuts cs a = omega arith in rw t (pass-spread v cur e a cs (rw t at h) ∙ ap (λ (n : ℕ). clear n (within cur e a v 0)) same)
 ]
 

@@ -5,9 +5,9 @@ use Rattle.std.proofs.Common.{sym, ap, ◌∙◌, arith, eqb→eq, eq-eqb, ne_eq
 use Rattle.std.proofs.Math.Option.{Option}
 use Rattle.base.specs.Cases.{lt, ge, cmp, holds, fails, test}
 use Rattle.base.specs.Tests.{true-is, false-is}
-use Rattle.model.specs.Lists.{oneIf, countIf, Each, without}
-use Rattle.model.specs.State.{Region, regionIn}
-use Rattle.model.specs.Tree.{insertSorted}
+use Rattle.model.specs.Lists.{one_if, count_if, Each, without}
+use Rattle.model.specs.State.{Region, region_in}
+use Rattle.model.specs.Tree.{insert_sorted}
 use Rattle.model.specs.Sound.{Ordered}
 use Rattle.laws.specs.Tree.Facts.{self}
 
@@ -43,7 +43,7 @@ zero-each (x ∷ l) = (omega arith, zero-each l)
 pub ordered-from : (f : ℕ → Region) (ks : List ℕ) → Ordered (starts f ks) → Rises f 0 ks
 ordered-from f ks o = ordered-rises f 0 ks (zero-each (starts f ks)) o
 
-pub rises-all : (f : ℕ → Region) (lo k : ℕ) (ks : List ℕ) → Rises f lo ks → 0 < countIf (eqb k) ks → lo ≤ (f k).start
+pub rises-all : (f : ℕ → Region) (lo k : ℕ) (ks : List ℕ) → Rises f lo ks → 0 < count_if (eqb k) ks → lo ≤ (f k).start
 rises-all f lo k [] r h = absurd (omega arith)
 rises-all f lo k (c ∷ ks) r h = elim (test (eqb k c)) [
   | holds t ↦ rw (eqb→eq k c (true-is t)) r.0
@@ -52,7 +52,7 @@ rises-all f lo k (c ∷ ks) r h = elim (test (eqb k c)) [
 
 -- ---- the same list where no member's start changed
 
-pub rises-same : (f g : ℕ → Region) (lo : ℕ) (ks : List ℕ) → ((k : ℕ) → 0 < countIf (eqb k) ks → (g k).start ≡ (f k).start) → Rises f lo ks → Rises g lo ks
+pub rises-same : (f g : ℕ → Region) (lo : ℕ) (ks : List ℕ) → ((k : ℕ) → 0 < count_if (eqb k) ks → (g k).start ≡ (f k).start) → Rises f lo ks → Rises g lo ks
 rises-same f g lo [] e r = tt
 rises-same f g lo (c ∷ ks) e r =
     let h = e c (omega (arith, self c)) in
@@ -61,32 +61,32 @@ rises-same f g lo (c ∷ ks) e r =
 -- ---- a child is added, a child is removed
 
 module _ (rs : List (Option Region)) (i a : ℕ) where
-  pub insert-count : (k : ℕ) (ks : List ℕ) → countIf (eqb k) (insertSorted rs i a ks) ≡ oneIf (eqb k i) + countIf (eqb k) ks
+  pub insert-count : (k : ℕ) (ks : List ℕ) → count_if (eqb k) (insert_sorted rs i a ks) ≡ one_if (eqb k i) + count_if (eqb k) ks
   insert-count k [] = refl
-  insert-count k (c ∷ ks) = elim (cmp a (regionIn rs c).start) [
-    | lt u ↦ rw (lt-ltb a (regionIn rs c).start u)
-    | ge u ↦ rw (le-ltb a (regionIn rs c).start u) (omega (arith, insert-count k ks))
+  insert-count k (c ∷ ks) = elim (cmp a (region_in rs c).start) [
+    | lt u ↦ rw (lt-ltb a (region_in rs c).start u)
+    | ge u ↦ rw (le-ltb a (region_in rs c).start u) (omega (arith, insert-count k ks))
   ]
 
-  pub insert-rises : (lo : ℕ) (ks : List ℕ) → (regionIn rs i).start ≡ a → lo ≤ a → Rises (regionIn rs) lo ks → Rises (regionIn rs) lo (insertSorted rs i a ks)
+  pub insert-rises : (lo : ℕ) (ks : List ℕ) → (region_in rs i).start ≡ a → lo ≤ a → Rises (region_in rs) lo ks → Rises (region_in rs) lo (insert_sorted rs i a ks)
   insert-rises lo [] e l r = (omega arith, tt)
-  insert-rises lo (c ∷ ks) e l r = elim (cmp a (regionIn rs c).start) [
-    | lt u ↦ rw (lt-ltb a (regionIn rs c).start u) (omega arith, (omega arith, r.1))
-    | ge u ↦ rw (le-ltb a (regionIn rs c).start u) (r.0, insert-rises (regionIn rs c).start ks e u r.1)
+  insert-rises lo (c ∷ ks) e l r = elim (cmp a (region_in rs c).start) [
+    | lt u ↦ rw (lt-ltb a (region_in rs c).start u) (omega arith, (omega arith, r.1))
+    | ge u ↦ rw (le-ltb a (region_in rs c).start u) (r.0, insert-rises (region_in rs c).start ks e u r.1)
   ]
 
-pub without-count : (i k : ℕ) (ks : List ℕ) → k ≢ i → countIf (eqb k) (without i ks) ≡ countIf (eqb k) ks
+pub without-count : (i k : ℕ) (ks : List ℕ) → k ≢ i → count_if (eqb k) (without i ks) ≡ count_if (eqb k) ks
 without-count i k [] h = refl
 without-count i k (c ∷ ks) h = elim (test (eqb c i)) [
-  | holds t ↦ rw t (omega (arith, without-count i k ks h, ap oneIf (ne_eqb k c (λ e. h (e ∙ eqb→eq c i (true-is t))))))
+  | holds t ↦ rw t (omega (arith, without-count i k ks h, ap one_if (ne_eqb k c (λ e. h (e ∙ eqb→eq c i (true-is t))))))
   | fails t ↦ rw t (omega (arith, without-count i k ks h))
 ]
 
-pub without_gone : (i : ℕ) (ks : List ℕ) → countIf (eqb i) (without i ks) ≡ 0
+pub without_gone : (i : ℕ) (ks : List ℕ) → count_if (eqb i) (without i ks) ≡ 0
 without_gone i [] = refl
 without_gone i (c ∷ ks) = elim (test (eqb c i)) [
   | holds t ↦ rw t (without_gone i ks)
-  | fails t ↦ rw t (omega (arith, without_gone i ks, ap oneIf (ne_eqb i c (λ e. false-is t (true-is (eq-eqb c i (sym e)))))))
+  | fails t ↦ rw t (omega (arith, without_gone i ks, ap one_if (ne_eqb i c (λ e. false-is t (true-is (eq-eqb c i (sym e)))))))
 ]
 
 pub without-rises : (f : ℕ → Region) (lo i : ℕ) (ks : List ℕ) → Rises f lo ks → Rises f lo (without i ks)

@@ -7,11 +7,11 @@ use Rattle.std.proofs.Math.Option.{Option, none, some}
 use Rattle.std.proofs.Math.Dec.{eqb}
 use Rattle.std.proofs.lemmas.Bool.{lt-leb}
 use Rattle.base.specs.Cases.{lt, ge, cmp, below, inside, above, pos, Test, test}
-use Rattle.model.specs.Lists.{if◌then◌else◌, oneIf, exists, countIf, atSlot}
+use Rattle.model.specs.Lists.{if◌then◌else◌, one_if, exists, count_if, at_slot}
 use Rattle.model.specs.State.{Region, Kind, Root, Alias, Carve, parent_of}
 use Rattle.model.specs.Fields.{Field, passes, counter}
-use Rattle.model.specs.Tree.{isCarve}
-use Rattle.model.specs.Counts.{holds, carves, countsFor, tally, regionCount}
+use Rattle.model.specs.Tree.{is_carve}
+use Rattle.model.specs.Counts.{holds, carves, counts_for, tally, region_count}
 use Rattle.model.specs.Sound.{names}
 use Rattle.laws.specs.Tree.Sum.{sum, sum_same, sum-front}
 use Rattle.laws.specs.Stack.{any-count}
@@ -29,20 +29,20 @@ share f none d a = 0
 share f (some g) d a = grant f g.owner g.start g.end g.rights d a
 
 -- 1 where the parent is p, and where it is a carve of p
-abbrev pub childOf : Kind → ℕ → ℕ
-childOf k p = oneIf (names (parent_of k) p)
+abbrev pub child_of : Kind → ℕ → ℕ
+child_of k p = one_if (names (parent_of k) p)
 
-abbrev pub carveOf : Kind → ℕ → ℕ
-carveOf k p = if isCarve k then childOf k p else 0
+abbrev pub carve_of : Kind → ℕ → ℕ
+carve_of k p = if is_carve k then child_of k p else 0
 
 -- 1 where the slot's region is a child of p, and where it is a carve of p over a
 abbrev pub child : Option Region → ℕ → ℕ
 child none p = 0
-child (some g) p = childOf g.kind p
+child (some g) p = child_of g.kind p
 
 abbrev pub carve : Option Region → ℕ → ℕ → ℕ
 carve none p a = 0
-carve (some g) p a = within g.start g.end a (carveOf g.kind p) 0
+carve (some g) p a = within g.start g.end a (carve_of g.kind p) 0
 
 -- x where nothing was carved
 abbrev pub clear : ℕ → ℕ → ℕ
@@ -51,7 +51,7 @@ clear (suc c) x = 0
 
 -- how many live carves of region p cover a
 unfoldable pub carved : List (Option Region) → ℕ → ℕ → ℕ
-carved rs p a = countIf (carves p a) rs
+carved rs p a = count_if (carves p a) rs
 
 -- ---- ranges and branches
 
@@ -85,10 +85,10 @@ pub clear_zero : (c : ℕ) → clear c 0 ≡ 0
 clear_zero zero = refl
 clear_zero (suc c) = refl
 
-pub clear-any : {A : Type 0} (p : A → Bool) (l : List A) (x : ℕ) → (if exists p l then 0 else x) ≡ clear (countIf p l) x
-clear-any p l x = rw (any-count p l) (elim (cmp 0 (countIf p l)) [
-  | lt u ↦ rw (lt-ltb 0 (countIf p l) u) (sym (clear-s (countIf p l) x u))
-  | ge u ↦ rw (le-ltb 0 (countIf p l) u) (sym (clear-0 (countIf p l) x (omega arith)))
+pub clear-any : {A : Type 0} (p : A → Bool) (l : List A) (x : ℕ) → (if exists p l then 0 else x) ≡ clear (count_if p l) x
+clear-any p l x = rw (any-count p l) (elim (cmp 0 (count_if p l)) [
+  | lt u ↦ rw (lt-ltb 0 (count_if p l) u) (sym (clear-s (count_if p l) x u))
+  | ge u ↦ rw (le-ltb 0 (count_if p l) u) (sym (clear-0 (count_if p l) x (omega arith)))
 ])
 
 clear_within : (c s e a x : ℕ) → within s e a (clear c x) 0 ≡ clear c (within s e a x 0)
@@ -96,7 +96,7 @@ clear_within zero s e a x = refl
 clear_within (suc c) s e a x = elim (pos s e a) [ below u ↦ simp W | inside u v ↦ simp W | above u ↦ simp W ]
 
 -- the three tests and a fourth, as branches
-branches : (b c z t : Bool) → oneIf ((b && c && not z) && t) ≡ (if c then (if z then 0 else (if b then oneIf t else 0)) else 0)
+branches : (b c z t : Bool) → one_if ((b && c && not z) && t) ≡ (if c then (if z then 0 else (if b then one_if t else 0)) else 0)
 branches true true true t = refl
 branches true true false t = refl
 branches true false z t = refl
@@ -109,48 +109,48 @@ branches false false z t = refl
 module _ (f : Field) (rs : List (Option Region)) (d a : ℕ) where
   -- what slot k counts for
   abbrev pub weight : ℕ → ℕ
-  weight k = clear (carved rs k a) (share f (atSlot rs k) d a)
+  weight k = clear (carved rs k a) (share f (at_slot rs k) d a)
 
   -- the same by the model's tests
   abbrev one : ℕ → Option Region → ℕ
   one k none = 0
-  one k (some g) = oneIf (countsFor rs d a k g && passes f g.rights)
+  one k (some g) = one_if (counts_for rs d a k g && passes f g.rights)
 
   one-is : (k : ℕ) (x : Option Region) → one k x ≡ clear (carved rs k a) (share f x d a)
   unfolding carved
-  one-is k none = sym (clear_zero (countIf (carves k a) rs))
+  one-is k none = sym (clear_zero (count_if (carves k a) rs))
   one-is k (some g) =
-      let v = if eqb g.owner d then oneIf (passes f g.rights) else 0 in
+      let v = if eqb g.owner d then one_if (passes f g.rights) else 0 in
       branches (eqb g.owner d) (holds g.start g.end a) (exists (carves k a) rs) (passes f g.rights)
       ∙ holds-within g.start g.end a (if exists (carves k a) rs then 0 else v)
       ∙ ap (λ (n : ℕ). within g.start g.end a n 0) (clear-any (carves k a) rs v)
-      ∙ clear_within (countIf (carves k a) rs) g.start g.end a v
+      ∙ clear_within (count_if (carves k a) rs) g.start g.end a v
 
-  tally-step : (i : ℕ) (x : Option Region) (l : List (Option Region)) (t : ℕ) → t ≡ sum (λ k. one (suc i + k) (atSlot l k)) (length l) → one i x + t ≡ sum (λ k. one (i + k) (atSlot (x ∷ l) k)) (length (x ∷ l))
+  tally-step : (i : ℕ) (x : Option Region) (l : List (Option Region)) (t : ℕ) → t ≡ sum (λ k. one (suc i + k) (at_slot l k)) (length l) → one i x + t ≡ sum (λ k. one (i + k) (at_slot (x ∷ l) k)) (length (x ∷ l))
   tally-step i x l t h =
       let here : i + 0 ≡ i = omega arith in
       let next : (k : ℕ) → suc i + k ≡ i + suc k = λ k. omega arith in
       omega (
         arith,
-        sum-front (λ k. one (i + k) (atSlot (x ∷ l) k)) (length l),
-        sum_same (λ k. one (suc i + k) (atSlot l k)) (λ k. one (i + suc k) (atSlot l k)) (length l) (λ k u. ap (λ (n : ℕ). one n (atSlot l k)) (next k)),
+        sum-front (λ k. one (i + k) (at_slot (x ∷ l) k)) (length l),
+        sum_same (λ k. one (suc i + k) (at_slot l k)) (λ k. one (i + suc k) (at_slot l k)) (length l) (λ k u. ap (λ (n : ℕ). one n (at_slot l k)) (next k)),
         ap (λ (n : ℕ). one n x) here,
       )
 
-  tally-from : (i : ℕ) (l : List (Option Region)) → tally rs d a (passes f) i l ≡ sum (λ k. one (i + k) (atSlot l k)) (length l)
+  tally-from : (i : ℕ) (l : List (Option Region)) → tally rs d a (passes f) i l ≡ sum (λ k. one (i + k) (at_slot l k)) (length l)
   tally-from i [] = refl
   tally-from i (none ∷ l) = omega (arith, tally-step i none l (tally rs d a (passes f) (suc i) l) (tally-from (suc i) l))
   tally-from i (some g ∷ l) = tally-step i (some g) l (tally rs d a (passes f) (suc i) l) (tally-from (suc i) l)
 
-  pub tally-is : regionCount f rs d a ≡ sum weight (length rs)
-  tally-is = tally-from 0 rs ∙ sum_same _ _ (length rs) (λ k h. ap (λ (n : ℕ). one n (atSlot rs k)) (plus k) ∙ one-is k (atSlot rs k))
+  pub tally-is : region_count f rs d a ≡ sum weight (length rs)
+  tally-is = tally-from 0 rs ∙ sum_same _ _ (length rs) (λ k h. ap (λ (n : ℕ). one n (at_slot rs k)) (plus k) ∙ one-is k (at_slot rs k))
     where
       plus : (k : ℕ) → 0 + k ≡ k
       plus k = omega arith
 
 -- ---- the carves
 
-carve-kind : (p a : ℕ) (g : Region) (k : Kind) → oneIf (carves p a (some (record { owner = g.owner; kind = k; start = g.start; end = g.end; rights = g.rights; children = g.children; hash = g.hash }))) ≡ within g.start g.end a (carveOf k p) 0
+carve-kind : (p a : ℕ) (g : Region) (k : Kind) → one_if (carves p a (some (record { owner = g.owner; kind = k; start = g.start; end = g.end; rights = g.rights; children = g.children; hash = g.hash }))) ≡ within g.start g.end a (carve_of k p) 0
 carve-kind p a g Root = sym (within_same {A = ℕ} g.start g.end a 0 0 refl)
 carve-kind p a g (Alias q) = sym (within_same {A = ℕ} g.start g.end a 0 0 refl)
 carve-kind p a g (Carve q) = elim (test (eqb q p)) [
@@ -158,10 +158,10 @@ carve-kind p a g (Carve q) = elim (test (eqb q p)) [
   | Test.fails t ↦ rw t (sym (within_same {A = ℕ} g.start g.end a 0 0 refl))
 ]
 
-carve-is : (p a : ℕ) (x : Option Region) → oneIf (carves p a x) ≡ carve x p a
+carve-is : (p a : ℕ) (x : Option Region) → one_if (carves p a x) ≡ carve x p a
 carve-is p a none = refl
 carve-is p a (some g) = carve-kind p a g g.kind
 
-pub carved-is : (rs : List (Option Region)) (p a : ℕ) → carved rs p a ≡ sum (λ k. carve (atSlot rs k) p a) (length rs)
+pub carved-is : (rs : List (Option Region)) (p a : ℕ) → carved rs p a ≡ sum (λ k. carve (at_slot rs k) p a) (length rs)
 unfolding carved
-carved-is rs p a = count-sum (carves p a) rs ∙ sum_same _ _ (length rs) (λ k h. carve-is p a (atSlot rs k))
+carved-is rs p a = count-sum (carves p a) rs ∙ sum_same _ _ (length rs) (λ k h. carve-is p a (at_slot rs k))

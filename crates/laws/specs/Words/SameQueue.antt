@@ -7,18 +7,18 @@ use Rattle.std.proofs.Math.Nat.{add-mod_right}
 use Rattle.std.proofs.Math.ListN.{get_elem?}
 use Rattle.base.specs.Cases.{lt, ge, cmp}
 use Rattle.model.specs.State.{Update, permission, cleanup, Queue}
-use Rattle.model.specs.Layout.{updateWords, at_place, placeWords, markWords}
+use Rattle.model.specs.Layout.{update_words, at_place, place_words, mark_words}
 
 -- an update, read from a place's four words and its mark word; used only in proofs
-abbrev readUpdate : ℕ → ℕ → ℕ → ℕ → ℕ → Option Update
-readUpdate zero a b c m = none
-readUpdate (suc zero) a b c m = some (permission (record { slot = a; generation = b }) c m)
-readUpdate (suc (suc n)) a b c m = some (cleanup a b)
+abbrev read_update : ℕ → ℕ → ℕ → ℕ → ℕ → Option Update
+read_update zero a b c m = none
+read_update (suc zero) a b c m = some (permission (record { slot = a; generation = b }) c m)
+read_update (suc (suc n)) a b c m = some (cleanup a b)
 
 abbrev read_place : List ℕ → List ℕ → Option Update
-read_place r m = readUpdate (get_or r 0 0) (get_or r 1 0) (get_or r 2 0) (get_or r 3 0) (get_or m 0 0)
+read_place r m = read_update (get_or r 0 0) (get_or r 1 0) (get_or r 2 0) (get_or r 3 0) (get_or m 0 0)
 
-read-place : (o : Option Update) → read_place (updateWords o) (markWords o) ≡ o
+read-place : (o : Option Update) → read_place (update_words o) (mark_words o) ≡ o
 read-place none = refl
 read-place (some (permission h c m)) = refl
 read-place (some (cleanup a b)) = refl
@@ -42,7 +42,7 @@ same-items [] (v ∷ m) h = let e = h 0 in cc
 same-items (u ∷ l) [] h = let e = h 0 in cc
 same-items (u ∷ l) (v ∷ m) h = let e = h 0 in let t = same-items l m (λ j. h (suc j)) in cc
 
-pub same_queue : (n : ℕ) (q r : Queue) → q.read_place ≡ r.read_place → q.read_place < n + 1 → length q.items < n + 1 → length r.items < n + 1 → ((k : ℕ) → k < n + 1 → placeWords n q k ≡ placeWords n r k) → ((k : ℕ) → k < n + 1 → markWords (at_place n q k) ≡ markWords (at_place n r k)) → q ≡ r
+pub same_queue : (n : ℕ) (q r : Queue) → q.read_place ≡ r.read_place → q.read_place < n + 1 → length q.items < n + 1 → length r.items < n + 1 → ((k : ℕ) → k < n + 1 → place_words n q k ≡ place_words n r k) → ((k : ℕ) → k < n + 1 → mark_words (at_place n q k) ≡ mark_words (at_place n r k)) → q ≡ r
 same_queue n q r f p a b rows marks = λ i. record { read_place = f i; items = same-items q.items r.items at i }
   where
     at : (j : ℕ) → get_elem? q.items j ≡ get_elem? r.items j

@@ -25,8 +25,8 @@ enum-known-r c = search rules
 enum-known-r-2 : tie.Need-enum-known-r-2
 enum-known-r-2 c = search rules
 
-same_length : tie.Need-same-length
-same_length c = search rules
+same_length_lem : tie.Need-same-length
+same_length_lem c = search rules
 
 returns : tie.Need-returns
 returns c = on-done _ _ _ _ c.before.before.before.before.before.before.before.before.before.before.before.before.before.before.before.before.give-back.ensures _ _ _ c.before.before.before.before.before.before.before.before.before.before.before.before.v.given.1 (on-done _ _ _ _ c.before.before.before.before.before.before.before.before.before.free-region.ensures _ _ _ c.before.before.before.before.before.w.given.1 c.before.before.cleanup-if.ensures)
@@ -54,7 +54,7 @@ free-leaf-spec =
     cleanup-if-requires
     enum-known-r
     enum-known-r-2
-    same_length
+    same_length_lem
     returns
     same-length-2
     returns-2

@@ -1,6 +1,6 @@
 -- Step after step.
 use Rattle.answers.specs.Then.{on-done, on-refused}
-use Rattle.leaf_revocation.specs.Leaf.{revokeLeaf}
+use Rattle.leaf_revocation.specs.Leaf.{revoke_leaf}
 use borrow.Author.Rules.{rules}
 use Rattle.leaf_revocation.proofs.revoke_leaf.Statement.{statement}
 use Rattle.leaf_revocation.proofs.revoke_leaf.Tie as tie
@@ -29,18 +29,18 @@ free-leaf-requires c κs = search rules
 enum-known-r : tie.Need-enum-known-r
 enum-known-r c = search rules
 
-same_length : tie.Need-same-length
-same_length c = search rules
+same_length_lem : tie.Need-same-length
+same_length_lem c = search rules
 
 returns : tie.Need-returns
-unfolding revokeLeaf
+unfolding revoke_leaf
 returns c = rw (← c.before.before.before.before.before.before.before.before.before.before.before.before.before.before.before.before.before.load-region.ensures, ← c.before.before.before.before.before.before.before.before.before.before.before.before.before.before.leave-parent.ensures.seen, ← c.before.before.before.before.before.before.before.before.before.before.slot-to.ensures, ← c.before.before.before.before.before.before.before.before.before.before.before.before.before.before.before.before.access.ensures) (on-done _ _ _ _ c.before.before.before.before.before.before.before.before.before.deactivate-region.ensures _ _ _ c.before.before.before.before.before.u.given.1 c.before.before.free-leaf.ensures)
 
 same-length-2 : tie.Need-same-length-2
 same-length-2 c = search rules
 
 returns-2 : tie.Need-returns-2
-unfolding revokeLeaf
+unfolding revoke_leaf
 returns-2 c = rw (← c.before.before.before.before.before.before.before.before.before.before.before.before.before.load-region.ensures, ← c.before.before.before.before.before.before.before.before.before.before.leave-parent.ensures.seen, ← c.before.before.before.before.before.before.slot-to.ensures, ← c.before.before.before.before.before.before.before.before.before.before.before.before.access.ensures) (on-refused _ _ _ _ c.before.before.before.before.before.deactivate-region.ensures _ c.before.r.given.1)
 
 pub revoke-leaf-spec : {M : Type 1} → statement M
@@ -55,7 +55,7 @@ revoke-leaf-spec =
     enum-known-u
     free-leaf-requires
     enum-known-r
-    same_length
+    same_length_lem
     returns
     same-length-2
     returns-2)

@@ -14,8 +14,8 @@ run-requires c κs = search rules
 opened-requires : tie.Need-opened-requires
 opened-requires c κs = opened-sized _ _ none _ _ c.before.before.before.before.before.before.«open».ensures.0 c.before.before.before.before.before.before.«open».ensures.1 _ _ _ c.before.before.before.before.before.run.ensures
 
-same_length : tie.Need-same-length
-same_length c = search rules
+same_length_lem : tie.Need-same-length
+same_length_lem c = search rules
 
 same-length-2 : tie.Need-same-length-2
 same-length-2 c = search rules
@@ -24,4 +24,4 @@ returns : tie.Need-returns
 returns c = open-returns _ _ none _ _ c.before.before.before.before.before.before.before.«open».ensures.0 c.before.before.before.before.before.before.before.«open».ensures.1 _ _ _ c.before.before.before.before.before.before.run.ensures _ c.opened.ensures
 
 pub open-domain-spec : {M : Type 1} → statement M
-open-domain-spec = tie.close (tie.spec open-requires run-requires opened-requires same_length same-length-2 returns)
+open-domain-spec = tie.close (tie.spec open-requires run-requires opened-requires same_length_lem same-length-2 returns)

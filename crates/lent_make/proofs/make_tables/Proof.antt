@@ -18,8 +18,8 @@ limits-hold-requires c κs = search rules
 refused-requires : tie.Need-refused-requires
 refused-requires c κs = search rules
 
-same_length : tie.Need-same-length
-same_length c = search rules
+same_length_lem : tie.Need-same-length
+same_length_lem c = search rules
 
 returns : tie.Need-returns
 returns c = sizes-refused _ c.before.before.before.before.before.before.before.before.before.args.w.now _ (sizes (c.before.before.before.before.before.before.before.before.before.args.domains) (c.before.before.before.before.before.before.before.before.before.args.slots) (c.before.before.before.before.before.before.before.before.before.args.regions) (c.before.before.before.before.before.before.before.before.before.args.records) (c.before.before.before.before.before.before.before.before.before.args.updates)) (c.before.before.before.before.before.clear.ensures) _ (c.before.before.limits-hold.ensures) (c.before.if1.true) _ (c.refused.ensures)
@@ -58,7 +58,7 @@ make-tables-spec =
     clear-requires
     limits-hold-requires
     refused-requires
-    same_length
+    same_length_lem
     returns
     total-of-requires
     both-requires

@@ -1,7 +1,7 @@
 -- The test; the oldest update of admitted tables.
 use mathlib.Core.Path.{refl, sym, ◌∙◌}
 use Rattle.model.specs.Perform.{Call}
-use Rattle.replies.specs.Replies.{updateReplyOf}
+use Rattle.replies.specs.Replies.{update_reply_of}
 use Rattle.frame.specs.Finish.{each_word, kept-clear}
 use Rattle.frame.specs.Law.{memory-returns, admitted-sized}
 use Rattle.lent_queue.specs.Popping.{pop-returns}
@@ -15,8 +15,8 @@ admits-requires c κs = search rules
 pop-update-requires : tie.Need-pop-update-requires
 pop-update-requires c κs = admitted-sized _ c.before.before.before.before.before.before.before.before.before.args.w.now _ (c.before.before.before.before.admits.ensures.0) (c.before.if1.true)
 
-same_length : tie.Need-same-length
-same_length c = search rules
+same_length_lem : tie.Need-same-length
+same_length_lem c = search rules
 
 same-length-2 : tie.Need-same-length-2
 same-length-2 c = search rules
@@ -31,7 +31,7 @@ same-length-4 : tie.Need-same-length-4
 same-length-4 c = search rules
 
 returns-2 : tie.Need-returns-2
-returns-2 c = memory-returns updateReplyOf _ _ Call.Pop tt _ (c.before.before.before.admits.ensures.0) (c.if1.false) _ _ refl (c.before.before.before.admits.ensures.1 ∙ sym (kept-clear _ _ (sym (c.before.before.before.admits.ensures.0) ∙ c.if1.false)))
+returns-2 c = memory-returns update_reply_of _ _ Call.Pop tt _ (c.before.before.before.admits.ensures.0) (c.if1.false) _ _ refl (c.before.before.before.admits.ensures.1 ∙ sym (kept-clear _ _ (sym (c.before.before.before.admits.ensures.0) ∙ c.if1.false)))
 
 pub pop_spec : {M : Type 1} → statement M
 pop_spec =
@@ -39,7 +39,7 @@ pop_spec =
     (tie.spec
     admits-requires
     pop-update-requires
-    same_length
+    same_length_lem
     same-length-2
     returns
     same-length-3

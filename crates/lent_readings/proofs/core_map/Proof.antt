@@ -23,8 +23,8 @@ enum-known-r c = search rules
 refused-requires : tie.Need-refused-requires
 refused-requires c κs = search rules
 
-same_length : tie.Need-same-length
-same_length c = search rules
+same_length_lem : tie.Need-same-length
+same_length_lem c = search rules
 
 returns : tie.Need-returns
 returns c = cores-returns _ _ (each_word c.before.before.before.before.before.before.before.before.before.before.args.t.now (λ i. c.before.before.before.before.before.before.before.before.before.shared-slice-known.given i)) _ _ _ c.before.before.before.before.before.before.domain-read.ensures.0 _ c.before.before.before.before.before.before.domain-read.ensures.1 _ _ c.before.before.d.given.1 (ap (λ (x : DomainHead). x.cores) c.load-head.ensures)
@@ -44,7 +44,7 @@ core-map-spec =
     load-head-requires
     enum-known-r
     refused-requires
-    same_length
+    same_length_lem
     returns
     same-length-2
     returns-2)

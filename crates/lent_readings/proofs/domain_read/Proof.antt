@@ -12,8 +12,8 @@ admits-requires c κs = search rules
 live-domain-requires : tie.Need-live-domain-requires
 live-domain-requires c κs = admitted-sized _ c.before.before.before.before.before.before.before.args.w.now _ c.before.before.before.admits.ensures.0 c.if1.true
 
-same_length : tie.Need-same-length
-same_length c = search rules
+same_length_lem : tie.Need-same-length
+same_length_lem c = search rules
 
 returns : tie.Need-returns
 returns c = (read-admitted _ _ _ _ _ c.before.before.before.before.admits.ensures.0 c.before.if1.true _ c.live-domain.ensures, c.before.before.before.before.admits.ensures.1)
@@ -27,4 +27,4 @@ returns-2 c = (read-not-admitted _ _ _ _ _ c.before.before.before.admits.ensures
 pub domain-read-spec : {M : Type 1} → statement M
 domain-read-spec =
     tie.close
-    (tie.spec admits-requires live-domain-requires same_length returns same-length-2 returns-2)
+    (tie.spec admits-requires live-domain-requires same_length_lem returns same-length-2 returns-2)

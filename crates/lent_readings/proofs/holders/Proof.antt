@@ -12,8 +12,8 @@ admits-requires c κs = search rules
 holders-requires : tie.Need-holders-requires
 holders-requires c κs = admitted-sized _ c.before.before.before.before.before.before.before.before.before.args.w.now _ c.before.before.before.before.admits.ensures.0 c.before.if1.true
 
-same_length : tie.Need-same-length
-same_length c = search rules
+same_length_lem : tie.Need-same-length
+same_length_lem c = search rules
 
 same-length-2 : tie.Need-same-length-2
 same-length-2 c = search rules
@@ -36,7 +36,7 @@ holders-spec =
     (tie.spec
     admits-requires
     holders-requires
-    same_length
+    same_length_lem
     same-length-2
     returns
     refused-requires

@@ -32,8 +32,8 @@ refused-requires : tie.Need-refused-requires
 refused-requires c κs = search rules
 
 -- src/lib.rt:79:1
-same_length : tie.Need-same-length
-same_length c = search rules
+same_length_lem : tie.Need-same-length
+same_length_lem c = search rules
 
 -- src/lib.rt:79:1
 returns : tie.Need-returns
@@ -56,7 +56,7 @@ listing-of-spec =
     plan-of-requires
     enum-known-r
     refused-requires
-    same_length
+    same_length_lem
     returns
     same-length-2
     returns-2)

@@ -43,7 +43,7 @@ use Rattle.ring.specs.declared.Ring.{Ring}
 use Rattle.lent_ring.proofs.Held.{vals, mach}
 use Rattle.ring.specs.declared.PushOut.{PushOut}
 use Rattle.ring.specs.declared.Entry.{Entry}
-use Rattle.ring.specs.Ring.{pushOf}
+use Rattle.ring.specs.Ring.{push_of}
 use Rattle.ring.specs.contracts.Ring as Ring-T
 use Rattle.ring.proofs.Ring.TheLaws as Ring-L
 use Rattle.ring.specs.contracts.PushOut as PushOut-T
@@ -74,8 +74,8 @@ module _ {M : Type 1} {𝓤 : Ura M} (𝓛 : Logic 𝓤) (at_mem : Memory → SP
   abbrev Core : Contract 𝓤
   Core = triple_of 𝓛 callee.signature (callee.spec 𝓛 at_mem run)
 
-  core-of : (h : Ring) (u : Entry) (r : PushOut) → ent 𝓤 (ensured 𝓛 callee.ended (callee.clauses 𝓛 at_mem run) tt (h, (u, tt)) tt r) (fact 𝓤 (r ≡ pushOf h u))
-  core-of h u r = ex_e 𝓤 _ (λ ws. snd∗ 𝓤 (sem 𝓛 (lasts callee.ended tt (h, (u, tt)) ws)) (fact 𝓤 (r ≡ pushOf h u)))
+  core-of : (h : Ring) (u : Entry) (r : PushOut) → ent 𝓤 (ensured 𝓛 callee.ended (callee.clauses 𝓛 at_mem run) tt (h, (u, tt)) tt r) (fact 𝓤 (r ≡ push_of h u))
+  core-of h u r = ex_e 𝓤 _ (λ ws. snd∗ 𝓤 (sem 𝓛 (lasts callee.ended tt (h, (u, tt)) ws)) (fact 𝓤 (r ≡ push_of h u)))
 
 module _ {M : Type 1} {𝓤 : Ura M} (𝓛 : Logic 𝓤) (at_mem : Memory → SProp 𝓤) (run : Routine → Fun 𝓤) (κ : Lft) (q : Share) (b o : ℕ) (γ : GName) (h : Ring) (u : Entry) (u-is : Is Entry-T.the_row u (LL.val Entry-T.the_type Entry-L.the_laws u ∷ [])) where
   open 𝓛 use {H, A}
@@ -92,7 +92,7 @@ module _ {M : Type 1} {𝓤 : Ura M} (𝓛 : Logic 𝓤) (at_mem : Memory → SP
   abbrev Post : Val → SProp 𝓤
   Post = (walk_of 𝓛 own.ended stayed (own.clauses 𝓛 at_mem run)).post (((κ, tt), (q, tt), tt, x, at), tt)
 
-  exits : (r : PushOut) (v : Val) → Is PushOut-T.the_row r (v ∷ []) → r ≡ pushOf h u → ent 𝓤 (sep 𝓤 (A.obs γ ((Ring-T.the_row).coded.code r.ring)) (sep 𝓤 (A.bor κ (Body (mem Ring-T.the_row) b o γ)) (A.lft κ q))) (Post (vbool r.ok))
+  exits : (r : PushOut) (v : Val) → Is PushOut-T.the_row r (v ∷ []) → r ≡ push_of h u → ent 𝓤 (sep 𝓤 (A.obs γ ((Ring-T.the_row).coded.code r.ring)) (sep 𝓤 (A.bor κ (Body (mem Ring-T.the_row) b o γ)) (A.lft κ q))) (Post (vbool r.ok))
   exits r v is e =
       qed 𝓛 (‵ (fobs γ ((Ring-T.the_row).coded.code r.ring)) ∷ ‵ (fbor κ (Body (mem Ring-T.the_row) b o γ)) ∷ ‵ (flft κ q) ∷ []) ∵
       suffices ! _ (ends_at 𝓛 own.ended stayed (own.clauses 𝓛 at_mem run) (((κ, tt), (q, tt), tt, x, at), tt) (vbool r.ok) r.ok (r.ring, (tt, tt)) (tt, (tt, tt))) $
@@ -126,7 +126,7 @@ module _ {M : Type 1} {𝓤 : Ura M} (𝓛 : Logic 𝓤) (at_mem : Memory → SP
         use0 𝓛 (raw ((Core 𝓛 at_mem run).pre to-core)) (goes-core h-is) $
         calls_at ! fm (Core 𝓛 at_mem run) known to-core (and_then ! (load ! (from ! (stop !)) (look ! 8 refl)) (and_then ! (load ! (from ! (stop !)) (look ! 12 refl)) (no_more !))) (λ w.
         use1 𝓛 (later (some (λ (r : PushOut). (‵ ftrue ⊛ ‵ ((PushOut-T.the_row).own_val r (w ∷ []))) ⊛ raw (ensured 𝓛 callee.ended (callee.clauses 𝓛 at_mem run) tt (h, (u, tt)) tt r)))) (id⊢ 𝓤 _) $ await ! tt $ pick ! (λ r.
-        split ! $ move ! (1 ∷ []) $ use1 𝓛 (raw (fact 𝓤 (r ≡ pushOf h u))) (core-of 𝓛 at_mem run h u r) $ heard ! (r ≡ pushOf h u) (λ e. split ! $ drop ! $
+        split ! $ move ! (1 ∷ []) $ use1 𝓛 (raw (fact 𝓤 (r ≡ push_of h u))) (core-of 𝓛 at_mem run h u r) $ heard ! (r ≡ push_of h u) (λ e. split ! $ drop ! $
         peeks ! PushOut-T.the_row (Is PushOut-T.the_row) (shows 𝓛 PushOut-T.the_row) r (w ∷ []) (λ is.
         land ! (from ! (stop !)) (init ! 10 refl ((LL.lawful PushOut-T.the_type PushOut-L.the_laws 𝓛).typed r _ is).0) $
         rewrite ! 10 (λ (v : Val). ‵ (fat full_share PushOut-L.mir l3 0 v)) (ap only (LL.tells PushOut-T.the_type PushOut-L.the_laws r _ is)) refl $

@@ -42,7 +42,7 @@ use denote.Exit.{yes}
 use Rattle.ring.specs.declared.Ring.{Ring}
 use Rattle.lent_ring.proofs.Held.{vals, mach}
 use Rattle.ring.specs.declared.PushOut.{PushOut}
-use Rattle.ring_search.specs.Queueing.{queueOf}
+use Rattle.ring_search.specs.Queueing.{queue_of}
 use Rattle.ring.specs.contracts.Ring as Ring-T
 use Rattle.ring.proofs.Ring.TheLaws as Ring-L
 use Rattle.ring.specs.contracts.PushOut as PushOut-T
@@ -71,8 +71,8 @@ module _ {M : Type 1} {𝓤 : Ura M} (𝓛 : Logic 𝓤) (at_mem : Memory → SP
   abbrev Core : Contract 𝓤
   Core = triple_of 𝓛 callee.signature (callee.spec 𝓛 at_mem run)
 
-  core-of : (h : Ring) (d : ℕ) (g : ℕ) (c : ℕ) (m : ℕ) (r : PushOut) → ent 𝓤 (ensured 𝓛 callee.ended (callee.clauses 𝓛 at_mem run) tt (h, (d, (g, (c, (m, tt))))) tt r) (fact 𝓤 (r ≡ queueOf h d g c m))
-  core-of h d g c m r = ex_e 𝓤 _ (λ ws. snd∗ 𝓤 (sem 𝓛 (lasts callee.ended tt (h, (d, (g, (c, (m, tt))))) ws)) (fact 𝓤 (r ≡ queueOf h d g c m)))
+  core-of : (h : Ring) (d : ℕ) (g : ℕ) (c : ℕ) (m : ℕ) (r : PushOut) → ent 𝓤 (ensured 𝓛 callee.ended (callee.clauses 𝓛 at_mem run) tt (h, (d, (g, (c, (m, tt))))) tt r) (fact 𝓤 (r ≡ queue_of h d g c m))
+  core-of h d g c m r = ex_e 𝓤 _ (λ ws. snd∗ 𝓤 (sem 𝓛 (lasts callee.ended tt (h, (d, (g, (c, (m, tt))))) ws)) (fact 𝓤 (r ≡ queue_of h d g c m)))
 
 module _ {M : Type 1} {𝓤 : Ura M} (𝓛 : Logic 𝓤) (at_mem : Memory → SProp 𝓤) (run : Routine → Fun 𝓤) (κ : Lft) (q : Share) (b o : ℕ) (γ : GName) (h : Ring) (d : ℕ) (g : ℕ) (c : ℕ) (m : ℕ) (d-is : Is u64 d (vint w64 d ∷ [])) (g-is : Is u64 g (vint w64 g ∷ [])) (c-is : Is u64 c (vint w64 c ∷ [])) (m-is : Is u64 m (vint w64 m ∷ [])) where
   open 𝓛 use {H, A}
@@ -89,7 +89,7 @@ module _ {M : Type 1} {𝓤 : Ura M} (𝓛 : Logic 𝓤) (at_mem : Memory → SP
   abbrev Post : Val → SProp 𝓤
   Post = (walk_of 𝓛 own.ended stayed (own.clauses 𝓛 at_mem run)).post (((κ, tt), (q, tt), tt, x, at), tt)
 
-  exits : (r : PushOut) (v : Val) → Is PushOut-T.the_row r (v ∷ []) → r ≡ queueOf h d g c m → ent 𝓤 (sep 𝓤 (A.obs γ ((Ring-T.the_row).coded.code r.ring)) (sep 𝓤 (A.bor κ (Body (mem Ring-T.the_row) b o γ)) (A.lft κ q))) (Post (vbool r.ok))
+  exits : (r : PushOut) (v : Val) → Is PushOut-T.the_row r (v ∷ []) → r ≡ queue_of h d g c m → ent 𝓤 (sep 𝓤 (A.obs γ ((Ring-T.the_row).coded.code r.ring)) (sep 𝓤 (A.bor κ (Body (mem Ring-T.the_row) b o γ)) (A.lft κ q))) (Post (vbool r.ok))
   exits r v is e =
       qed 𝓛 (‵ (fobs γ ((Ring-T.the_row).coded.code r.ring)) ∷ ‵ (fbor κ (Body (mem Ring-T.the_row) b o γ)) ∷ ‵ (flft κ q) ∷ []) ∵
       suffices ! _ (ends_at 𝓛 own.ended stayed (own.clauses 𝓛 at_mem run) (((κ, tt), (q, tt), tt, x, at), tt) (vbool r.ok) r.ok (r.ring, (tt, (tt, (tt, (tt, tt))))) (tt, (tt, (tt, (tt, (tt, tt)))))) $
@@ -123,7 +123,7 @@ module _ {M : Type 1} {𝓤 : Ura M} (𝓛 : Logic 𝓤) (at_mem : Memory → SP
         use0 𝓛 (raw ((Core 𝓛 at_mem run).pre to-core)) (goes-core h-is) $
         calls_at ! fm (Core 𝓛 at_mem run) known to-core (and_then ! (load ! (from ! (stop !)) (look ! 8 refl)) (and_then ! (load ! (from ! (stop !)) (look ! 18 refl)) (and_then ! (load ! (from ! (stop !)) (look ! 16 refl)) (and_then ! (load ! (from ! (stop !)) (look ! 14 refl)) (and_then ! (load ! (from ! (stop !)) (look ! 12 refl)) (no_more !)))))) (λ w.
         use1 𝓛 (later (some (λ (r : PushOut). (‵ ftrue ⊛ ‵ ((PushOut-T.the_row).own_val r (w ∷ []))) ⊛ raw (ensured 𝓛 callee.ended (callee.clauses 𝓛 at_mem run) tt (h, (d, (g, (c, (m, tt))))) tt r)))) (id⊢ 𝓤 _) $ await ! tt $ pick ! (λ r.
-        split ! $ move ! (1 ∷ []) $ use1 𝓛 (raw (fact 𝓤 (r ≡ queueOf h d g c m))) (core-of 𝓛 at_mem run h d g c m r) $ heard ! (r ≡ queueOf h d g c m) (λ e. split ! $ drop ! $
+        split ! $ move ! (1 ∷ []) $ use1 𝓛 (raw (fact 𝓤 (r ≡ queue_of h d g c m))) (core-of 𝓛 at_mem run h d g c m r) $ heard ! (r ≡ queue_of h d g c m) (λ e. split ! $ drop ! $
         peeks ! PushOut-T.the_row (Is PushOut-T.the_row) (shows 𝓛 PushOut-T.the_row) r (w ∷ []) (λ is.
         land ! (from ! (stop !)) (init ! 10 refl ((LL.lawful PushOut-T.the_type PushOut-L.the_laws 𝓛).typed r _ is).0) $
         rewrite ! 10 (λ (v : Val). ‵ (fat full_share PushOut-L.mir l6 0 v)) (ap only (LL.tells PushOut-T.the_type PushOut-L.the_laws r _ is)) refl $

@@ -42,7 +42,7 @@ use denote.Exit.{yes}
 use Rattle.ring.specs.declared.Ring.{Ring}
 use Rattle.lent_ring.proofs.Held.{vals, mach, state-typed, lays, lifts}
 use Rattle.ring.specs.declared.PushOut.{PushOut}
-use Rattle.ring_search.specs.Queueing.{queueOf}
+use Rattle.ring_search.specs.Queueing.{queue_of}
 use Rattle.ring.specs.contracts.Ring as Ring-T
 use Rattle.ring.proofs.Ring.TheLaws as Ring-L
 use Rattle.ring.specs.contracts.PushOut as PushOut-T
@@ -82,7 +82,7 @@ module _ {M : Type 1} {𝓤 : Ura M} (𝓛 : Logic 𝓤) (at_mem : Memory → SP
   made-is : (y : Bool) (z : Ring) → Is bool y (vbool y ∷ []) → Is Ring-T.the_row z (vals z) → Is PushOut-T.the_row (made y z) (LL.val PushOut-T.the_type PushOut-L.the_laws (made y z) ∷ [])
   made-is y z y-is z-is = LL.owes PushOut-T.the_type PushOut-L.the_laws (made y z) (y-is, (z-is, tt))
 
-  exits : (y : Bool) (z : Ring) → Is PushOut-T.the_row (made y z) (LL.val PushOut-T.the_type PushOut-L.the_laws (made y z) ∷ []) → (y ≡ (queueOf h d g c m).ok) × (z ≡ (queueOf h d g c m).ring) → ent 𝓤 (emp 𝓤) (Post (LL.val PushOut-T.the_type PushOut-L.the_laws (made y z)))
+  exits : (y : Bool) (z : Ring) → Is PushOut-T.the_row (made y z) (LL.val PushOut-T.the_type PushOut-L.the_laws (made y z) ∷ []) → (y ≡ (queue_of h d g c m).ok) × (z ≡ (queue_of h d g c m).ring) → ent 𝓤 (emp 𝓤) (Post (LL.val PushOut-T.the_type PushOut-L.the_laws (made y z)))
   exits y z is e =
       qed 𝓛 [] ∵ suffices ! _ (ends_at 𝓛 own.ended stayed (own.clauses 𝓛 at_mem run) ((tt, tt, tt, a, at), tt) (LL.val PushOut-T.the_type PushOut-L.the_laws (made y z)) (made y z) (tt, (tt, (tt, (tt, (tt, tt))))) (tt, (tt, (tt, (tt, (tt, tt)))))) $
       says ! (λ i. made (e.0 i) (e.1 i)) $ owned ! PushOut-T.the_row (Is PushOut-T.the_row) (LL.makes PushOut-T.the_type PushOut-L.the_plain 𝓛) (made y z) _ is $ nothing ! $
@@ -115,8 +115,8 @@ module _ {M : Type 1} {𝓤 : Ura M} (𝓛 : Logic 𝓤) (at_mem : Memory → SP
         calls_at ! fm (Thin 𝓛 at_mem run) known (to-thin l6 ν δ) (and_then ! (load ! (from ! (stop !)) (look ! 4 refl)) (and_then ! (load ! (from ! (stop !)) (look ! 15 refl)) (and_then ! (load ! (from ! (stop !)) (look ! 13 refl)) (and_then ! (load ! (from ! (stop !)) (look ! 11 refl)) (and_then ! (load ! (from ! (stop !)) (look ! 9 refl)) (no_more !)))))) (λ w.
         use1 𝓛 (later (some (λ (y : Bool). ((‵ (flft (ν ∷ []) full_share) ⊛ ‵ ftrue) ⊛ ‵ (bool.own_val y (w ∷ []))) ⊛ raw (ensured 𝓛 callee.ended (callee.clauses 𝓛 at_mem run) (ν ∷ [], tt) (ref l6 δ, (d, (g, (c, (m, tt))))) tt y)))) (id⊢ 𝓤 _) $ await ! tt $ pick ! (λ y.
         -- what `queue` ensures, at some last value
-        split ! $ move ! (1 ∷ []) $ use1 𝓛 (some (λ (zs : Ring × (Unit {0} × (Unit {0} × (Unit {0} × (Unit {0} × Unit {0}))))). ‵ (lasts callee.ended (ν ∷ [], tt) (ref l6 δ, (d, (g, (c, (m, tt))))) zs) ⊛ raw (fact 𝓤 ((y ≡ (queueOf h d g c m).ok) × (zs.0 ≡ (queueOf h d g c m).ring))))) (id⊢ 𝓤 _) $ pick ! (λ zs.
-        split ! $ move ! (1 ∷ []) $ heard ! ((y ≡ (queueOf h d g c m).ok) × (zs.0 ≡ (queueOf h d g c m).ring)) (λ e. fsplit ! $ move ! (2 ∷ []) $ split ! $ move ! (1 ∷ []) $ peeks ! bool (Is bool) (shows 𝓛 bool) y (w ∷ []) (λ is.
+        split ! $ move ! (1 ∷ []) $ use1 𝓛 (some (λ (zs : Ring × (Unit {0} × (Unit {0} × (Unit {0} × (Unit {0} × Unit {0}))))). ‵ (lasts callee.ended (ν ∷ [], tt) (ref l6 δ, (d, (g, (c, (m, tt))))) zs) ⊛ raw (fact 𝓤 ((y ≡ (queue_of h d g c m).ok) × (zs.0 ≡ (queue_of h d g c m).ring))))) (id⊢ 𝓤 _) $ pick ! (λ zs.
+        split ! $ move ! (1 ∷ []) $ heard ! ((y ≡ (queue_of h d g c m).ok) × (zs.0 ≡ (queue_of h d g c m).ring)) (λ e. fsplit ! $ move ! (2 ∷ []) $ split ! $ move ! (1 ∷ []) $ peeks ! bool (Is bool) (shows 𝓛 bool) y (w ∷ []) (λ is.
         land ! (from ! (stop !)) (init ! 9 refl ((bool_Lawful 𝓛).typed y _ is).0) $ rewrite ! 9 (λ (v : Val). ‵ (fat full_share ty_bool l7 0 v)) (ap only (bool_Tells y _ is)) refl $
         -- the lifetime is ended, and the local is back at that value
         drop ! $ split ! $ lft_end ! tt $ move ! (0 ∷ 4 ∷ 2 ∷ []) $ use3 𝓛 (later (‵ ((mem Ring-T.the_row).own_at zs.0 l6 0))) (ref_back 𝓛 Ring-T.the_row (ν ∷ []) δ zs.0 l6 0) $ await ! tt $

@@ -1,10 +1,10 @@
 -- The test; the call on admitted tables; what is kept of it.
-use Rattle.replies.specs.Replies.{replyOf}
+use Rattle.replies.specs.Replies.{reply_of}
 use Rattle.frame.specs.Finish.{each_word}
 use Rattle.frame.specs.Law.{memory-returns, admitted-sized}
 use Rattle.lent_steps.specs.Law.{call_returns}
 use Rattle.lent_steps.specs.Steps.{ran-step}
-use Rattle.call.specs.Steps.{stepNamed}
+use Rattle.call.specs.Steps.{step_named}
 use Rattle.model.specs.Perform.{Call}
 use borrow.Author.Rules.{rules}
 use Rattle.lent_steps.proofs.run.Statement.{statement}
@@ -19,8 +19,8 @@ step-requires c κs = admitted-sized _ c.before.before.before.before.before.befo
 finish-requires : tie.Need-finish-requires
 finish-requires c κs = search rules
 
-same_length : tie.Need-same-length
-same_length c = search rules
+same_length_lem : tie.Need-same-length
+same_length_lem c = search rules
 
 same-length-2 : tie.Need-same-length-2
 same-length-2 c = search rules
@@ -28,7 +28,7 @@ same-length-2 c = search rules
 returns : tie.Need-returns
 returns c =
     let e = ran-step c.before.before.before.before.before.before.before.before.before.before.before.before.before.before.before.before.before.before.before.args.call _ _ _ c.before.before.before.before.before.before.before.before.before.step.ensures.0 c.before.before.before.before.before.before.before.before.before.step.ensures.1 in
-    call_returns _ _ (each_word c.before.before.before.before.before.before.before.before.before.before.before.before.before.before.before.before.before.before.before.args.t.now (λ i. c.before.before.before.before.before.before.before.before.before.before.before.before.before.before.before.before.before.before.slice-known.given i)) _ c.before.before.before.before.before.before.before.before.before.before.before.before.before.before.begin.ensures.0 c.before.before.before.before.before.before.before.before.before.before.before.if1.true _ c.before.before.before.before.before.before.before.before.before.before.before.before.before.before.begin.ensures.1 (stepNamed c.before.before.before.before.before.before.before.before.before.before.before.before.before.before.before.before.before.before.before.args.call) c.before.before.before.before.before.before.before.before.before.before.before.before.before.before.before.before.before.before.before.requires _ _
+    call_returns _ _ (each_word c.before.before.before.before.before.before.before.before.before.before.before.before.before.before.before.before.before.before.before.args.t.now (λ i. c.before.before.before.before.before.before.before.before.before.before.before.before.before.before.before.before.before.before.slice-known.given i)) _ c.before.before.before.before.before.before.before.before.before.before.before.before.before.before.begin.ensures.0 c.before.before.before.before.before.before.before.before.before.before.before.if1.true _ c.before.before.before.before.before.before.before.before.before.before.before.before.before.before.begin.ensures.1 (step_named c.before.before.before.before.before.before.before.before.before.before.before.before.before.before.before.before.before.before.before.args.call) c.before.before.before.before.before.before.before.before.before.before.before.before.before.before.before.before.before.before.before.requires _ _
     e.0 e.1 c.before.before.before.before.before.before.before.before.before.step.auto.0 _ _ _ c.before.before.before.before.finish.ensures.0 c.before.before.before.before.finish.ensures.1 c.before.before.before.before.finish.ensures.2
 
 refused-requires : tie.Need-refused-requires
@@ -41,7 +41,7 @@ same-length-4 : tie.Need-same-length-4
 same-length-4 c = search rules
 
 returns-2 : tie.Need-returns-2
-returns-2 c = memory-returns replyOf _ _ (Call.Do (stepNamed c.before.before.before.before.before.before.before.before.before.args.call)) tt _ c.before.before.before.before.begin.ensures.0 c.before.if1.false _ _ c.refused.ensures c.before.before.before.before.begin.ensures.1
+returns-2 c = memory-returns reply_of _ _ (Call.Do (step_named c.before.before.before.before.before.before.before.before.before.args.call)) tt _ c.before.before.before.before.begin.ensures.0 c.before.if1.false _ _ c.refused.ensures c.before.before.before.before.begin.ensures.1
 
 pub run_spec : {M : Type 1} → statement M
-run_spec = tie.close (tie.spec begin-requires step-requires finish-requires same_length same-length-2 returns refused-requires same-length-3 same-length-4 returns-2)
+run_spec = tie.close (tie.spec begin-requires step-requires finish-requires same_length_lem same-length-2 returns refused-requires same-length-3 same-length-4 returns-2)

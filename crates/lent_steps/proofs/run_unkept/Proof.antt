@@ -1,10 +1,10 @@
 -- The test; the call on admitted tables, of which nothing has to be put back.
 use mathlib.Core.Path.{sym, ◌∙◌}
-use Rattle.replies.specs.Replies.{replyOf}
+use Rattle.replies.specs.Replies.{reply_of}
 use Rattle.frame.specs.Finish.{each_word, kept-clear}
 use Rattle.frame.specs.Law.{memory-returns, admitted-sized}
 use Rattle.lent_steps.specs.Unkept.{unkept-returns}
-use Rattle.call.specs.Steps.{stepNamed}
+use Rattle.call.specs.Steps.{step_named}
 use Rattle.model.specs.Perform.{Call}
 use borrow.Author.Rules.{rules}
 use Rattle.lent_steps.proofs.run_unkept.Statement.{statement}
@@ -19,8 +19,8 @@ step-requires c κs = admitted-sized _ c.before.before.before.before.before.befo
 reply-for-requires : tie.Need-reply-for-requires
 reply-for-requires c κs = search rules
 
-same_length : tie.Need-same-length
-same_length c = search rules
+same_length_lem : tie.Need-same-length
+same_length_lem c = search rules
 
 same-length-2 : tie.Need-same-length-2
 same-length-2 c = search rules
@@ -38,7 +38,7 @@ same-length-4 : tie.Need-same-length-4
 same-length-4 c = search rules
 
 returns-2 : tie.Need-returns-2
-returns-2 c = memory-returns replyOf _ _ (Call.Do (stepNamed c.before.before.before.before.before.before.before.before.before.args.call)) tt _ c.before.before.before.before.admits.ensures.0 c.before.if1.false _ _ c.refused.ensures (c.before.before.before.before.admits.ensures.1 ∙ sym (kept-clear _ _ (sym c.before.before.before.before.admits.ensures.0 ∙ c.before.if1.false)))
+returns-2 c = memory-returns reply_of _ _ (Call.Do (step_named c.before.before.before.before.before.before.before.before.before.args.call)) tt _ c.before.before.before.before.admits.ensures.0 c.before.if1.false _ _ c.refused.ensures (c.before.before.before.before.admits.ensures.1 ∙ sym (kept-clear _ _ (sym c.before.before.before.before.admits.ensures.0 ∙ c.before.if1.false)))
 
 pub run-unkept-spec : {M : Type 1} → statement M
 run-unkept-spec =
@@ -47,7 +47,7 @@ run-unkept-spec =
     admits-requires
     step-requires
     reply-for-requires
-    same_length
+    same_length_lem
     same-length-2
     returns
     refused-requires

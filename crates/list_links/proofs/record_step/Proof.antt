@@ -2,7 +2,7 @@
 use mathlib.Core.Path.{◌∙◌}
 use lib.Dec.{ltb, eqb}
 use Rattle.base.specs.Tests.{both}
-use Rattle.list_links.specs.Reads.{recordStep}
+use Rattle.list_links.specs.Reads.{record_step}
 use borrow.Author.Rules.{rules}
 use Rattle.list_links.proofs.record_step.Statement.{statement}
 use Rattle.list_links.proofs.record_step.Tie as tie
@@ -17,7 +17,7 @@ record-in-requires : tie.Need-record-in-requires
 record-in-requires c κs = search rules
 
 returns : tie.Need-returns
-unfolding recordStep
+unfolding record_step
 returns c = λ j. record { may = (c.before.both.ensures ∙ (λ k. both (ltb c.before.before.before.before.before.args.i c.before.before.before.before.before.args.n) (eqb (c.before.before.word.ensures k) 0))) j; next = (c.record-in.ensures j).next }
 
 pub record-step-spec : {M : Type 1} → statement M

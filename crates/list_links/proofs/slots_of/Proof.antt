@@ -1,6 +1,6 @@
 -- The size that the header has.
-use Rattle.tables.specs.View.{view, ofParts}
-use Rattle.sizes.specs.Sizes.{sizesOf}
+use Rattle.tables.specs.View.{view, of_parts}
+use Rattle.sizes.specs.Sizes.{sizes_of}
 use borrow.Author.Rules.{rules}
 use Rattle.list_links.proofs.slots_of.Statement.{statement}
 use Rattle.list_links.proofs.slots_of.Tie as tie
@@ -36,23 +36,23 @@ size-requires-5 : tie.Need-size-requires-5
 size-requires-5 c κs = search rules
 
 returns : tie.Need-returns
-unfolding view ofParts sizesOf
+unfolding view of_parts sizes_of
 returns c = rw (c.before.enum_told.given.1) (c.size.ensures)
 
 returns-2 : tie.Need-returns-2
-unfolding view ofParts sizesOf
+unfolding view of_parts sizes_of
 returns-2 c = rw (c.before.enum-told2.given.1) (c.size2.ensures)
 
 returns-3 : tie.Need-returns-3
-unfolding view ofParts sizesOf
+unfolding view of_parts sizes_of
 returns-3 c = rw (c.before.enum-told3.given.1) (c.size3.ensures)
 
 returns-4 : tie.Need-returns-4
-unfolding view ofParts sizesOf
+unfolding view of_parts sizes_of
 returns-4 c = rw (c.before.enum-told4.given.1) (c.size4.ensures)
 
 returns-5 : tie.Need-returns-5
-unfolding view ofParts sizesOf
+unfolding view of_parts sizes_of
 returns-5 c = rw (c.before.enum-told5.given.1) (c.size5.ensures)
 
 pub slots-of-spec : {M : Type 1} → statement M

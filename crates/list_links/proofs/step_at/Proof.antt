@@ -1,5 +1,5 @@
 -- Each list by its own step.
-use Rattle.list_links.specs.Reads.{stepIn}
+use Rattle.list_links.specs.Reads.{step_in}
 use borrow.Author.Rules.{rules}
 use Rattle.list_links.proofs.step_at.Statement.{statement}
 use Rattle.list_links.proofs.step_at.Tie as tie
@@ -35,23 +35,23 @@ record-step-requires : tie.Need-record-step-requires
 record-step-requires c κs = search rules
 
 returns : tie.Need-returns
-unfolding stepIn
+unfolding step_in
 returns c = rw (c.before.enum_told.given.1) c.link-step.ensures
 
 returns-2 : tie.Need-returns-2
-unfolding stepIn
+unfolding step_in
 returns-2 c = rw (c.before.enum-told2.given.1) c.link-step2.ensures
 
 returns-3 : tie.Need-returns-3
-unfolding stepIn
+unfolding step_in
 returns-3 c = rw (c.before.enum-told3.given.1) c.link-step3.ensures
 
 returns-4 : tie.Need-returns-4
-unfolding stepIn
+unfolding step_in
 returns-4 c = rw (c.before.enum-told4.given.1) c.slot_step.ensures
 
 returns-5 : tie.Need-returns-5
-unfolding stepIn
+unfolding step_in
 returns-5 c = rw (c.before.enum-told5.given.1) c.record-step.ensures
 
 pub step-at-spec : {M : Type 1} → statement M

@@ -2,9 +2,9 @@
 use Prim.Native.Nat.{◌+◌}
 use Rattle.listing.proofs.Filling.{Filling, filling-start, filling-end, filling-more, free-none, used_start, none_filled}
 use Rattle.readings.proofs.Reading.{records-end, records-none, records-more}
-use Rattle.readings.specs.Readings.{recordsFrom}
+use Rattle.readings.specs.Readings.{records_from}
 use Rattle.tables.specs.View.{view}
-use Rattle.sizes.specs.Sizes.{sizesOf}
+use Rattle.sizes.specs.Sizes.{sizes_of}
 use borrow.Author.Rules.{rules}
 use mathlib.Core.Path.{◌≡◌, sym, ◌∙◌}
 use native.Mathlib.Omega.{arith}
@@ -12,7 +12,7 @@ use Rattle.listing.proofs.fill_lines.Statement.{statement}
 use Rattle.listing.proofs.fill_lines.Tie as tie
 
 abbrev invariant-loop : tie.invariant-loop
-invariant-loop t d run₀ n₀ left₀ k₀ run n left k = (n + left ≡ left₀) × Filling d n (recordsFrom left (view t) k) run (recordsFrom left₀ (view t) k₀) run₀
+invariant-loop t d run₀ n₀ left₀ k₀ run n left k = (n + left ≡ left₀) × Filling d n (records_from left (view t) k) run (records_from left₀ (view t) k₀) run₀
 
 abbrev decreases-loop : tie.decreases-loop
 decreases-loop t d run₀ n₀ left₀ k₀ run n left k = left
@@ -32,8 +32,8 @@ first-requires c κs = c.before.before.before.before.before.requires
 loop-holds : tie.Need-loop-init invariant-loop decreases-loop
 loop-holds c = (omega arith, filling-start _ _ _)
 
-same_length : tie.Need-same-length invariant-loop decreases-loop
-same_length c = c.before.before.loop.invariant.1.room
+same_length_lem : tie.Need-same-length invariant-loop decreases-loop
+same_length_lem c = c.before.before.loop.invariant.1.room
 
 returns-2 : tie.Need-returns-2 invariant-loop decreases-loop
 returns-2 c = rw (← (used_start c.before.before.before.before.before.before.before.before.before.args.t.now c.before.before.before.before.before.before.before.before.before.args.d _ _ (sym c.before.before.before.before.before.before.domain-is-free.ensures ∙ c.before.before.before.before.before.if1.false) c.before.before.before.before.size.ensures c.before.before.before.first.ensures)) (filling-end _ _ _ _ _ _ (records-none _ _ _ c.if2.true) c.before.before.loop.invariant.1)
@@ -45,15 +45,15 @@ load-record-requires : tie.Need-load-record-requires invariant-loop decreases-lo
 load-record-requires c κs = c.before.before.before.before.before.before.before.before.before.before.requires
 
 mul-put-line : tie.Need-overflow-mul-put-line invariant-loop decreases-loop
-unfolding sizesOf
+unfolding sizes_of
 mul-put-line c = omega (arith, c.before.before.before.before.before.before.before.size.ensures, c.before.before.before.before.before.before.before.before.before.before.before.before.requires.limits.records-high)
 
 put-line-requires : tie.Need-put-line-requires invariant-loop decreases-loop
-unfolding sizesOf
+unfolding sizes_of
 put-line-requires c κs = omega (arith, c.before.before.before.before.before.before.before.size.ensures, c.before.before.before.before.before.before.before.before.before.before.before.before.requires.limits.records-high)
 
 add-n : tie.Need-overflow-add-n invariant-loop decreases-loop
-unfolding sizesOf
+unfolding sizes_of
 add-n c = omega (arith, c.before.before.before.before.before.before.before.before.before.before.size.ensures, c.before.before.before.before.before.before.before.before.before.before.before.before.before.before.before.requires.limits.records-high)
 
 sub-left : tie.Need-overflow-sub-left invariant-loop decreases-loop
@@ -82,7 +82,7 @@ fill-lines-spec =
     size-requires
     first-requires
     loop-holds
-    same_length
+    same_length_lem
     returns-2
     slot-to-requires
     load-record-requires

@@ -34,8 +34,8 @@ add-put-4 c = search rules
 put-requires-5 : tie.Need-put-requires-5
 put-requires-5 c κs = search rules
 
-same_length : tie.Need-same-length
-same_length c = search rules
+same_length_lem : tie.Need-same-length
+same_length_lem c = search rules
 
 returns : tie.Need-returns
 returns c = let a = c.before.before.before.before.before.before.before.before.before.before.before.before.before.before.before.before.before.before.before.before.before.before.args in line-put a.run.now _ _ _ _ _ a.at a.d _ _ _ _ _ c.before.before.before.before.before.before.before.before.before.before.before.before.before.before.before.before.before.before.before.put.ensures c.before.before.before.before.before.before.before.before.before.before.before.before.before.before.before.put2.ensures c.before.before.before.before.before.before.before.before.before.before.before.put3.ensures c.before.before.before.before.before.before.before.get-ops.ensures c.before.before.before.before.before.before.put4.ensures c.before.before.put5.ensures
@@ -54,5 +54,5 @@ put-line-spec =
     put-requires-4
     add-put-4
     put-requires-5
-    same_length
+    same_length_lem
     returns)

@@ -20,8 +20,8 @@ crossings-requires c κs = search rules
 going-requires : tie.Need-going-requires
 going-requires c κs = search rules
 
-same_length : tie.Need-same-length
-same_length c = search rules
+same_length_lem : tie.Need-same-length
+same_length_lem c = search rules
 
 returns : tie.Need-returns
 returns c = rw c.going.ensures (lower-kept _ _ _ _ _ _ c.before.before.before.before.before.before.before.before.before.decrease.ensures _ _ c.before.before.before.before.before.before.if1.true c.before.crossings.ensures (rw c.before.before.before.before.before.before.before.before.slot-to.ensures at c.before.before.before.before.store-record.ensures))
@@ -68,7 +68,7 @@ lower_spec =
     store-record-requires
     crossings-requires
     going-requires
-    same_length
+    same_length_lem
     returns
     set-next-requires
     free-requires

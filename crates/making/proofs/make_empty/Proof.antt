@@ -16,8 +16,8 @@ fresh-in-requires-2 c κs = search rules
 fresh-in-requires-3 : tie.Need-fresh-in-requires-3
 fresh-in-requires-3 c κs = search rules
 
-same_length : tie.Need-same-length
-same_length c = search rules
+same_length_lem : tie.Need-same-length
+same_length_lem c = search rules
 
 returns : tie.Need-returns
 returns c = made c.before.before.before.before.before.before.before.before.before.before.before.before.before.before.before.before.before.args.z _ _ _ _ c.before.before.before.before.before.before.before.before.before.before.before.before.before.before.blank.ensures c.before.before.before.before.before.before.before.before.before.before.Fresh-in.ensures c.before.before.before.before.before.before.fresh-in2.ensures c.before.before.fresh-in3.ensures
@@ -30,5 +30,5 @@ make-empty-spec =
     fresh-in-requires
     fresh-in-requires-2
     fresh-in-requires-3
-    same_length
+    same_length_lem
     returns)

@@ -1,13 +1,13 @@
 -- The rest of the way from here is the way from the start.
 use Prim.Native.Nat.{◌-◌, ◌≤◌}
-use Rattle.managers.specs.Managers.{climbed, managerIn, climb-none, climb-start, climb-step, climb-end}
+use Rattle.managers.specs.Managers.{climbed, manager_in, climb-none, climb-start, climb-step, climb-end}
 use mathlib.Core.Path.{◌≡◌, sym, ap, ◌∙◌}
 use native.Mathlib.Omega.{arith}
 use Rattle.managers.proofs.climb.Statement.{statement}
 use Rattle.managers.proofs.climb.Tie as tie
 
 abbrev invariant-loop : tie.invariant-loop
-invariant-loop z p n l at₀ i₀ at i = (i ≤ n) × (climbed (managerIn z p) n l ≡ climbed (managerIn z p) (n - i) at)
+invariant-loop z p n l at₀ i₀ at i = (i ≤ n) × (climbed (manager_in z p) n l ≡ climbed (manager_in z p) (n - i) at)
 
 abbrev decreases-loop : tie.decreases-loop
 decreases-loop z p n l at₀ i₀ at i = n - i

@@ -1,5 +1,5 @@
 -- By the branch.
-use Rattle.managers.specs.Managers.{managerIn, place-fits}
+use Rattle.managers.specs.Managers.{manager_in, place-fits}
 use borrow.Author.Tests.{lt-ltb, le-ltb}
 use native.Mathlib.Omega.{arith}
 use borrow.Author.Rules.{rules}
@@ -16,11 +16,11 @@ word-requires : tie.Need-word-requires
 word-requires c κs = search rules
 
 returns : tie.Need-returns
-unfolding managerIn
+unfolding manager_in
 returns c = rw (lt-ltb _ _ (c.before.before.if1.true), c.word.ensures, c.before.domain-width.ensures)
 
 returns-2 : tie.Need-returns-2
-unfolding managerIn
+unfolding manager_in
 returns-2 c = rw (le-ltb _ _ (c.if1.false))
 
 pub manager-in-spec : {M : Type 1} → statement M

@@ -27,8 +27,8 @@ part-clear-end c = search rules
 clear-requires : tie.Need-clear-requires
 clear-requires c κs = search rules
 
-same_length : tie.Need-same-length
-same_length c = search rules
+same_length_lem : tie.Need-same-length
+same_length_lem c = search rules
 
 returns : tie.Need-returns
 returns c = let k = c.before.before.before.before.before.before.args.n / 64 + (c.before.before.before.before.before.before.args.n % 64 + 63) / 64 in cleared c.before.before.before.before.before.before.args.w.now c.before.before.before.before.before.before.args.n k (rounded c.before.before.before.before.before.before.args.n) (k - 0) c.before.before.clear.new.0 (omega arith) c.before.before.before.before.if1.true (c.before.before.clear.ensures ∙ ap (λ m. replicate m 0) (length-first c.before.before.before.before.before.before.args.w.now k c.before.before.before.before.if1.true))
@@ -46,6 +46,6 @@ clear_spec =
     part-clear-start
     part-clear-end
     clear-requires
-    same_length
+    same_length_lem
     returns
     returns-2)

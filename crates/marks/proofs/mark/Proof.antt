@@ -3,7 +3,7 @@ use mathlib.Core.Path.{◌∙◌}
 use Prim.Native.Nat.{◌/◌}
 use lib.Bits.{bit_or}
 use lib.ListN.{set}
-use Rattle.marks.specs.Marks.{withMark}
+use Rattle.marks.specs.Marks.{with_mark}
 use Rattle.marks.specs.Laws.{shifted}
 use borrow.Author.Rules.{rules}
 use Rattle.marks.proofs.mark.Statement.{statement}
@@ -18,12 +18,12 @@ shl-bit c = search rules
 put-requires : tie.Need-put-requires
 put-requires c κs = search rules
 
-same_length : tie.Need-same-length
-same_length c = search rules
+same_length_lem : tie.Need-same-length
+same_length_lem c = search rules
 
 returns : tie.Need-returns
-unfolding withMark
+unfolding with_mark
 returns c = c.before.before.put.ensures ∙ (λ j. set c.before.before.before.before.before.before.before.args.w.now (c.before.before.before.before.before.before.before.args.i / 64) (bit_or (c.before.before.before.before.word.ensures j) (shifted c.before.before.before.before.before.before.before.args.i j)))
 
 pub mark_spec : {M : Type 1} → statement M
-mark_spec = tie.close (tie.spec word-requires shl-bit put-requires same_length returns)
+mark_spec = tie.close (tie.spec word-requires shl-bit put-requires same_length_lem returns)

@@ -3,15 +3,15 @@ use Rattle.std.specs.Prelude.{◌≡◌, refl, ℕ}
 use Rattle.std.proofs.Math.Option.{Option, none, some}
 use mathlib.Core.List.{List, [], ◌∷◌, ◌++◌, map, flat_map}
 use Rattle.refusals.specs.declared.Refusal.{Refusal}
-use Rattle.refusals.specs.Refusals.{noDomain, stale, notCarried, ringFull, holdsRoot, running}
-use Rattle.model.specs.Lists.{oneIf, is_some}
-use Rattle.model.specs.State.{State, Handle, noOptions, Domain, Record, Update, permission, cleanup}
-use Rattle.model.specs.Making.{emptyTables}
+use Rattle.refusals.specs.Refusals.{no_domain, stale, not_carried, ring_full, holds_root, running}
+use Rattle.model.specs.Lists.{one_if, is_some}
+use Rattle.model.specs.State.{State, Handle, no_options, Domain, Record, Update, permission, cleanup}
+use Rattle.model.specs.Making.{empty_tables}
 use Rattle.model.specs.Perform.{Step, Call, Value, Answer, run}
 use Rattle.model.specs.Checked.Compute.{computing}
 use Rattle.model.specs.Checked.Script.{dom, access}
 use Rattle.model.specs.Checked.Edges.{passes}
-use Rattle.model.specs.Checked.OurCases.{SizedCase, answered, gives, z, opened, rootOf, channel, revoke}
+use Rattle.model.specs.Checked.OurCases.{SizedCase, answered, gives, z, opened, root_of, channel, revoke}
 
 -- ---- calls for short
 
@@ -31,7 +31,7 @@ carve d l s e r = Call.Do (Step.Carve (dom d) l (access s e r))
 
 -- domain d sends slot l to the domain that its slot t names
 abbrev pub send : ℕ → ℕ → ℕ → Call
-send d l t = Call.Do (Step.Send (dom d) l t noOptions)
+send d l t = Call.Do (Step.Send (dom d) l t no_options)
 
 -- what was queued is popped
 abbrev popped : List Call
@@ -39,7 +39,7 @@ popped = Call.Pop ∷ Call.Pop ∷ Call.Pop ∷ Call.Pop ∷ []
 
 -- domain 0 with domain 1 below it, Management in slot 0, and a root 0 to 16 in slot 1
 abbrev pair : List Call
-pair = opened 0 ∷ under 0 0 ∷ rootOf 0 16 3 ∷ []
+pair = opened 0 ∷ under 0 0 ∷ root_of 0 16 3 ∷ []
 
 -- and domain 2 below domain 1, Management in domain 1's slot 0
 abbrev chain : List Call
@@ -49,7 +49,7 @@ chain = pair ++ (under 1 0 ∷ [])
 
 -- 1 for each slot in use
 abbrev used : {A : Type 0} → List (Option A) → List ℕ
-used l = map (λ x. oneIf (is_some x)) l
+used l = map (λ x. one_if (is_some x)) l
 
 -- start, end and reach of each record
 abbrev spans : Option Domain → List ℕ
@@ -66,89 +66,89 @@ record Case : Type 0 where
   queue : List Update
 
 abbrev after : List Call → State
-after cs = (run (emptyTables (z 3 4 4 6 4)) (cs ++ (revoke 0 ∷ []))).1
+after cs = (run (empty_tables (z 3 4 4 6 4)) (cs ++ (revoke 0 ∷ []))).1
 
 abbrev closed : Case → Case
 closed c = let s = after c.given in record {
   given = c.given;
-  domains = used s.domains ∷ s.domainPool.gens ∷ s.domainPool.free ∷ [];
-  regions = used s.regions ∷ s.regionPool.gens ∷ s.regionPool.free ∷ [];
+  domains = used s.domains ∷ s.domain_pool.gens ∷ s.domain_pool.free ∷ [];
+  regions = used s.regions ∷ s.region_pool.gens ∷ s.region_pool.free ∷ [];
   trackers = map spans s.domains;
   queue = s.queue.items;
 }
 
 -- domain 1 is gone; domain 2, too, which was freed first
-abbrev oneGone : List (List ℕ)
-oneGone = (1 ∷ 0 ∷ 0 ∷ []) ∷ (0 ∷ 1 ∷ 0 ∷ []) ∷ (1 ∷ 2 ∷ []) ∷ []
+abbrev one_gone : List (List ℕ)
+one_gone = (1 ∷ 0 ∷ 0 ∷ []) ∷ (0 ∷ 1 ∷ 0 ∷ []) ∷ (1 ∷ 2 ∷ []) ∷ []
 
-abbrev twoGone : List (List ℕ)
-twoGone = (1 ∷ 0 ∷ 0 ∷ []) ∷ (0 ∷ 1 ∷ 1 ∷ []) ∷ (1 ∷ 2 ∷ []) ∷ []
+abbrev two_gone : List (List ℕ)
+two_gone = (1 ∷ 0 ∷ 0 ∷ []) ∷ (0 ∷ 1 ∷ 1 ∷ []) ∷ (1 ∷ 2 ∷ []) ∷ []
 
 -- of the regions the root is left: region 1 was freed, region 2 before it, region 2 after it
-abbrev rootLeft : List ℕ
-rootLeft = 1 ∷ 0 ∷ 0 ∷ 0 ∷ []
+abbrev root_left : List ℕ
+root_left = 1 ∷ 0 ∷ 0 ∷ 0 ∷ []
 
-abbrev aliasFreed : List (List ℕ)
-aliasFreed = rootLeft ∷ (0 ∷ 1 ∷ 0 ∷ 0 ∷ []) ∷ (1 ∷ 2 ∷ 3 ∷ []) ∷ []
+abbrev alias_freed : List (List ℕ)
+alias_freed = root_left ∷ (0 ∷ 1 ∷ 0 ∷ 0 ∷ []) ∷ (1 ∷ 2 ∷ 3 ∷ []) ∷ []
 
-abbrev childFirst : List (List ℕ)
-childFirst = rootLeft ∷ (0 ∷ 1 ∷ 1 ∷ 0 ∷ []) ∷ (1 ∷ 2 ∷ 3 ∷ []) ∷ []
+abbrev child_first : List (List ℕ)
+child_first = root_left ∷ (0 ∷ 1 ∷ 1 ∷ 0 ∷ []) ∷ (1 ∷ 2 ∷ 3 ∷ []) ∷ []
 
-abbrev childLast : List (List ℕ)
-childLast = rootLeft ∷ (0 ∷ 1 ∷ 1 ∷ 0 ∷ []) ∷ (2 ∷ 1 ∷ 3 ∷ []) ∷ []
+abbrev child_last : List (List ℕ)
+child_last = root_left ∷ (0 ∷ 1 ∷ 1 ∷ 0 ∷ []) ∷ (2 ∷ 1 ∷ 3 ∷ []) ∷ []
 
 -- domain 0 has its range back
 abbrev whole : List (List ℕ)
 whole = (0 ∷ 16 ∷ 1 ∷ []) ∷ [] ∷ [] ∷ []
 
 -- domain 1 holds an alias 0 to 16 and a carve 0 to 4 of it
-abbrev ownCarve : List Call
-ownCarve = pair ++ (alias 0 1 0 16 3 ∷ send 0 2 0 ∷ carve 1 0 0 4 3 ∷ []) ++ popped
+abbrev own_carve : List Call
+own_carve = pair ++ (alias 0 1 0 16 3 ∷ send 0 2 0 ∷ carve 1 0 0 4 3 ∷ []) ++ popped
 
 abbrev table : List Case
 table =
     -- a domain with nothing
-    record { given = pair ++ popped; domains = oneGone; regions = (1 ∷ 0 ∷ 0 ∷ 0 ∷ []) ∷ (0 ∷ 0 ∷ 0 ∷ 0 ∷ []) ∷ (1 ∷ 2 ∷ 3 ∷ []) ∷ []; trackers = whole; queue = [] }
+    record { given = pair ++ popped; domains = one_gone; regions = (1 ∷ 0 ∷ 0 ∷ 0 ∷ []) ∷ (0 ∷ 0 ∷ 0 ∷ 0 ∷ []) ∷ (1 ∷ 2 ∷ 3 ∷ []) ∷ []; trackers = whole; queue = [] }
     -- "The Rust fails when a closing domain holds a carve at the start of its own region; ours closes it". Nothing is queued
-    ∷ record { given = ownCarve; domains = oneGone; regions = childFirst; trackers = whole; queue = [] }
+    ∷ record { given = own_carve; domains = one_gone; regions = child_first; trackers = whole; queue = [] }
     -- "its slots in rising order": the region of slot 0 goes before that of slot 1
-    ∷ record { given = pair ++ (alias 0 1 0 8 3 ∷ send 0 2 0 ∷ alias 0 1 8 16 3 ∷ send 0 2 0 ∷ []) ++ popped; domains = oneGone; regions = childLast; trackers = whole; queue = [] }
+    ∷ record { given = pair ++ (alias 0 1 0 8 3 ∷ send 0 2 0 ∷ alias 0 1 8 16 3 ∷ send 0 2 0 ∷ []) ++ popped; domains = one_gone; regions = child_last; trackers = whole; queue = [] }
     -- "and a Management slot closes that domain in turn": domain 2 holds the carve, and goes first, so that domain 1 is given next
-    ∷ record { given = chain ++ (alias 0 1 0 16 3 ∷ send 0 2 0 ∷ carve 1 1 0 4 3 ∷ send 1 2 0 ∷ []) ++ popped; domains = twoGone; regions = childFirst; trackers = whole; queue = [] }
+    ∷ record { given = chain ++ (alias 0 1 0 16 3 ∷ send 0 2 0 ∷ carve 1 1 0 4 3 ∷ send 1 2 0 ∷ []) ++ popped; domains = two_gone; regions = child_first; trackers = whole; queue = [] }
     -- "though CLEANUP still does"
-    ∷ record { given = pair ++ (alias 0 1 4 8 35 ∷ send 0 2 0 ∷ []) ++ popped; domains = oneGone; regions = aliasFreed; trackers = whole; queue = cleanup 4 8 ∷ [] }
+    ∷ record { given = pair ++ (alias 0 1 4 8 35 ∷ send 0 2 0 ∷ []) ++ popped; domains = one_gone; regions = alias_freed; trackers = whole; queue = cleanup 4 8 ∷ [] }
     -- "A domain is closing from its own turn on": domain 1 has an alias in slot 0 and the Management of domain 2 in slot 1; domain 2 has an alias of the alias,
     -- loses it while slot 0 is revoked, and is queued. Then it is closed: the queue names it by its old generation
     ∷ record {
       given = pair ++ (alias 0 1 0 16 3 ∷ send 0 2 0 ∷ under 1 0 ∷ alias 1 0 0 8 1 ∷ send 1 2 1 ∷ []) ++ popped;
-      domains = twoGone;
-      regions = childFirst;
+      domains = two_gone;
+      regions = child_first;
       trackers = whole;
       queue = permission (dom 2) 0 3 ∷ [];
     }
     -- "parents have their ranges back": domain 0, which is not closing, gains the carve's range and is queued
-    ∷ record { given = pair ++ (carve 0 1 4 8 3 ∷ send 0 2 0 ∷ []) ++ popped; domains = oneGone; regions = aliasFreed; trackers = whole; queue = permission (dom 0) 0 7 ∷ [] }
+    ∷ record { given = pair ++ (carve 0 1 4 8 3 ∷ send 0 2 0 ∷ []) ++ popped; domains = one_gone; regions = alias_freed; trackers = whole; queue = permission (dom 0) 0 7 ∷ [] }
     -- "queues nothing": an update of domain 1 that is queued gathers nothing either. It was queued by an alias with READ; the one with READ and WRITE came before
     ∷ record {
       given = pair ++ (alias 0 1 0 8 3 ∷ send 0 2 0 ∷ []) ++ popped ++ (alias 0 1 12 16 1 ∷ send 0 2 0 ∷ []);
-      domains = oneGone;
-      regions = childLast;
+      domains = one_gone;
+      regions = child_last;
       trackers = whole;
       queue = permission (dom 1) 0 3 ∷ [];
     }
     -- "a RegionRevoke's region likewise if alive": domain 1 has a RegionRevoke of domain 0's alias
     ∷ record {
       given = pair ++ (alias 0 1 0 16 3 ∷ Call.Do (Step.CreateRevokeCapa (dom 0) 2) ∷ send 0 3 0 ∷ []) ++ popped;
-      domains = oneGone;
-      regions = aliasFreed;
+      domains = one_gone;
+      regions = alias_freed;
       trackers = whole;
       queue = [];
     }
     -- a RegionRevoke of a region that was revoked before: nothing
     ∷ record {
       given = pair ++ (alias 0 1 0 16 3 ∷ Call.Do (Step.CreateRevokeCapa (dom 0) 2) ∷ send 0 3 0 ∷ revoke 2 ∷ []) ++ popped;
-      domains = oneGone;
-      regions = aliasFreed;
+      domains = one_gone;
+      regions = alias_freed;
       trackers = whole;
       queue = [];
     }
@@ -157,7 +157,7 @@ table =
     ∷ record {
       given = pair ++ popped ++ (alias 0 1 0 8 3 ∷ send 0 2 0 ∷ revoke 0 ∷ under 0 0 ∷ alias 0 1 0 8 1 ∷ send 0 3 2 ∷ revoke 2 ∷ []);
       domains = (1 ∷ 0 ∷ 0 ∷ []) ∷ (0 ∷ 2 ∷ 0 ∷ []) ∷ (1 ∷ 2 ∷ []) ∷ [];
-      regions = rootLeft ∷ (0 ∷ 2 ∷ 0 ∷ 0 ∷ []) ∷ (1 ∷ 2 ∷ 3 ∷ []) ∷ [];
+      regions = root_left ∷ (0 ∷ 2 ∷ 0 ∷ 0 ∷ []) ∷ (1 ∷ 2 ∷ 3 ∷ []) ∷ [];
       trackers = whole;
       queue = permission (dom 1) 0 7 ∷ permission (again 1) 0 3 ∷ [];
     }
@@ -169,54 +169,54 @@ closes = refl
 
 -- "its tracker then gains and loses as in any revoke": domain 1 gains the carve's range back before the alias goes, in the record slot that was freed last. With
 -- that gain dropped, as in the Rust, all else would be the same, and slot 1 of generation 1
-pub closing-gains : (let p = (after ownCarve).recordPool in p.gens ∷ p.free ∷ []) ≡ (0 ∷ 2 ∷ 1 ∷ 0 ∷ 0 ∷ 0 ∷ []) ∷ (1 ∷ 2 ∷ 3 ∷ 4 ∷ 5 ∷ []) ∷ []
+pub closing-gains : (let p = (after own_carve).record_pool in p.gens ∷ p.free ∷ []) ≡ (0 ∷ 2 ∷ 1 ∷ 0 ∷ 0 ∷ 0 ∷ []) ∷ (1 ∷ 2 ∷ 3 ∷ 4 ∷ 5 ∷ []) ∷ []
 unfolding computing
 closing-gains = refl
 
 -- ---- answers
 
 -- domain 0 revokes the Management in slot 0 after these calls, and is refused
-abbrev refusedWith : List Call → Refusal → SizedCase
-refusedWith cs r = gives (z 3 4 4 6 4) cs (revoke 0) (Answer.no r)
+abbrev refused_with : List Call → Refusal → SizedCase
+refused_with cs r = gives (z 3 4 4 6 4) cs (revoke 0) (Answer.no r)
 
 -- the root is sent to domain 2, through a channel
 abbrev root_below : List Call
 root_below = chain ++ (Call.Do (Step.Channel (dom 0) (dom 2)) ∷ send 0 1 2 ∷ [])
 
 -- domain 1 is closed with domain 2, to which domain 0 has a channel in slot 2
-abbrev channelLeft : List Call
-channelLeft = chain ++ (Call.Do (Step.Channel (dom 0) (dom 2)) ∷ revoke 0 ∷ [])
+abbrev channel_left : List Call
+channel_left = chain ++ (Call.Do (Step.Channel (dom 0) (dom 2)) ∷ revoke 0 ∷ [])
 
 abbrev answers : List SizedCase
 answers =
     -- "22 where any domain to be closed holds a root": the target, or one below it
-    refusedWith (pair ++ (send 0 1 0 ∷ [])) holdsRoot
-    ∷ refusedWith root_below holdsRoot
+    refused_with (pair ++ (send 0 1 0 ∷ [])) holds_root
+    ∷ refused_with root_below holds_root
     -- "then 23 where any has a nonzero core map"
-    ∷ refusedWith (opened 0 ∷ under 0 5 ∷ []) running
-    ∷ refusedWith (opened 0 ∷ under 0 0 ∷ under 1 5 ∷ []) running
+    ∷ refused_with (opened 0 ∷ under 0 5 ∷ []) running
+    ∷ refused_with (opened 0 ∷ under 0 0 ∷ under 1 5 ∷ []) running
     -- 22 comes first, wherever the root and the core map are
-    ∷ refusedWith (opened 0 ∷ under 0 5 ∷ rootOf 0 16 3 ∷ send 0 1 0 ∷ []) holdsRoot
-    ∷ refusedWith (opened 0 ∷ under 0 5 ∷ under 1 0 ∷ Call.Do (Step.Root (dom 2) (access 0 16 3)) ∷ []) holdsRoot
+    ∷ refused_with (opened 0 ∷ under 0 5 ∷ root_of 0 16 3 ∷ send 0 1 0 ∷ []) holds_root
+    ∷ refused_with (opened 0 ∷ under 0 5 ∷ under 1 0 ∷ Call.Do (Step.Root (dom 2) (access 0 16 3)) ∷ []) holds_root
     -- the manager's own root and core map do not matter
-    ∷ gives (z 3 4 4 6 4) (opened 5 ∷ under 0 0 ∷ rootOf 0 16 3 ∷ []) (revoke 0) (Answer.yes Value.done)
+    ∷ gives (z 3 4 4 6 4) (opened 5 ∷ under 0 0 ∷ root_of 0 16 3 ∷ []) (revoke 0) (Answer.yes Value.done)
     -- a core map that was set back
     ∷ gives (z 3 4 4 6 4) (opened 0 ∷ under 0 5 ∷ Call.Do (Step.SetCoreMap (dom 1) 0) ∷ []) (revoke 0) (Answer.yes Value.done)
     -- "10 remains for sending only"
-    ∷ gives (z 3 4 4 6 4) (pair ++ (channel ∷ [])) (send 0 0 2) (Answer.no notCarried)
+    ∷ gives (z 3 4 4 6 4) (pair ++ (channel ∷ [])) (send 0 0 2) (Answer.no not_carried)
     -- 14 by the second range to be cleaned up
-    ∷ gives (z 3 4 4 6 1) (opened 0 ∷ under 0 0 ∷ rootOf 0 16 3 ∷ Call.Pop ∷ alias 0 1 0 4 35 ∷ send 0 2 0 ∷ Call.Pop ∷ alias 0 1 8 12 35 ∷ send 0 2 0 ∷ Call.Pop ∷ []) (revoke 0) (Answer.no ringFull)
+    ∷ gives (z 3 4 4 6 1) (opened 0 ∷ under 0 0 ∷ root_of 0 16 3 ∷ Call.Pop ∷ alias 0 1 0 4 35 ∷ send 0 2 0 ∷ Call.Pop ∷ alias 0 1 8 12 35 ∷ send 0 2 0 ∷ Call.Pop ∷ []) (revoke 0) (Answer.no ring_full)
     -- the closed domain's handle is dead, also when its slot is opened again
-    ∷ gives (z 3 4 4 6 4) (pair ++ (revoke 0 ∷ [])) (Call.Do (Step.Root (dom 1) (access 32 48 3))) (Answer.no noDomain)
+    ∷ gives (z 3 4 4 6 4) (pair ++ (revoke 0 ∷ [])) (Call.Do (Step.Root (dom 1) (access 32 48 3))) (Answer.no no_domain)
     ∷ gives (z 3 4 4 6 4) (pair ++ (revoke 0 ∷ [])) (under 0 0) (Answer.yes (Value.domain (again 1)))
-    ∷ gives (z 3 4 4 6 4) (pair ++ (revoke 0 ∷ under 0 0 ∷ [])) (Call.Do (Step.Root (dom 1) (access 32 48 3))) (Answer.no noDomain)
+    ∷ gives (z 3 4 4 6 4) (pair ++ (revoke 0 ∷ under 0 0 ∷ [])) (Call.Do (Step.Root (dom 1) (access 32 48 3))) (Answer.no no_domain)
     -- "The caller's slot becomes Capa::None, still in use until a sweep"
     ∷ gives (z 3 4 4 6 4) (pair ++ (revoke 0 ∷ [])) channel (passes 2)
     -- a channel to a closed domain: 3 after 5, also when the slot is opened again
-    ∷ gives (z 3 4 4 6 4) channelLeft (send 0 1 2) (Answer.no noDomain)
-    ∷ gives (z 3 5 4 6 4) (channelLeft ++ (under 0 0 ∷ under 0 0 ∷ [])) (send 0 1 2) (Answer.no noDomain)
+    ∷ gives (z 3 4 4 6 4) channel_left (send 0 1 2) (Answer.no no_domain)
+    ∷ gives (z 3 5 4 6 4) (channel_left ++ (under 0 0 ∷ under 0 0 ∷ [])) (send 0 1 2) (Answer.no no_domain)
     -- and it is swept when the list is full, with the slot of the revoke before it: slots 0 and 2 are freed, and slot 2 is given
-    ∷ gives (z 3 3 4 6 4) channelLeft channel (passes 2)
+    ∷ gives (z 3 3 4 6 4) channel_left channel (passes 2)
     -- a region that the closed domain's RegionRevoke named is dead
     ∷ gives (z 3 4 4 6 4) (pair ++ (alias 0 1 0 16 3 ∷ Call.Do (Step.CreateRevokeCapa (dom 0) 2) ∷ send 0 3 0 ∷ revoke 0 ∷ [])) (alias 0 2 0 4 1) (Answer.no stale)
     ∷ []

@@ -1,9 +1,9 @@
 -- Document 01's ◆ cases ("Edges, one root 0 to 16 with rights 3") as one table, proved by one theorem.
 use Rattle.std.specs.Prelude.{◌≡◌, refl, ℕ, List, [], ◌∷◌, ◌++◌, map}
 use Rattle.std.proofs.Math.Option.{none}
-use Rattle.refusals.specs.Refusals.{badRange, beyond}
-use Rattle.model.specs.State.{noOptions}
-use Rattle.model.specs.Making.{emptyTables, scriptSizes}
+use Rattle.refusals.specs.Refusals.{bad_range, beyond}
+use Rattle.model.specs.State.{no_options}
+use Rattle.model.specs.Making.{empty_tables, script_sizes}
 use Rattle.model.specs.Perform.{Step, Reading, Call, Value, Answer, step, run}
 use Rattle.model.specs.Checked.Compute.{computing}
 use Rattle.model.specs.Checked.Script.{dom, access, example}
@@ -16,7 +16,7 @@ pub record Case : Type 0 where
 
 -- what the definitions answer
 abbrev pub answered : Case → Answer
-answered x = (step (run (emptyTables scriptSizes) x.given).1 x.asked).0
+answered x = (step (run (empty_tables script_sizes) x.given).1 x.asked).0
 
 -- ---- calls and answers for short
 
@@ -38,20 +38,20 @@ abbrev number : ℕ → Answer
 number n = Answer.yes (Value.number n)
 
 -- "Carves 0 to 4 and 8 to 12" of a root in slot 1, which is then sent through the channel in slot 0
-abbrev carvedAndSent : List Call
-carvedAndSent =
+abbrev carved_and_sent : List Call
+carved_and_sent =
     Call.Do (Step.Open none 0)
     ∷ Call.Do (Step.Open none 0)
     ∷ Call.Do (Step.Channel (dom 0) (dom 1))
     ∷ Call.Do (Step.Root (dom 0) (access 0 16 3))
     ∷ Call.Do (Step.Carve (dom 0) 1 (access 0 4 3))
     ∷ Call.Do (Step.Carve (dom 0) 1 (access 8 12 3))
-    ∷ Call.Do (Step.Send (dom 0) 1 0 noOptions)
+    ∷ Call.Do (Step.Send (dom 0) 1 0 no_options)
     ∷ []
 
 -- "After the example, B's revoke of local 0"
-abbrev revokedByB : List Call
-revokedByB = example ++ (Call.Do (Step.Revoke (dom 1) 0) ∷ [])
+abbrev revoked_by_b : List Call
+revoked_by_b = example ++ (Call.Do (Step.Revoke (dom 1) 0) ∷ [])
 
 -- ---- the table
 
@@ -63,19 +63,19 @@ abbrev pub table : List Case
 table =
     gives root (alias 0 16 3) (passes 1)
     ∷ gives root (alias 0 17 3) (Answer.no beyond)
-    ∷ gives root (alias 5 5 3) (Answer.no badRange)
+    ∷ gives root (alias 5 5 3) (Answer.no bad_range)
     ∷ gives root (alias 0 16 19) (passes 1)
     ∷ gives root (alias 0 16 4) (Answer.no beyond)
     ∷ gives (root ++ (carve 4 8 3 ∷ [])) (alias 8 16 3) (passes 2)
     ∷ gives (root ++ (carve 4 8 3 ∷ [])) (alias 7 9 3) (Answer.no beyond)
     ∷ gives (root ++ (alias 4 8 3 ∷ [])) (carve 6 7 3) (Answer.no beyond)
-    ∷ gives carvedAndSent (Call.Read (Reading.Permissions (dom 1))) (Answer.yes (Value.permissionList (access 4 8 3 ∷ access 12 16 3 ∷ [])))
+    ∷ gives carved_and_sent (Call.Read (Reading.Permissions (dom 1))) (Answer.yes (Value.permission_list (access 4 8 3 ∷ access 12 16 3 ∷ [])))
     ∷ gives root (Call.Read (Reading.Refcount (dom 0) 5 5)) (number 1)
     ∷ gives root (Call.Read (Reading.Refcount (dom 0) 0 0)) (number 0)
     ∷ gives root (Call.Read (Reading.Refcount (dom 0) 8 3)) (number 1)
-    ∷ gives revokedByB (Call.Read (Reading.Permissions (dom 0))) (Answer.yes (Value.permissionList (access 0 4 3 ∷ access 4 16 3 ∷ [])))
-    ∷ gives revokedByB (Call.Read (Reading.Refcount (dom 0) 0 4)) (number 2)
-    ∷ gives revokedByB (Call.Read (Reading.Refcount (dom 0) 4 16)) (number 1)
+    ∷ gives revoked_by_b (Call.Read (Reading.Permissions (dom 0))) (Answer.yes (Value.permission_list (access 0 4 3 ∷ access 4 16 3 ∷ [])))
+    ∷ gives revoked_by_b (Call.Read (Reading.Refcount (dom 0) 0 4)) (number 2)
+    ∷ gives revoked_by_b (Call.Read (Reading.Refcount (dom 0) 4 16)) (number 1)
     ∷ []
 
 pub edges : map answered table ≡ map (λ x. x.answer) table

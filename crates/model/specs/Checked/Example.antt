@@ -2,12 +2,12 @@
 use Rattle.std.specs.Prelude.{◌≡◌, refl, ℕ, length, replicate}
 use Rattle.std.proofs.Math.Option.{none}
 use mathlib.Core.List.{List, [], ◌∷◌, ◌++◌, flat_map}
-use Rattle.model.specs.Lists.{countUp}
+use Rattle.model.specs.Lists.{count_up}
 use Rattle.model.specs.State.{Sizes, State, cleanup}
-use Rattle.model.specs.Making.{emptyTables}
-use Rattle.model.specs.Layout.{placeWords, words, lengthFor}
+use Rattle.model.specs.Making.{empty_tables}
+use Rattle.model.specs.Layout.{place_words, words, length_for}
 use Rattle.model.specs.Perform.{Step, Call, run}
-use Rattle.model.specs.Converting.{formerWords}
+use Rattle.model.specs.Converting.{former_words}
 use Rattle.model.specs.Checked.Compute.{computing}
 use Rattle.model.specs.Checked.Script.{dom, access}
 
@@ -17,20 +17,20 @@ abbrev ones : Sizes
 ones = record { domains = 1; slots = 1; regions = 1; records = 1; updates = 1 }
 
 -- a pool of one free slot: head, count, link, generation
-abbrev freePool : List ℕ
-freePool = 0 ∷ 0 ∷ 1 ∷ 0 ∷ []
+abbrev free_pool : List ℕ
+free_pool = 0 ∷ 0 ∷ 1 ∷ 0 ∷ []
 
-empty-words : words (emptyTables ones)
+empty-words : words (empty_tables ones)
     -- 1. header
     ≡ (1 ∷ 1 ∷ 1 ∷ 1 ∷ 1 ∷ 0 ∷ 0 ∷ [])
     -- 2. to 4. pools
-    ++ freePool ++ freePool ++ freePool
+    ++ free_pool ++ free_pool ++ free_pool
     -- 5. domain, 6. region, 7. tracker record, 8. ring, 9. hash, 10. interface, 11. marks
     ++ replicate 8 0 ++ replicate 8 0 ++ replicate 9 0 ++ replicate 8 0 ++ replicate 5 0 ++ replicate 2 0 ++ replicate 2 0
 unfolding computing
 empty-words = refl
 
-empty-length : length (words (emptyTables ones)) ≡ lengthFor ones
+empty-length : length (words (empty_tables ones)) ≡ length_for ones
 unfolding computing
 empty-length = refl
 
@@ -40,11 +40,11 @@ abbrev small : Sizes
 small = record { domains = 2; slots = 2; regions = 3; records = 3; updates = 1 }
 
 abbrev opened : State
-opened = (run (emptyTables small) (Call.Do (Step.Open none 5) ∷ Call.Do (Step.Root (dom 0) (access 0 16 3)) ∷ Call.Do (Step.Alias (dom 0) 0 (access 4 8 1)) ∷ [])).1
+opened = (run (empty_tables small) (Call.Do (Step.Open none 5) ∷ Call.Do (Step.Root (dom 0) (access 0 16 3)) ∷ Call.Do (Step.Alias (dom 0) 0 (access 4 8 1)) ∷ [])).1
 
 -- the sections that former tables had
-abbrev firstTen : List ℕ
-firstTen =
+abbrev first_ten : List ℕ
+first_ten =
     -- 1. header: the ring's read place 0, write place 1
     (2 ∷ 2 ∷ 3 ∷ 3 ∷ 1 ∷ 0 ∷ 1 ∷ [])
     -- 2. domain pool: slot 1 is free
@@ -82,24 +82,24 @@ firstTen =
     ++ (0 ∷ 0 ∷ [])
 
 opened-words : words opened
-    ≡ firstTen
+    ≡ first_ten
     -- 11. marks: domain 0's reach, READ and WRITE came from 0; one place is empty
     ++ (7 ∷ [])
     ++ (0 ∷ [])
 unfolding computing
 opened-words = refl
 
-former-words : formerWords opened ≡ firstTen
+former-words : former_words opened ≡ first_ten
 unfolding computing
 former-words = refl
 
-opened-length : length (words opened) ≡ lengthFor small
+opened-length : length (words opened) ≡ length_for small
 unfolding computing
 opened-length = refl
 
 -- ---- a ring of three places whose read place is the last: the second update stands in the first place
 
-round : flat_map (placeWords 2 (record { read_place = 2; items = cleanup 1 2 ∷ cleanup 3 4 ∷ [] })) (countUp 0 3)
+round : flat_map (place_words 2 (record { read_place = 2; items = cleanup 1 2 ∷ cleanup 3 4 ∷ [] })) (count_up 0 3)
     ≡ (2 ∷ 3 ∷ 4 ∷ 0 ∷ [])
     ++ (0 ∷ 0 ∷ 0 ∷ 0 ∷ [])
     ++ (2 ∷ 1 ∷ 2 ∷ 0 ∷ [])
@@ -109,8 +109,8 @@ round = refl
 -- ---- lengths
 
 -- 39,858 words at the largest sizes, and 3,962 for the script's tables
-full-length : lengthFor (record { domains = 32; slots = 128; regions = 1024; records = 1024; updates = 128 }) ≡ 39_858
+full-length : length_for (record { domains = 32; slots = 128; regions = 1024; records = 1024; updates = 128 }) ≡ 39_858
 full-length = refl
 
-script-length : lengthFor (record { domains = 8; slots = 16; regions = 128; records = 128; updates = 32 }) ≡ 3_962
+script-length : length_for (record { domains = 8; slots = 16; regions = 128; records = 128; updates = 32 }) ≡ 3_962
 script-length = refl

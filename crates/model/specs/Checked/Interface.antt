@@ -1,15 +1,15 @@
 -- Cases of our own for a domain's interface (document 02, request 2): what is answered, and which interface is stored then.
 use Rattle.std.specs.Prelude.{◌≡◌, refl, ℕ, ◌-◌, ◌^◌, Bool, true, false, List, [], ◌∷◌, ◌++◌, map, length, take, drop}
 use Rattle.std.proofs.Math.Option.{none, some}
-use Rattle.refusals.specs.Refusals.{noDomain, no_slot, notAllowed, isFrozen}
-use Rattle.model.specs.State.{Sizes, Handle, Interface, noOptions, domainAt}
-use Rattle.model.specs.Making.{emptyTables}
+use Rattle.refusals.specs.Refusals.{no_domain, no_slot, not_allowed, is_frozen}
+use Rattle.model.specs.State.{Sizes, Handle, Interface, no_options, domain_at}
+use Rattle.model.specs.Making.{empty_tables}
 use Rattle.model.specs.Layout.{words}
 use Rattle.model.specs.Perform.{Step, Call, Value, Answer, run}
 use Rattle.model.specs.Checked.Compute.{computing}
 use Rattle.model.specs.Checked.Script.{dom, access}
 use Rattle.model.specs.Checked.Edges.{passes}
-use Rattle.model.specs.Checked.OurCases.{SizedCase, answered, z, opened, rootOf, revoke, gives}
+use Rattle.model.specs.Checked.OurCases.{SizedCase, answered, z, opened, root_of, revoke, gives}
 
 -- ---- calls for short
 
@@ -24,13 +24,13 @@ abbrev carve : ℕ → Call
 carve l = Call.Do (Step.Carve (dom 0) l (access 8 16 3))
 
 abbrev sends : ℕ → ℕ → Call
-sends l target = Call.Do (Step.Send (dom 0) l target noOptions)
+sends l target = Call.Do (Step.Send (dom 0) l target no_options)
 
 abbrev under : Call
 under = Call.Do (Step.Open (some (dom 0)) 0)
 
 abbrev two : List Call
-two = opened 0 ∷ under ∷ rootOf 0 16 3 ∷ alias 1 ∷ []
+two = opened 0 ∷ under ∷ root_of 0 16 3 ∷ alias 1 ∷ []
 
 -- the word of domain d set; domain d frozen
 abbrev set : ℕ → ℕ → Call
@@ -51,40 +51,40 @@ dead = record { slot = 0; generation = 1 }
 abbrev pub table : List SizedCase
 table =
     -- "20 for a missing bit": each of the three bits by itself, all others set
-    gives small (two ++ (set 0 (2 ^ 64 - 1 - 8) ∷ [])) (alias 1) (Answer.no notAllowed)
-    ∷ gives small (two ++ (set 0 (2 ^ 64 - 1 - 16) ∷ [])) (carve 1) (Answer.no notAllowed)
-    ∷ gives small (two ++ (set 0 (2 ^ 64 - 1 - 2) ∷ [])) (sends 2 0) (Answer.no notAllowed)
+    gives small (two ++ (set 0 (2 ^ 64 - 1 - 8) ∷ [])) (alias 1) (Answer.no not_allowed)
+    ∷ gives small (two ++ (set 0 (2 ^ 64 - 1 - 16) ∷ [])) (carve 1) (Answer.no not_allowed)
+    ∷ gives small (two ++ (set 0 (2 ^ 64 - 1 - 2) ∷ [])) (sends 2 0) (Answer.no not_allowed)
     -- and with no other bit set
     ∷ gives small (two ++ (set 0 8 ∷ [])) (alias 1) (passes 3)
     ∷ gives small (two ++ (set 0 16 ∷ [])) (carve 1) (passes 3)
     ∷ gives small (two ++ (set 0 2 ∷ [])) (sends 2 0) (passes 0)
     -- "right after the caller's 3": a dead caller; a free slot, a target of the wrong kind, a flag that is refused
-    ∷ gives small (two ++ (set 0 0 ∷ [])) (Call.Do (Step.Alias dead 1 (access 0 8 3))) (Answer.no noDomain)
-    ∷ gives small (two ++ (set 0 0 ∷ [])) (alias 5) (Answer.no notAllowed)
-    ∷ gives small (two ++ (set 0 0 ∷ [])) (carve 0) (Answer.no notAllowed)
-    ∷ gives small (two ++ (set 0 0 ∷ [])) (sends 2 1) (Answer.no notAllowed)
-    ∷ gives small (two ++ (set 0 0 ∷ [])) (sends 2 5) (Answer.no notAllowed)
-    ∷ gives small (two ++ (set 0 0 ∷ [])) (Call.Do (Step.Send (dom 0) 2 0 (record { flags = some 255; hash = none }))) (Answer.no notAllowed)
+    ∷ gives small (two ++ (set 0 0 ∷ [])) (Call.Do (Step.Alias dead 1 (access 0 8 3))) (Answer.no no_domain)
+    ∷ gives small (two ++ (set 0 0 ∷ [])) (alias 5) (Answer.no not_allowed)
+    ∷ gives small (two ++ (set 0 0 ∷ [])) (carve 0) (Answer.no not_allowed)
+    ∷ gives small (two ++ (set 0 0 ∷ [])) (sends 2 1) (Answer.no not_allowed)
+    ∷ gives small (two ++ (set 0 0 ∷ [])) (sends 2 5) (Answer.no not_allowed)
+    ∷ gives small (two ++ (set 0 0 ∷ [])) (Call.Do (Step.Send (dom 0) 2 0 (record { flags = some 255; hash = none }))) (Answer.no not_allowed)
     -- the caller's word, not the target's, and not another's
     ∷ gives small (two ++ (set 1 0 ∷ [])) (sends 2 0) (passes 0)
     ∷ gives small (two ++ (set 0 0 ∷ [])) (Call.Do (Step.Alias (dom 1) 0 (access 0 8 3))) (Answer.no no_slot)
-    ∷ gives small (two ++ (set 1 0 ∷ [])) (Call.Do (Step.Alias (dom 1) 0 (access 0 8 3))) (Answer.no notAllowed)
+    ∷ gives small (two ++ (set 1 0 ∷ [])) (Call.Do (Step.Alias (dom 1) 0 (access 0 8 3))) (Answer.no not_allowed)
     -- "Revoke needs no bit", nor does a root, a RegionRevoke, a channel or an opening
     ∷ gives small (two ++ (set 0 0 ∷ [])) (revoke 2) done
-    ∷ gives small (two ++ (set 0 0 ∷ [])) (rootOf 16 32 3) (passes 3)
+    ∷ gives small (two ++ (set 0 0 ∷ [])) (root_of 16 32 3) (passes 3)
     ∷ gives small (two ++ (set 0 0 ∷ [])) (Call.Do (Step.CreateRevokeCapa (dom 0) 2)) (passes 3)
     ∷ gives small (two ++ (set 0 0 ∷ [])) (Call.Do (Step.Channel (dom 0) (dom 1))) (passes 3)
     ∷ gives small (two ++ (set 0 0 ∷ [])) under (Answer.yes (Value.domain (dom 2)))
     -- "21 for setting a frozen word, right after 3", also to the value that it has; another domain's is not frozen
-    ∷ gives small (two ++ (freeze 0 ∷ [])) (set 0 0) (Answer.no isFrozen)
-    ∷ gives small (two ++ (freeze 0 ∷ [])) (set 0 26) (Answer.no isFrozen)
+    ∷ gives small (two ++ (freeze 0 ∷ [])) (set 0 0) (Answer.no is_frozen)
+    ∷ gives small (two ++ (freeze 0 ∷ [])) (set 0 26) (Answer.no is_frozen)
     ∷ gives small (two ++ (freeze 0 ∷ [])) (set 1 0) done
-    ∷ gives small (two ++ (freeze 0 ∷ [])) (Call.Do (Step.SetInterface dead 0)) (Answer.no noDomain)
-    ∷ gives small two (set 2 0) (Answer.no noDomain)
+    ∷ gives small (two ++ (freeze 0 ∷ [])) (Call.Do (Step.SetInterface dead 0)) (Answer.no no_domain)
+    ∷ gives small two (set 2 0) (Answer.no no_domain)
     -- "Freezing twice is accepted"; what is frozen still sends
     ∷ gives small (two ++ (freeze 0 ∷ [])) (freeze 0) done
     ∷ gives small (two ++ (freeze 0 ∷ [])) (sends 2 0) (passes 0)
-    ∷ gives small two (freeze 2) (Answer.no noDomain)
+    ∷ gives small two (freeze 2) (Answer.no no_domain)
     ∷ []
 
 pub interface-answers : map answered table ≡ map (λ x. x.answer) table
@@ -100,7 +100,7 @@ record StoredCase : Type 0 where
   stored : Interface
 
 abbrev after : StoredCase → StoredCase
-after x = record { given = x.given; at = x.at; stored = (domainAt (run (emptyTables small) x.given).1 x.at).interface }
+after x = record { given = x.given; at = x.at; stored = (domain_at (run (empty_tables small) x.given).1 x.at).interface }
 
 abbrev leaves : List Call → ℕ → ℕ → Bool → StoredCase
 leaves cs d word frozen = record { given = cs; at = d; stored = record { word = word; frozen = frozen } }
@@ -130,6 +130,6 @@ interface-stored = refl
 -- ---- its words
 
 -- the interfaces' section: two words for each of three domains, the last of them free; five marks are behind it
-interface-section : (let t = words (run (emptyTables small) (two ++ (set 0 5 ∷ freeze 0 ∷ []))).1 in take 6 (drop (length t - 11) t)) ≡ 5 ∷ 1 ∷ 26 ∷ 0 ∷ 0 ∷ 0 ∷ []
+interface-section : (let t = words (run (empty_tables small) (two ++ (set 0 5 ∷ freeze 0 ∷ []))).1 in take 6 (drop (length t - 11) t)) ≡ 5 ∷ 1 ∷ 26 ∷ 0 ∷ 0 ∷ 0 ∷ []
 unfolding computing
 interface-section = refl

@@ -2,9 +2,9 @@
 use Rattle.std.specs.Prelude.{◌≡◌, refl, ℕ, suc, List, [], ◌∷◌, ◌++◌, map, get_or}
 use Rattle.std.proofs.Math.Option.{Option, none, some}
 use Rattle.refusals.specs.Refusals
-use Rattle.model.specs.State.{Handle, Access, noOptions, Domain, Update, permission, cleanup}
-use Rattle.model.specs.Making.{emptyTables, scriptSizes}
-use Rattle.model.specs.Readings.{rightsOf}
+use Rattle.model.specs.State.{Handle, Access, no_options, Domain, Update, permission, cleanup}
+use Rattle.model.specs.Making.{empty_tables, script_sizes}
+use Rattle.model.specs.Readings.{rights_of}
 use Rattle.model.specs.Perform.{Step, Call, Answer, values, run}
 use Rattle.model.specs.Checked.Compute.{computing}
 
@@ -29,25 +29,25 @@ data Line : Type 0 where
 infix 20 ◌ok◌
 infix 20 ◌no◌
 -- call lines from number n on
-abbrev callLines : ℕ → List Answer → List Line
-callLines n [] = []
-callLines n (Answer.yes r ∷ l) = (n ok get_or (values r) 0 0) ∷ callLines (suc n) l
-callLines n (Answer.no r ∷ l) = (n no Refusals.number r) ∷ callLines (suc n) l
+abbrev call_lines : ℕ → List Answer → List Line
+call_lines n [] = []
+call_lines n (Answer.yes r ∷ l) = (n ok get_or (values r) 0 0) ∷ call_lines (suc n) l
+call_lines n (Answer.no r ∷ l) = (n no Refusals.number r) ∷ call_lines (suc n) l
 
 -- "one line for each permission record, domain slots rising"; i is the first domain's slot
-abbrev domainLines : ℕ → List (Option Domain) → List Line
-domainLines i [] = []
-domainLines i (none ∷ l) = domainLines (suc i) l
-domainLines i (some x ∷ l) = map (λ q. d i q.start q.end (rightsOf q.counts) q.counts.reach) x.tracker ++ domainLines (suc i) l
+abbrev domain_lines : ℕ → List (Option Domain) → List Line
+domain_lines i [] = []
+domain_lines i (none ∷ l) = domain_lines (suc i) l
+domain_lines i (some x ∷ l) = map (λ q. d i q.start q.end (rights_of q.counts) q.counts.reach) x.tracker ++ domain_lines (suc i) l
 
 -- "Then the queue, oldest first"
-abbrev queueLine : Update → Line
-queueLine (permission h cores marks) = p h.slot cores
-queueLine (cleanup a b) = c a b
+abbrev queue_line : Update → Line
+queue_line (permission h cores marks) = p h.slot cores
+queue_line (cleanup a b) = c a b
 
 -- all lines that a list of calls gives
 abbrev lines : List Call → List Line
-lines cs = let y = run (emptyTables scriptSizes) cs in callLines 1 y.0 ++ domainLines 0 y.1.domains ++ map queueLine y.1.queue.items
+lines cs = let y = run (empty_tables script_sizes) cs in call_lines 1 y.0 ++ domain_lines 0 y.1.domains ++ map queue_line y.1.queue.items
 
 -- ---- the example
 
@@ -60,7 +60,7 @@ example =
     ∷ Call.Do (Step.Root (dom 0) (access 0 16 3))
     ∷ Call.Do (Step.Carve (dom 0) 1 (access 4 8 1))
     ∷ Call.Do (Step.Alias (dom 0) 1 (access 0 4 3))
-    ∷ Call.Do (Step.Send (dom 0) 2 0 noOptions)
+    ∷ Call.Do (Step.Send (dom 0) 2 0 no_options)
     ∷ Call.Do (Step.Alias (dom 0) 1 (access 6 9 1))
     ∷ []
 

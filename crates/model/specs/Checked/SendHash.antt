@@ -1,15 +1,15 @@
 -- Cases of our own for a send with a hash (document 02, request 1): what is answered, and which hash is stored then.
 use Rattle.std.specs.Prelude.{◌≡◌, refl, ℕ, ◌-◌, List, [], ◌∷◌, ◌++◌, map, length, replicate, take, drop}
 use Rattle.std.proofs.Math.Option.{Option, none, some}
-use Rattle.refusals.specs.Refusals.{stale, badFlag, noHash}
-use Rattle.model.specs.State.{Sizes, Hash, regionAt}
-use Rattle.model.specs.Making.{emptyTables}
+use Rattle.refusals.specs.Refusals.{stale, bad_flag, no_hash}
+use Rattle.model.specs.State.{Sizes, Hash, region_at}
+use Rattle.model.specs.Making.{empty_tables}
 use Rattle.model.specs.Layout.{words}
 use Rattle.model.specs.Perform.{Step, Call, Answer, run}
 use Rattle.model.specs.Checked.Compute.{computing}
 use Rattle.model.specs.Checked.Script.{dom, access}
 use Rattle.model.specs.Checked.Edges.{passes}
-use Rattle.model.specs.Checked.OurCases.{SizedCase, answered, z, opened, rootOf, channel, revoke, gives}
+use Rattle.model.specs.Checked.OurCases.{SizedCase, answered, z, opened, root_of, channel, revoke, gives}
 
 -- ---- calls for short
 
@@ -35,7 +35,7 @@ abbrev carve : ℕ → Call
 carve l = Call.Do (Step.Carve (dom 0) l (access 0 16 3))
 
 abbrev one : List Call
-one = opened 0 ∷ channel ∷ rootOf 0 16 3 ∷ alias 1 ∷ []
+one = opened 0 ∷ channel ∷ root_of 0 16 3 ∷ alias 1 ∷ []
 
 -- the alias has a hash, by a send with HASH
 abbrev hashed : List Call
@@ -46,17 +46,17 @@ hashed = one ++ (sends 2 (some 16) (some (hash 7)) ∷ [])
 abbrev pub table : List SizedCase
 table =
     -- "19 for HASH without a hash", also among other flags; with a hash it passes, and zeros are a hash
-    gives small one (sends 2 (some 16) none) (Answer.no noHash)
-    ∷ gives small one (sends 2 (some 112) none) (Answer.no noHash)
+    gives small one (sends 2 (some 16) none) (Answer.no no_hash)
+    ∷ gives small one (sends 2 (some 112) none) (Answer.no no_hash)
     ∷ gives small one (sends 2 (some 16) (some (hash 7))) (passes 2)
     ∷ gives small one (sends 2 (some 16) (some zeros)) (passes 2)
     -- "18 .., then 19": READ and HASH; a hash does not help
-    ∷ gives small one (sends 2 (some 17) none) (Answer.no badFlag)
-    ∷ gives small one (sends 2 (some 17) (some (hash 7))) (Answer.no badFlag)
+    ∷ gives small one (sends 2 (some 17) none) (Answer.no bad_flag)
+    ∷ gives small one (sends 2 (some 17) (some (hash 7))) (Answer.no bad_flag)
     -- "both after 6": the region in slot 3 died with its parent
     ∷ gives small (one ++ (alias 2 ∷ revoke 2 ∷ [])) (sends 3 (some 16) none) (Answer.no stale)
     -- HASH of the flag word, not of the region's rights: a stored hash does not do, and a region that has HASH needs none
-    ∷ gives small hashed (sends 2 (some 16) none) (Answer.no noHash)
+    ∷ gives small hashed (sends 2 (some 16) none) (Answer.no no_hash)
     ∷ gives small hashed (sends 2 (some 32) none) (passes 2)
     -- without a flag word there is nothing to check; "For other capabilities both are ignored": the channel
     ∷ gives small one (sends 2 none (some (hash 7))) (passes 2)
@@ -77,7 +77,7 @@ record StoredCase : Type 0 where
   stored : Option Hash
 
 abbrev after : StoredCase → StoredCase
-after x = let g = regionAt (run (emptyTables small) x.given).1 x.at in record { given = x.given; at = x.at; rights = g.rights; stored = g.hash }
+after x = let g = region_at (run (empty_tables small) x.given).1 x.at in record { given = x.given; at = x.at; rights = g.rights; stored = g.hash }
 
 abbrev leaves : List Call → ℕ → ℕ → Option Hash → StoredCase
 leaves cs i r x = record { given = cs; at = i; rights = r; stored = x }
@@ -117,7 +117,7 @@ hash-stored = refl
 
 -- the hashes' section after some calls: five words for each of three regions; two words of the one domain's interface and five marks are behind it
 abbrev section : List Call → List ℕ
-section cs = let t = words (run (emptyTables small) cs).1 in take 15 (drop (length t - 22) t)
+section cs = let t = words (run (empty_tables small) cs).1 in take 15 (drop (length t - 22) t)
 
 -- the alias's hash stands in the second five; zeros differ from no hash; a revoke leaves zeros
 hash-section : section hashed ≡ replicate 5 0 ++ (1 ∷ 7 ∷ 2 ∷ 3 ∷ 4 ∷ []) ++ replicate 5 0

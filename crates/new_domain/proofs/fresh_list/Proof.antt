@@ -1,26 +1,26 @@
 -- The first i places are made.
-use Rattle.sizes.specs.Limits.{mostSlots}
+use Rattle.sizes.specs.Limits.{most_slots}
 use Prim.Native.Nat.{◌-◌, ◌≤◌}
 use lib.ListN.{replicate}
 use mathlib.Core.Path.{◌≡◌, sym, ap, ◌∙◌}
-use Rattle.new_domain.specs.Opened.{freshList}
-use Rattle.new_domain.specs.Fresh.{freshTo, fresh-none, fresh-next, fresh-all}
+use Rattle.new_domain.specs.Opened.{fresh_list}
+use Rattle.new_domain.specs.Fresh.{fresh_to, fresh-none, fresh-next, fresh-all}
 use borrow.Author.Rules.{rules}
 use native.Mathlib.Omega.{arith}
 use Rattle.new_domain.proofs.fresh_list.Statement.{statement}
 use Rattle.new_domain.proofs.fresh_list.Tie as tie
 
 abbrev invariant-loop : tie.invariant-loop
-invariant-loop n slots₀ i₀ slots i = (i ≤ mostSlots) × (slots ≡ freshTo n i)
+invariant-loop n slots₀ i₀ slots i = (i ≤ most_slots) × (slots ≡ fresh_to n i)
 
 abbrev decreases-loop : tie.decreases-loop
-decreases-loop n slots₀ i₀ slots i = mostSlots - i
+decreases-loop n slots₀ i₀ slots i = most_slots - i
 
 no-slot-requires : tie.Need-no-slot-requires invariant-loop decreases-loop
 no-slot-requires c κs = search rules
 
 loop-holds : tie.Need-loop-init invariant-loop decreases-loop
-loop-holds c = (omega arith, ap (replicate mostSlots) c.no_slot.ensures ∙ sym (fresh-none c.before.args.n))
+loop-holds c = (omega arith, ap (replicate most_slots) c.no_slot.ensures ∙ sym (fresh-none c.before.args.n))
 
 fresh-slot-requires : tie.Need-fresh-slot-requires invariant-loop decreases-loop
 fresh-slot-requires c κs = search rules
@@ -41,7 +41,7 @@ loop-again : tie.Need-loop-preserved invariant-loop decreases-loop
 loop-again c = (omega arith, rw (c.before.before.loop.invariant.1, c.fresh-slot.ensures) (fresh-next c.before.before.before.before.args.n c.before.before.loop.i (omega arith)))
 
 returns : tie.Need-returns invariant-loop decreases-loop
-unfolding freshList
+unfolding fresh_list
 returns c = rw (c.before.loop.invariant.1, fresh-all c.before.before.before.args.n c.before.loop.i (omega arith))
 
 pub fresh-list-spec : {M : Type 1} → statement M

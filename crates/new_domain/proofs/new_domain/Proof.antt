@@ -1,6 +1,6 @@
 -- The slot that is given gets the head, the list and the interface.
 use mathlib.Core.Path.{refl}
-use Rattle.new_domain.specs.Opened.{newDomain}
+use Rattle.new_domain.specs.Opened.{new_domain}
 use borrow.Author.Rules.{rules}
 use Rattle.tables.specs.Header.{slots_read}
 use Rattle.new_domain.proofs.new_domain.Statement.{statement}
@@ -30,18 +30,18 @@ store-interface-requires c κs = search rules
 enum_told : tie.Need-enum-told
 enum_told c = search rules
 
-same_length : tie.Need-same-length
-same_length c = search rules
+same_length_lem : tie.Need-same-length
+same_length_lem c = search rules
 
 returns : tie.Need-returns
-unfolding newDomain
+unfolding new_domain
 returns c = rw (← c.before.before.before.before.before.before.before.before.before.before.before.before.before.before.before.before.before.before.allocate-domain.ensures.0, c.before.before.before.before.before.before.before.before.before.before.before.before.before.before.h.given.1) (refl, rw (c.before.before.before.before.before.before.store-list.ensures.seen, c.before.before.before.before.before.before.before.before.before.before.before.store-head.ensures.seen, c.before.before.before.before.before.before.before.before.before.before.before.before.before.before.before.before.before.before.allocate-domain.ensures.1.seen, c.before.before.before.before.before.before.before.fresh-list.ensures, c.before.before.before.before.before.before.before.before.before.before.before.before.before.before.before.before.before.before.before.before.size.ensures, slots_read) at c.before.before.store-interface.ensures)
 
 same-length-2 : tie.Need-same-length-2
 same-length-2 c = search rules
 
 returns-2 : tie.Need-returns-2
-unfolding newDomain
+unfolding new_domain
 returns-2 c = rw (← c.before.before.before.before.allocate-domain.ensures.0, c.enum_told.given.1) (refl, c.before.before.before.before.allocate-domain.ensures.1)
 
 pub new-domain-spec : {M : Type 1} → statement M
@@ -56,7 +56,7 @@ new-domain-spec =
     store-list-requires
     store-interface-requires
     enum_told
-    same_length
+    same_length_lem
     returns
     same-length-2
     returns-2)

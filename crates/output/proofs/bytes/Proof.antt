@@ -38,8 +38,8 @@ loop-again c = (search rules, puts-more _ _ _ _ _ c.before.before.before.before.
 add-result : tie.Need-overflow-add-result invariant-loop decreases-loop
 add-result c = search rules
 
-same_length : tie.Need-same-length invariant-loop decreases-loop
-same_length c = search rules
+same_length_lem : tie.Need-same-length invariant-loop decreases-loop
+same_length_lem c = search rules
 
 returns : tie.Need-returns invariant-loop decreases-loop
 returns c = puts-all _ _ _ _ _ c.before.loop.invariant.1 c.loop-test.false
@@ -58,5 +58,5 @@ bytes-spec =
     loop-less
     loop-again
     add-result
-    same_length
+    same_length_lem
     returns)

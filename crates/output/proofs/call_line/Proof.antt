@@ -20,8 +20,8 @@ number-requires c κs = search rules
 byte-requires : tie.Need-byte-requires
 byte-requires c κs = search rules
 
-same_length : tie.Need-same-length
-same_length c = search rules
+same_length_lem : tie.Need-same-length
+same_length_lem c = search rules
 
 returns : tie.Need-returns
 returns c = (puts-same (call_ok _ _ c.before.before.before.before.before.before.before.before.before.before.before.before.before.if1.true) (puts_then c.before.before.before.before.before.before.before.before.before.before.before.before.before.before.before.before.before.decimal.ensures.0 (puts_then c.before.before.before.before.before.before.before.before.before.before.bytes.ensures (puts_then c.before.before.before.before.before.before.number.ensures.0 c.before.before.byte.ensures))), search rules)
@@ -53,7 +53,7 @@ call-line-spec =
     bytes-requires
     number-requires
     byte-requires
-    same_length
+    same_length_lem
     returns
     slice-aggregate-bytes-2
     bytes-requires-2

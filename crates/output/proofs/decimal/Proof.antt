@@ -20,8 +20,8 @@ slice-aggregate-bytes c = search rules
 bytes-requires : tie.Need-bytes-requires
 bytes-requires c κs = omega (arith, ap length (c.before.before.decimal.ensures.1.1 ∙ digits_decimal _ _ c.before.before.decimal.ensures.1.0), decimal-short _ c.before.before.before.before.before.ranges.x.fits, c.before.before.before.before.before.requires)
 
-same_length : tie.Need-same-length
-same_length c = search rules
+same_length_lem : tie.Need-same-length
+same_length_lem c = search rules
 
 returns : tie.Need-returns
 returns c = (puts-same (c.before.before.before.before.before.decimal.ensures.1.1 ∙ digits_decimal _ _ c.before.before.before.before.before.decimal.ensures.1.0) c.before.before.bytes.ensures, omega (arith, c.before.before.bytes.ensures.end, ap length (c.before.before.before.before.before.decimal.ensures.1.1 ∙ digits_decimal _ _ c.before.before.before.before.before.decimal.ensures.1.0), decimal-short _ c.before.before.before.before.before.before.before.before.ranges.x.fits))
@@ -34,5 +34,5 @@ decimal-spec =
     array-share-prefix-digits
     slice-aggregate-bytes
     bytes-requires
-    same_length
+    same_length_lem
     returns)

@@ -40,8 +40,8 @@ loop-again c = (search rules, search rules, search rules, begun_more _ _ _ _ _ _
 byte-requires-2 : tie.Need-byte-requires-2 invariant-loop decreases-loop
 byte-requires-2 c κs = search rules
 
-same_length : tie.Need-same-length invariant-loop decreases-loop
-same_length c = search rules
+same_length_lem : tie.Need-same-length invariant-loop decreases-loop
+same_length_lem c = search rules
 
 returns : tie.Need-returns invariant-loop decreases-loop
 returns c = (begun_all _ _ _ _ _ _ _ c.before.before.before.before.before.loop.invariant.3 c.before.before.before.before.loop-test.false c.before.before.before.before.before.before.before.before.byte.ensures c.before.before.byte2.ensures, search rules)
@@ -61,5 +61,5 @@ domain-line-spec =
     loop-less
     loop-again
     byte-requires-2
-    same_length
+    same_length_lem
     returns)

@@ -17,8 +17,8 @@ number-requires-2 c κs = search rules
 byte-requires-2 : tie.Need-byte-requires-2
 byte-requires-2 c κs = search rules
 
-same_length : tie.Need-same-length
-same_length c = search rules
+same_length_lem : tie.Need-same-length
+same_length_lem c = search rules
 
 returns : tie.Need-returns
 returns c = (puts-same (pair_is _ _ _) (puts_then c.before.before.before.before.before.before.before.before.before.before.before.before.before.before.byte.ensures (puts_then c.before.before.before.before.before.before.before.before.before.before.number.ensures.0 (puts_then c.before.before.before.before.before.before.number2.ensures.0 c.before.before.byte2.ensures))), search rules)
@@ -26,4 +26,4 @@ returns c = (puts-same (pair_is _ _ _) (puts_then c.before.before.before.before.
 pub pair_spec : {M : Type 1} → statement M
 pair_spec =
     tie.close
-    (tie.spec byte-requires number-requires number-requires-2 byte-requires-2 same_length returns)
+    (tie.spec byte-requires number-requires number-requires-2 byte-requires-2 same_length_lem returns)

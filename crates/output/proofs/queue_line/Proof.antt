@@ -8,8 +8,8 @@ use Rattle.output.proofs.queue_line.Tie as tie
 pair-requires : tie.Need-pair-requires
 pair-requires c κs = search rules
 
-same_length : tie.Need-same-length
-same_length c = search rules
+same_length_lem : tie.Need-same-length
+same_length_lem c = search rules
 
 returns : tie.Need-returns
 returns c = (puts-same (queue-p _ c.before.before.before.before.if1.true) c.before.before.pair.ensures.0, c.before.before.pair.ensures.1)
@@ -25,4 +25,4 @@ returns-2 c = (puts-same (queue-c _ c.before.before.before.before.if1.false) c.b
 
 pub queue-line-spec : {M : Type 1} → statement M
 queue-line-spec =
-    tie.close (tie.spec pair-requires same_length returns pair-requires-2 same-length-2 returns-2)
+    tie.close (tie.spec pair-requires same_length_lem returns pair-requires-2 same-length-2 returns-2)

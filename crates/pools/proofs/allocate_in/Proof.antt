@@ -25,8 +25,8 @@ part-allocate-end c = search rules
 allocate-requires : tie.Need-allocate-requires
 allocate-requires c κs = search rules
 
-same_length : tie.Need-same-length
-same_length c = search rules
+same_length_lem : tie.Need-same-length
+same_length_lem c = search rules
 
 returns : tie.Need-returns
 returns c = let r = pool-read _ _ _ c.before.before.before.before.before.before.before.requires c.before.before.before.before.Span-of.ensures in (c.before.before.allocate.ensures.0 ∙ ap given r, pool-back _ _ _ c.before.before.before.before.before.before.before.requires c.before.before.before.before.Span-of.ensures _ _ c.before.before.allocate.auto.0 (c.before.before.allocate.ensures.1 ∙ ap allocated r))
@@ -41,5 +41,5 @@ allocate-in-spec =
     part-allocate-start
     part-allocate-end
     allocate-requires
-    same_length
+    same_length_lem
     returns)

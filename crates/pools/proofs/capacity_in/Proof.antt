@@ -1,6 +1,6 @@
 -- What is lent is the pool.
 use Prim.Native.Nat.{◌-◌}
-use Rattle.arena.specs.Arena.{capacityOf}
+use Rattle.arena.specs.Arena.{capacity_of}
 use Rattle.pools.specs.Pools.{pool-read}
 use borrow.Author.Rules.{rules}
 use mathlib.Core.Path.{ap, ◌∙◌}
@@ -26,7 +26,7 @@ capacity-requires : tie.Need-capacity-requires
 capacity-requires c κs = search rules
 
 returns : tie.Need-returns
-returns c = c.capacity.ensures ∙ ap capacityOf (pool-read _ _ _ c.before.before.before.before.requires c.before.before.Span-of.ensures)
+returns c = c.capacity.ensures ∙ ap capacity_of (pool-read _ _ _ c.before.before.before.before.requires c.before.before.Span-of.ensures)
 
 pub capacity-in-spec : {M : Type 1} → statement M
 capacity-in-spec =

@@ -2,7 +2,7 @@
 use Prim.Native.Nat.{◌-◌}
 use Rattle.pools.specs.Pools.{pool-read}
 use Rattle.tables.specs.Tables.{Arena}
-use Rattle.tables.specs.View.{arenaOf}
+use Rattle.tables.specs.View.{arena_of}
 use borrow.Author.Rules.{rules}
 use mathlib.Core.Path.{ap, ◌∙◌}
 use Rattle.pools.proofs.count_in.Statement.{statement}
@@ -27,7 +27,7 @@ word-requires : tie.Need-word-requires
 word-requires c κs = search rules
 
 returns : tie.Need-returns
-unfolding arenaOf
+unfolding arena_of
 returns c = c.word.ensures ∙ ap (λ (x : Arena). x.count) (pool-read _ _ _ c.before.before.before.before.requires c.before.before.Span-of.ensures)
 
 pub count-in-spec : {M : Type 1} → statement M

@@ -20,8 +20,8 @@ enum-told-2 c = search rules
 enum-told-3 : tie.Need-enum-told-3
 enum-told-3 c = search rules
 
-same_length : tie.Need-same-length
-same_length c = search rules
+same_length_lem : tie.Need-same-length
+same_length_lem c = search rules
 
 returns : tie.Need-returns
 returns c = (c.before.before.before.before.before.before.before.before.push-in.ensures.0, slot-freed _ _ _ _ _ c.before.before.before.before.before.before.before.before.push-in.ensures.0 c.before.before.before.before.before.before.before.before.push-in.ensures.1 _ (rw c.before.before.before.before.enum_told.given.1) c.before.before.wipe.ensures)
@@ -47,7 +47,7 @@ free-in-spec =
     wipe-requires
     enum-told-2
     enum-told-3
-    same_length
+    same_length_lem
     returns
     same-length-2
     returns-2

@@ -1,6 +1,6 @@
 -- What comes back replaces the pool.
 use Prim.Native.Nat.{◌-◌}
-use Rattle.arena.specs.Arena.{newArena}
+use Rattle.arena.specs.Arena.{new_arena}
 use Rattle.pools.specs.Pools.{pool-back}
 use borrow.Author.Rules.{rules}
 use mathlib.Core.Path.{ap, ◌∙◌}
@@ -25,11 +25,11 @@ part-fresh-end c = search rules
 fresh-requires : tie.Need-fresh-requires
 fresh-requires c κs = search rules
 
-same_length : tie.Need-same-length
-same_length c = search rules
+same_length_lem : tie.Need-same-length
+same_length_lem c = search rules
 
 returns : tie.Need-returns
-returns c = pool-back _ _ _ c.before.before.before.before.before.before.before.requires c.before.before.before.before.Span-of.ensures _ _ c.before.before.fresh.auto.0 (c.before.before.fresh.ensures ∙ ap newArena c.before.before.before.before.Span-of.ensures.slots)
+returns c = pool-back _ _ _ c.before.before.before.before.before.before.before.requires c.before.before.before.before.Span-of.ensures _ _ c.before.before.fresh.auto.0 (c.before.before.fresh.ensures ∙ ap new_arena c.before.before.before.before.Span-of.ensures.slots)
 
 pub fresh-in-spec : {M : Type 1} → statement M
 fresh-in-spec =
@@ -41,5 +41,5 @@ fresh-in-spec =
     part-fresh-start
     part-fresh-end
     fresh-requires
-    same_length
+    same_length_lem
     returns)

@@ -3,7 +3,7 @@ use Prim.Native.Nat.{◌-◌}
 use Rattle.pools.specs.Pools.{pool-read}
 use Rattle.tables.specs.Tables.{Arena}
 use borrow.Author.Rules.{rules}
-use Rattle.arena.specs.Arena.{isFreeB}
+use Rattle.arena.specs.Arena.{is_free_b}
 use mathlib.Core.Path.{ap, ◌∙◌}
 use Rattle.pools.proofs.is_free_in.Statement.{statement}
 use Rattle.pools.proofs.is_free_in.Tie as tie
@@ -27,7 +27,7 @@ is-free-requires : tie.Need-is-free-requires
 is-free-requires c κs = search rules
 
 returns : tie.Need-returns
-returns c = c.is_free.ensures ∙ ap (λ (x : Arena). isFreeB x c.before.before.before.before.args.i) (pool-read _ _ _ c.before.before.before.before.requires c.before.before.Span-of.ensures)
+returns c = c.is_free.ensures ∙ ap (λ (x : Arena). is_free_b x c.before.before.before.before.args.i) (pool-read _ _ _ c.before.before.before.before.requires c.before.before.Span-of.ensures)
 
 pub is-free-in-spec : {M : Type 1} → statement M
 is-free-in-spec =

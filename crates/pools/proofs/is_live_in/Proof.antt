@@ -1,6 +1,6 @@
 -- What is lent is the pool.
 use Prim.Native.Nat.{◌-◌}
-use Rattle.arena.specs.Arena.{liveB}
+use Rattle.arena.specs.Arena.{live_b}
 use Rattle.pools.specs.Pools.{pool-read}
 use borrow.Author.Rules.{rules}
 use mathlib.Core.Path.{ap, ◌∙◌}
@@ -26,7 +26,7 @@ is-live-requires : tie.Need-is-live-requires
 is-live-requires c κs = search rules
 
 returns : tie.Need-returns
-returns c = c.is_live.ensures ∙ ap (λ x. liveB x c.before.before.before.before.args.h) (pool-read _ _ _ c.before.before.before.before.requires c.before.before.Span-of.ensures)
+returns c = c.is_live.ensures ∙ ap (λ x. live_b x c.before.before.before.before.args.h) (pool-read _ _ _ c.before.before.before.before.requires c.before.before.Span-of.ensures)
 
 pub is-live-in-spec : {M : Type 1} → statement M
 is-live-in-spec =

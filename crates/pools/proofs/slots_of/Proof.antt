@@ -1,7 +1,7 @@
 -- The size that the header has for the pool.
 use Prim.Native.Nat.{◌-◌}
 use Rattle.arena.specs.Arena.{given}
-use Rattle.sizes.specs.Sizes.{sizesOf}
+use Rattle.sizes.specs.Sizes.{sizes_of}
 use borrow.Author.Rules.{rules}
 use Rattle.pools.proofs.slots_of.Statement.{statement}
 use Rattle.pools.proofs.slots_of.Tie as tie
@@ -25,15 +25,15 @@ size-requires-3 : tie.Need-size-requires-3
 size-requires-3 c κs = search rules
 
 returns : tie.Need-returns
-unfolding sizesOf
+unfolding sizes_of
 returns c = rw (c.before.enum_told.given.1) c.size.ensures
 
 returns-2 : tie.Need-returns-2
-unfolding sizesOf
+unfolding sizes_of
 returns-2 c = rw (c.before.enum-told2.given.1) c.size2.ensures
 
 returns-3 : tie.Need-returns-3
-unfolding sizesOf
+unfolding sizes_of
 returns-3 c = rw (c.before.enum-told3.given.1) c.size3.ensures
 
 pub slots-of-spec : {M : Type 1} → statement M

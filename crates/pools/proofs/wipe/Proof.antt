@@ -22,8 +22,8 @@ enum-told-3 c = search rules
 wipe-record-requires : tie.Need-wipe-record-requires
 wipe-record-requires c κs = search rules
 
-same_length : tie.Need-same-length
-same_length c = search rules
+same_length_lem : tie.Need-same-length
+same_length_lem c = search rules
 
 returns : tie.Need-returns
 returns c = rw c.before.before.before.before.enum_told.given.1 c.before.before.wipe-domain.ensures
@@ -50,7 +50,7 @@ wipe-spec =
     wipe-region-requires
     enum-told-3
     wipe-record-requires
-    same_length
+    same_length_lem
     returns
     same-length-2
     returns-2

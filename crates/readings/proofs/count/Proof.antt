@@ -1,9 +1,9 @@
 -- The number so far and what is left from here are the whole.
 use Prim.Native.Nat.{◌+◌}
 use Rattle.readings.proofs.Reading.{records-end, records-none, records-more, records-start, count-done, count-more}
-use Rattle.readings.specs.Readings.{recordsFrom}
+use Rattle.readings.specs.Readings.{records_from}
 use Rattle.tables.specs.View.{view}
-use Rattle.sizes.specs.Sizes.{sizesOf}
+use Rattle.sizes.specs.Sizes.{sizes_of}
 use borrow.Author.Rules.{rules}
 use lib.ListN.{length}
 use mathlib.Core.Path.{◌≡◌, ap, ◌∙◌}
@@ -12,7 +12,7 @@ use Rattle.readings.proofs.count.Statement.{statement}
 use Rattle.readings.proofs.count.Tie as tie
 
 abbrev invariant-loop : tie.invariant-loop
-invariant-loop t d n₀ left₀ k₀ n left k = (n + left ≡ left₀) × (n + length (recordsFrom left (view t) k) ≡ length (recordsFrom left₀ (view t) k₀))
+invariant-loop t d n₀ left₀ k₀ n left k = (n + left ≡ left₀) × (n + length (records_from left (view t) k) ≡ length (records_from left₀ (view t) k₀))
 
 abbrev decreases-loop : tie.decreases-loop
 decreases-loop t d n₀ left₀ k₀ n left k = left
@@ -36,7 +36,7 @@ load-record-requires : tie.Need-load-record-requires invariant-loop decreases-lo
 load-record-requires c κs = c.before.before.before.before.before.before.before.requires
 
 add-n : tie.Need-overflow-add-n invariant-loop decreases-loop
-unfolding sizesOf
+unfolding sizes_of
 add-n c = omega (arith, c.before.before.before.before.before.before.size.ensures, c.before.before.before.before.before.before.before.before.requires.limits.records-high)
 
 sub-left : tie.Need-overflow-sub-left invariant-loop decreases-loop

@@ -1,6 +1,6 @@
 -- The words fetched are those of the record, or none.
 use Rattle.tables.specs.Accessors.{record-loaded}
-use Rattle.tables.specs.View.{recordOf}
+use Rattle.tables.specs.View.{record_of}
 use Rattle.words.specs.Runs.{none-fetched}
 use borrow.Author.Rules.{rules}
 use mathlib.Core.Path.{sym, ap, ◌∙◌}
@@ -23,7 +23,7 @@ returns : tie.Need-returns
 returns c = c.record_of.ensures ∙ record-loaded _ c.before.before.before.before.before.requires _ _ _ c.before.before.before.record-at.ensures c.before.before.run.ensures
 
 returns-2 : tie.Need-returns-2
-returns-2 c = c.no_record.ensures ∙ ap recordOf (sym (none-fetched _ _ 9 _ c.before.before.run.ensures c.before.if1.false)) ∙ record-loaded _ c.before.before.before.before.before.requires _ _ _ c.before.before.before.record-at.ensures c.before.before.run.ensures
+returns-2 c = c.no_record.ensures ∙ ap record_of (sym (none-fetched _ _ 9 _ c.before.before.run.ensures c.before.if1.false)) ∙ record-loaded _ c.before.before.before.before.before.requires _ _ _ c.before.before.before.record-at.ensures c.before.before.run.ensures
 
 pub load-record-spec : {M : Type 1} → statement M
 load-record-spec =

@@ -7,7 +7,7 @@ use Rattle.refine.specs.Tree.RegionSteps.{ChildrenLive}
 use Rattle.refine.specs.Calls.Bounds.{Bounded, counts-formed}
 
 pub agree-children : (s : State) → TrackersAgree s → ChildrenLive s.regions
-agree-children s g p h e = (g.regions p h e).childrenLive
+agree-children s g p h e = (g.regions p h e).children_live
 
 -- trackers that store what sound regions were can follow
 pub agree-bounded : (s t : State) → Base s → TrackersAgreeWith s.regions t → Base t → Bounded 1024 t

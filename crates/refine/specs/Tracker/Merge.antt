@@ -12,20 +12,20 @@ use Rattle.model.specs.Outcome.{Outcome, ok, ◌>>=◌}
 use Rattle.model.specs.State.{State, Record, Pool, Domain}
 use Rattle.model.specs.Pool.{free}
 use Rattle.model.specs.Layout.{link}
-use Rattle.model.specs.Tracker.{Walk, withEnd, mergeable, mergeInto, coalesce}
+use Rattle.model.specs.Tracker.{Walk, with_end, mergeable, merge_into, coalesce}
 use Rattle.laws.specs.Words.SameTrackers.{uses, first_slot}
 use Rattle.laws.specs.Tracker.Pools.{uses-append}
 use Rattle.tables.specs.declared.Region.{Region}
-use Rattle.tables.specs.Tables.{Tables, recordAt, withRecord}
+use Rattle.tables.specs.Tables.{Tables, record_at, with_record}
 use Rattle.region.specs.declared.AccessRights.{AccessRights}
 use Rattle.walk_cursors.specs.declared.Cursor.{Cursor}
 use Rattle.walk_cursors.specs.declared.Progress.TheVariants.{Going}
 use Rattle.region.specs.declared.Way.TheVariants.{Merge}
-use Rattle.tables.specs.Links.{slotTo}
-use Rattle.tracker_records.specs.Links.{freedRecord}
-use Rattle.region.specs.Turns.{to, over, onward, mergeAt}
-use Rattle.tracker.specs.Walks.{mergeTurn, turn}
-use Rattle.decoded.specs.Tables.{recordFor, tables_of}
+use Rattle.tables.specs.Links.{slot_to}
+use Rattle.tracker_records.specs.Links.{freed_record}
+use Rattle.region.specs.Turns.{to, over, onward, merge_at}
+use Rattle.tracker.specs.Walks.{merge_turn, turn}
+use Rattle.decoded.specs.Tables.{record_for, tables_of}
 use Rattle.refine.specs.Agrees.{bind_assoc}
 use Rattle.refine.specs.Tracker.Linked.{slot-of}
 use Rattle.refine.specs.Tracker.RecordSteps.{tracked}
@@ -41,17 +41,17 @@ use Rattle.refine.specs.Tracker.Walks.{Walks, behind, walks_same, walks-over, wa
 unfoldable pub joining : Outcome (List Record × Pool) → Outcome Walk
 joining m = m >>= λ y. ok (walked y.0 y.1 0)
 
-join-end : (q : Record) (p : Pool) → joining (mergeInto q [] p) ≡ ok (walked (q ∷ []) p 0)
-unfolding joining mergeInto ◌>>=◌
+join-end : (q : Record) (p : Pool) → joining (merge_into q [] p) ≡ ok (walked (q ∷ []) p 0)
+unfolding joining merge_into ◌>>=◌
 join-end q p = refl
 
-join-in : (q n : Record) (l : List Record) (p : Pool) → mergeable q n ≡ true → joining (mergeInto q (n ∷ l) p) ≡ free n.slot p >>= λ p₁. joining (mergeInto (withEnd n.end q) l p₁)
-unfolding joining mergeInto
+join-in : (q n : Record) (l : List Record) (p : Pool) → mergeable q n ≡ true → joining (merge_into q (n ∷ l) p) ≡ free n.slot p >>= λ p₁. joining (merge_into (with_end n.end q) l p₁)
+unfolding joining merge_into
 join-in q n l p e = rw e (bind_assoc (free n.slot p) _ _)
 
-join-on : (q n : Record) (l : List Record) (p : Pool) → mergeable q n ≡ false → joining (mergeInto q (n ∷ l) p) ≡ ahead (q ∷ []) 0 (joining (mergeInto n l p))
-unfolding joining mergeInto ahead ◌>>=◌
-join-on q n l p e = rw e (bind_assoc (mergeInto n l p) _ _ ∙ sym (bind_assoc (mergeInto n l p) _ _))
+join-on : (q n : Record) (l : List Record) (p : Pool) → mergeable q n ≡ false → joining (merge_into q (n ∷ l) p) ≡ ahead (q ∷ []) 0 (joining (merge_into n l p))
+unfolding joining merge_into ahead ◌>>=◌
+join-on q n l p e = rw e (bind_assoc (merge_into n l p) _ _ ∙ sym (bind_assoc (merge_into n l p) _ _))
 
 -- ---- the turns
 
@@ -60,20 +60,20 @@ module _ (s : State) (d : ℕ) (x : Domain) (a : AccessRights) (st z : ℕ) (b :
   tables l = tables_of (tracked s d x (b ++ l) p)
 
   turn-none : turn Merge (tables []) d a (cursor b [] st z) ≡ over (cursor b [] st z) (tables [])
-  unfolding mergeTurn cursor
+  unfolding merge_turn cursor
   turn-none = refl
 
   module _ (q : Record) where
     -- the record at hand is read
     turn-row : (l : List Record) → Fits s d x (b ++ q ∷ l) p → (c : Cursor) → c.at ≡ suc q.slot
-        → mergeTurn (tables (q ∷ l)) c
-        ≡ pick (eqb (link (first_slot l)) 0) (over c (tables (q ∷ l))) (mergeAt (tables (q ∷ l)) c (recordFor q (first_slot l)) (recordAt (tables (q ∷ l)) (slotTo (link (first_slot l)))))
-    unfolding mergeTurn
+        → merge_turn (tables (q ∷ l)) c
+        ≡ pick (eqb (link (first_slot l)) 0) (over c (tables (q ∷ l))) (merge_at (tables (q ∷ l)) c (record_for q (first_slot l)) (record_at (tables (q ∷ l)) (slot_to (link (first_slot l)))))
+    unfolding merge_turn
     turn-row l h c e =
         let t = tables (q ∷ l) in
-        let g : ℕ → Region → _ = λ k r. pick (eqb k 0) (over c t) (pick (eqb r.next 0) (over c t) (mergeAt t c r (recordAt t (slotTo r.next)))) in
-        ap (λ (k : ℕ). g k (recordAt t (slotTo k))) e
-        ∙ ap (λ (i : ℕ). g (suc q.slot) (recordAt t i)) (slot-of q.slot)
+        let g : ℕ → Region → _ = λ k r. pick (eqb k 0) (over c t) (pick (eqb r.next 0) (over c t) (merge_at t c r (record_at t (slot_to r.next)))) in
+        ap (λ (k : ℕ). g k (record_at t (slot_to k))) e
+        ∙ ap (λ (i : ℕ). g (suc q.slot) (record_at t i)) (slot-of q.slot)
         ∙ ap (g (suc q.slot)) (row_here s d x b l q p h)
         ∙ rw (ne_eqb (suc q.slot) 0 (λ k. omega arith))
 
@@ -84,30 +84,30 @@ module _ (s : State) (d : ℕ) (x : Domain) (a : AccessRights) (st z : ℕ) (b :
     module _ (n : Record) (l : List Record) (h : Fits s d x (b ++ q ∷ n ∷ l) p) where
       -- and the one behind it
       turn_two : turn Merge (tables (q ∷ n ∷ l)) d a (cursor b (q ∷ n ∷ l) st z)
-          ≡ mergeAt (tables (q ∷ n ∷ l)) (cursor b (q ∷ n ∷ l) st z) (recordFor q (some n.slot)) (recordFor n (first_slot l))
+          ≡ merge_at (tables (q ∷ n ∷ l)) (cursor b (q ∷ n ∷ l) st z) (record_for q (some n.slot)) (record_for n (first_slot l))
       unfolding cursor
       turn_two =
           let t = tables (q ∷ n ∷ l) in
           let c = cursor b (q ∷ n ∷ l) st z in
           turn-row (n ∷ l) h c refl
           ∙ rw (ne_eqb (suc n.slot) 0 (λ k. omega arith))
-          (ap (λ (i : ℕ). mergeAt t c (recordFor q (some n.slot)) (recordAt t i)) (slot-of n.slot) ∙ ap (mergeAt t c (recordFor q (some n.slot))) (row-after-here s d x b l q n p h))
+          (ap (λ (i : ℕ). merge_at t c (record_for q (some n.slot)) (record_at t i)) (slot-of n.slot) ∙ ap (merge_at t c (record_for q (some n.slot))) (row-after-here s d x b l q n p h))
 
       turn_in : mergeable q n ≡ true
           → turn Merge (tables (q ∷ n ∷ l)) d a (cursor b (q ∷ n ∷ l) st z)
-          ≡ onward (freedRecord (withRecord (tables (q ∷ n ∷ l)) q.slot (recordFor (withEnd n.end q) (first_slot l))) n.slot) (λ v. cursor b (q ∷ n ∷ l) st z)
-      unfolding mergeAt cursor
+          ≡ onward (freed_record (with_record (tables (q ∷ n ∷ l)) q.slot (record_for (with_end n.end q) (first_slot l))) n.slot) (λ v. cursor b (q ∷ n ∷ l) st z)
+      unfolding merge_at cursor
       turn_in e =
           let t = tables (q ∷ n ∷ l) in
           let c = cursor b (q ∷ n ∷ l) st z in
-          let r = recordFor (withEnd n.end q) (first_slot l) in
+          let r = record_for (with_end n.end q) (first_slot l) in
           turn_two
           ∙ rw (mergeable-is q n (some n.slot) (first_slot l) ∙ e)
-          (ap (λ (i : ℕ). onward (freedRecord (withRecord t i r) (slotTo (suc n.slot))) (λ v. c)) (slot-of q.slot)
-          ∙ ap (λ (i : ℕ). onward (freedRecord (withRecord t q.slot r) i) (λ v. c)) (slot-of n.slot))
+          (ap (λ (i : ℕ). onward (freed_record (with_record t i r) (slot_to (suc n.slot))) (λ v. c)) (slot-of q.slot)
+          ∙ ap (λ (i : ℕ). onward (freed_record (with_record t q.slot r) i) (λ v. c)) (slot-of n.slot))
 
       turn_on : mergeable q n ≡ false → turn Merge (tables (q ∷ n ∷ l)) d a (cursor b (q ∷ n ∷ l) st z) ≡ to (Going (behind q (n ∷ l) st (union z 0))) (tables (q ∷ n ∷ l))
-      unfolding mergeAt cursor
+      unfolding merge_at cursor
       turn_on e = turn_two ∙ rw (mergeable-is q n (some n.slot) (first_slot l) ∙ e)
 
 -- ---- the walk
@@ -117,7 +117,7 @@ module _ (s : State) (d : ℕ) (x : Domain) (a : AccessRights) (st : ℕ) where
   unfoldable MergeOk : List Record → Type 0
   MergeOk l =
       (n z : ℕ) (b : List Record) (q : Record) (p : Pool) → Fits s d x (b ++ q ∷ l) p → length l < n
-      → Walks s d x a Merge n st z b (q ∷ l) p (joining (mergeInto q l p))
+      → Walks s d x a Merge n st z b (q ∷ l) p (joining (merge_into q l p))
 
   merge-end : MergeOk []
   unfolding MergeOk
@@ -127,17 +127,17 @@ module _ (s : State) (d : ℕ) (x : Domain) (a : AccessRights) (st : ℕ) where
   module _ (r : Record) (l : List Record) (after : MergeOk l) (n z : ℕ) (b : List Record) (q : Record) (p : Pool)
       (h : Fits s d x (b ++ q ∷ r ∷ l) p) (k : length l < n)
     where
-      merge_in : mergeable q r ≡ true → Walks s d x a Merge (suc n) st z b (q ∷ r ∷ l) p (joining (mergeInto q (r ∷ l) p))
+      merge_in : mergeable q r ≡ true → Walks s d x a Merge (suc n) st z b (q ∷ r ∷ l) p (joining (merge_into q (r ∷ l) p))
       unfolding MergeOk cursor
       merge_in e =
-          let m = withEnd r.end q in
+          let m = with_end r.end q in
           let out : (i : ℕ) → uses i (b ++ q ∷ r ∷ l) ≡ uses i (b ++ m ∷ l) + uses i (r ∷ []) = λ i. omega (arith, uses-append i b (q ∷ r ∷ l), uses-append i b (m ∷ l)) in
           walks_same (join-in q r l p e)
-          (walks-then _ _ (free r.slot p) (λ p₁. (0, tracked s d x (b ++ m ∷ l) p₁)) (λ p₁. joining (mergeInto m l p₁))
+          (walks-then _ _ (free r.slot p) (λ p₁. (0, tracked s d x (b ++ m ∷ l) p₁)) (λ p₁. joining (merge_into m l p₁))
           (turn_in s d x a st z b p q r l h e) (joined-here s d x b l q m r p h refl)
           (λ p₁ f. (after n z b m p₁ (fits_moved s d x (b ++ q ∷ r ∷ l) (b ++ m ∷ l) p p₁ h (moves_out p p₁ r (b ++ q ∷ r ∷ l) (b ++ m ∷ l) f out)) k).agrees))
 
-      merge_on : mergeable q r ≡ false → Walks s d x a Merge (suc n) st z b (q ∷ r ∷ l) p (joining (mergeInto q (r ∷ l) p))
+      merge_on : mergeable q r ≡ false → Walks s d x a Merge (suc n) st z b (q ∷ r ∷ l) p (joining (merge_into q (r ∷ l) p))
       unfolding MergeOk
       merge_on e = walks_same (join-on q r l p e) (walks-on q 0 (turn_on s d x a st z b p q r l h e) (after n (union z 0) (b ++ q ∷ []) r p (fits_on s d x b (r ∷ l) q p h) k))
 

@@ -5,12 +5,12 @@ use Rattle.std.proofs.Math.Path.{refl, sym, ap}
 use Rattle.std.proofs.Common.{◌∙◌, arith}
 use Rattle.std.specs.Int.Bits.{or_zero_r}
 use Rattle.std.proofs.lemmas.List.{length-map}
-use Rattle.model.specs.Lists.{countIf}
+use Rattle.model.specs.Lists.{count_if}
 use Rattle.model.specs.Outcome.{Outcome, ok, ◌>>=◌}
-use Rattle.model.specs.State.{State, Record, Pool, Domain, withTracker}
+use Rattle.model.specs.State.{State, Record, Pool, Domain, with_tracker}
 use Rattle.model.specs.Layout.{link}
 use Rattle.model.specs.Tracker.{Walk, coalesce, merged}
-use Rattle.model.specs.Sound.{OnceEach, recordUses}
+use Rattle.model.specs.Sound.{OnceEach, record_uses}
 use Rattle.laws.specs.Accepted.{All, all-ok}
 use Rattle.laws.specs.Words.SameTrackers.{uses, first_slot, owned, slots-uses}
 use Rattle.laws.specs.Tracker.Pools.{Moved, moved_none}
@@ -36,7 +36,7 @@ pub tracker-fits : (s : State) (d : ℕ) (x : Domain) → Held s d x → length 
 tracker-fits s d x h =
     let l = x.tracker in
     let ks = map (λ (q : Record). q.slot) l in
-    let others : ℕ → ℕ = λ i. recordUses s.domains i - uses i l + countIf (eqb i) s.recordPool.free in
+    let others : ℕ → ℕ = λ i. record_uses s.domains i - uses i l + count_if (eqb i) s.record_pool.free in
     let once : OnceEach s.sizes.records others ks = λ i. omega (arith, slots-uses i l, (owned s.domains d x h.at i).0, h.sound.once i) in
     omega (arith, free-fits s.sizes.records others ks once, length-map l (λ (q : Record). q.slot))
 
@@ -45,7 +45,7 @@ tracker-fits s d x h =
 module _ (s : State) (d : ℕ) (x : Domain) (a : AccessRights) where
   length-fits : (l : List Record) (p : Pool) → Fits s d x l p → length l ≤ s.sizes.records
   unfolding tracked
-  length-fits l p h = tracker-fits (tracked s d x l p) d (withTracker l x) h
+  length-fits l p h = tracker-fits (tracked s d x l p) d (with_tracker l x) h
 
   enough : (l : List Record) (p : Pool) → turns.turns (tables_of (tracked s d x l p)) ≡ 3 * s.sizes.records + 3
   unfolding tables_of tracked
@@ -87,15 +87,15 @@ module _ (s : State) (d : ℕ) (x : Domain) (a : AccessRights) where
       whole Merge w.marks l p _ h (coalesce-walks s d x a a.start (3 * s.sizes.records + 3) w.marks l p h (omega (arith, length-fits l p h)))
 
   -- a walk that agrees with the model's m, and the merge
-  module _ (h : Held s d x) (w : Way) (m : Outcome Walk) (moves : All (λ y. Moved s.recordPool y.pool x.tracker y.records) m) where
-    start_fits : Fits s d x x.tracker s.recordPool
-    start_fits = held_moved s d x h s.recordPool x.tracker (moved_none s.recordPool x.tracker)
+  module _ (h : Held s d x) (w : Way) (m : Outcome Walk) (moves : All (λ y. Moved s.record_pool y.pool x.tracker y.records) m) where
+    start_fits : Fits s d x x.tracker s.record_pool
+    start_fits = held_moved s d x h s.record_pool x.tracker (moved_none s.record_pool x.tracker)
 
-    first_walk : Walks s d x a w (3 * s.sizes.records + 3) a.start 0 [] x.tracker s.recordPool m → Agrees (turns.walked w d a 0 (tables_of s)) (m >>= finish s d x 0 [])
+    first_walk : Walks s d x a w (3 * s.sizes.records + 3) a.start 0 [] x.tracker s.record_pool m → Agrees (turns.walked w d a 0 (tables_of s)) (m >>= finish s d x 0 [])
     first_walk k =
-        agrees-step _ _ (m >>= finish s d x 0 []) (ap (λ (y : State). turns.walked w d a 0 (tables_of y)) (sym (tracked-same s d x h.at))) (whole w 0 x.tracker s.recordPool m start_fits k)
+        agrees-step _ _ (m >>= finish s d x 0 []) (ap (λ (y : State). turns.walked w d a 0 (tables_of y)) (sym (tracked-same s d x h.at))) (whole w 0 x.tracker s.record_pool m start_fits k)
 
-    pub walked-merged : Walks s d x a w (3 * s.sizes.records + 3) a.start 0 [] x.tracker s.recordPool m
+    pub walked-merged : Walks s d x a w (3 * s.sizes.records + 3) a.start 0 [] x.tracker s.record_pool m
         → Agrees (and_then (turns.walked w d a 0 (tables_of s)) (turns.walked Merge d a)) (merged m >>= λ y. ok (y.marks, tracked s d x y.records y.pool))
     unfolding finish
     walked-merged k =

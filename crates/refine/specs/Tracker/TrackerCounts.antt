@@ -7,18 +7,18 @@ use Rattle.base.specs.Tests.{both}
 use Rattle.rights.specs.Rights as rights
 use Rattle.rights.specs.Counters as counters
 use Rattle.rights.specs.Rights.{has, READ, WRITE, EXEC, SUPER, UNCACHEABLE}
-use Rattle.rights.specs.Counters.{countersOf}
-use Rattle.model.specs.Lists.{if◌then◌else◌, oneIf}
+use Rattle.rights.specs.Counters.{counters_of}
+use Rattle.model.specs.Lists.{if◌then◌else◌, one_if}
 use Rattle.model.specs.State.{Counts, Record}
 use Rattle.model.specs.Fields.{Field, get, passes, counter}
 use Rattle.model.specs.Layout.{link}
-use Rattle.model.specs.Tracker.{lower, noCounts, crosses, crossings, mergeable, withCounts}
+use Rattle.model.specs.Tracker.{lower, no_counts, crosses, crossings, mergeable, with_counts}
 use Rattle.laws.specs.Stack.{one_at_most}
 use Rattle.tables.specs.declared.Region.{Region}
-use Rattle.tables.specs.Tables.{noRecord}
-use Rattle.counts.specs.Counts.{up, made, raised, lowered, crossesB, markIf, crossingsOf, mergeableB}
-use Rattle.decoded.specs.Tables.{recordFor}
-use Rattle.refine.specs.Tracker.GainSteps.{newRecord, raisedRecord, fills}
+use Rattle.tables.specs.Tables.{no_record}
+use Rattle.counts.specs.Counts.{up, made, raised, lowered, crosses_b, mark_if, crossings_of, mergeable_b}
+use Rattle.decoded.specs.Tables.{record_for}
+use Rattle.refine.specs.Tracker.GainSteps.{new_record, raised_record, fills}
 
 -- ---- tests
 
@@ -26,7 +26,7 @@ pick-if : {A : Type 0} (b : Bool) (x y : A) → pick b x y ≡ if b then x else 
 pick-if true x y = refl
 pick-if false x y = refl
 
-count-one : (b : Bool) → counters.oneIf b ≡ oneIf b
+count-one : (b : Bool) → counters.one_if b ≡ one_if b
 count-one true = refl
 count-one false = refl
 
@@ -35,10 +35,10 @@ count-one false = refl
 -- what the code adds in a field for a range with rights r
 abbrev added : Field → ℕ → ℕ
 added Field.Reach r = 1
-added Field.Read r = (countersOf r).read_count
-added Field.Write r = (countersOf r).write_count
-added Field.Exec r = (countersOf r).exec_count
-added Field.Super r = (countersOf r).super_count
+added Field.Read r = (counters_of r).read_count
+added Field.Write r = (counters_of r).write_count
+added Field.Exec r = (counters_of r).exec_count
+added Field.Super r = (counters_of r).super_count
 
 added_is : (f : Field) (r : ℕ) → added f r ≡ counter f r
 added_is Field.Reach r = refl
@@ -53,7 +53,7 @@ row s e n u next = record { start = s; end = e; ref_count = n Field.Reach; read_
 
 -- ---- a new record
 
-pub made-is : (r s e i : ℕ) (f : Option ℕ) → made s e r (link f) ≡ recordFor (newRecord r s e i) f
+pub made-is : (r s e i : ℕ) (f : Option ℕ) → made s e r (link f) ≡ record_for (new_record r s e i) f
 made-is r s e i f = λ t. row s e (λ c. added_is c r t) (count-one (has r UNCACHEABLE) t) (link f)
 
 -- ---- counts raised and lowered
@@ -67,43 +67,43 @@ unfolding up
 up_by n k h l = rw (le-leb k (2 ^ 64 - 1 - n) (omega arith))
 
 module _ (r : ℕ) (q : Record) (f : Option ℕ) where
-  pub raised_is : Raisable q.counts → raised r (recordFor q f) ≡ recordFor (raisedRecord r q) f
+  pub raised_is : Raisable q.counts → raised r (record_for q f) ≡ record_for (raised_record r q) f
   raised_is h =
       let more : (c : Field) → up (get c q.counts) (added c r) ≡ get c q.counts + counter c r = λ c. ap (up (get c q.counts)) (added_is c r) ∙ up_by (get c q.counts) (counter c r) (h c) (one_at_most (passes c r)) in
       λ t. row q.start q.end (λ c. more c t) q.counts.uncacheable (link f)
 
-  pub lowered_is : lowered r (recordFor q f) ≡ recordFor (withCounts (lower r q.counts) q) f
+  pub lowered_is : lowered r (record_for q f) ≡ record_for (with_counts (lower r q.counts) q) f
   lowered_is = λ t. row q.start q.end (λ c. get c q.counts - added_is c r t) q.counts.uncacheable (link f)
 
 -- ---- the marks of the counts that left or came to 0
 
-cross-is : (a b : ℕ) → crossesB a b ≡ crosses a b
+cross-is : (a b : ℕ) → crosses_b a b ≡ crosses a b
 cross-is a b = pick-if (eqb a 0) (not (eqb b 0)) (eqb b 0)
 
-mark-if : (b : Bool) (m : ℕ) → pick b m 0 ≡ oneIf b * m
+mark-if : (b : Bool) (m : ℕ) → pick b m 0 ≡ one_if b * m
 mark-if true m = omega arith
 mark-if false m = omega arith
 
-mark-is : (a b m : ℕ) → markIf a b m ≡ oneIf (crosses a b) * m
-mark-is a b m = mark-if (crossesB a b) m ∙ ap (λ (c : Bool). oneIf c * m) (cross-is a b)
+mark-is : (a b m : ℕ) → mark_if a b m ≡ one_if (crosses a b) * m
+mark-is a b m = mark-if (crosses_b a b) m ∙ ap (λ (c : Bool). one_if c * m) (cross-is a b)
 
-pub crossings-is : (q n : Record) (f g : Option ℕ) → crossingsOf (recordFor q f) (recordFor n g) ≡ crossings q.counts n.counts
-unfolding crossingsOf
+pub crossings-is : (q n : Record) (f g : Option ℕ) → crossings_of (record_for q f) (record_for n g) ≡ crossings q.counts n.counts
+unfolding crossings_of
 crossings-is q n f g =
     let j = q.counts in
     let k = n.counts in
     λ t. mark-is j.reach k.reach 1 t + mark-is j.read k.read 2 t + mark-is j.write k.write 4 t + mark-is j.exec k.exec 8 t + mark-is j.super k.super 16 t
 
 -- a free slot's row is that of a record without counts
-abbrev noneThere : Record
-noneThere = record { slot = 0; start = 0; end = 0; counts = noCounts }
+abbrev none_there : Record
+none_there = record { slot = 0; start = 0; end = 0; counts = no_counts }
 
 -- a record comes where none was; a record leaves
-pub fills-is : (r s e i : ℕ) (f : Option ℕ) → crossingsOf noRecord (recordFor (newRecord r s e i) f) ≡ fills r
-fills-is r s e i f = crossings-is noneThere (newRecord r s e i) none f
+pub fills-is : (r s e i : ℕ) (f : Option ℕ) → crossings_of no_record (record_for (new_record r s e i) f) ≡ fills r
+fills-is r s e i f = crossings-is none_there (new_record r s e i) none f
 
-pub drops-is : (q : Record) (f : Option ℕ) → crossingsOf (recordFor q f) noRecord ≡ crossings q.counts noCounts
-drops-is q f = crossings-is q noneThere f none
+pub drops-is : (q : Record) (f : Option ℕ) → crossings_of (record_for q f) no_record ≡ crossings q.counts no_counts
+drops-is q f = crossings-is q none_there f none
 
 -- ---- neighbours that may be one record
 
@@ -122,8 +122,8 @@ seven true true false true true false e = refl
 seven true true false true true true true = refl
 seven true true false true true true false = refl
 
-pub mergeable-is : (q n : Record) (f g : Option ℕ) → mergeableB (recordFor q f) (recordFor n g) ≡ mergeable q n
-unfolding mergeableB
+pub mergeable-is : (q n : Record) (f g : Option ℕ) → mergeable_b (record_for q f) (record_for n g) ≡ mergeable q n
+unfolding mergeable_b
 mergeable-is q n f g =
     let j = q.counts in
     let k = n.counts in

@@ -5,10 +5,10 @@ use Rattle.std.proofs.Common.{◌∙◌, append_assoc, lt-ltb, le-ltb}
 use Rattle.rights.specs.Rights.{union}
 use Rattle.model.specs.Outcome.{Outcome, ok, refuse, ◌>>=◌}
 use Rattle.refusals.specs.declared.Refusal.{Refusal}
-use Rattle.refusals.specs.Refusals.{noTracker}
+use Rattle.refusals.specs.Refusals.{no_tracker}
 use Rattle.model.specs.State.{Record, Pool}
 use Rattle.model.specs.Pool.{allocate}
-use Rattle.model.specs.Tracker.{Walk, withEnd, splitAt, cutBefore, cutAfter, meets}
+use Rattle.model.specs.Tracker.{Walk, with_end, split_at, cut_before, cut_after, meets}
 use Rattle.refine.specs.Agrees.{ok-then, bind_assoc}
 use Rattle.refine.specs.Tracker.RecordSteps.{from}
 use Rattle.refine.specs.Tracker.Unions.{union_assoc}
@@ -38,37 +38,37 @@ ahead-ok b c w = refl
 
 -- what follows a walk with records before it
 module _ (n : Pool → Outcome Walk) where
-  unfoldable afterWalk : Walk → Outcome Walk
-  afterWalk w = ahead w.records w.marks (n w.pool)
+  unfoldable after_walk : Walk → Outcome Walk
+  after_walk w = ahead w.records w.marks (n w.pool)
 
-  after-refused : (b : List Record) (c : ℕ) (r : Refusal) → ahead b c (refuse r) >>= afterWalk ≡ ahead b c (refuse r >>= afterWalk)
+  after-refused : (b : List Record) (c : ℕ) (r : Refusal) → ahead b c (refuse r) >>= after_walk ≡ ahead b c (refuse r >>= after_walk)
   unfolding ahead ◌>>=◌
   after-refused b c r = refl
 
   pub ahead-out : (b : List Record) (c : ℕ) (m : Outcome Walk) → ahead b c m >>= (λ w. ahead w.records w.marks (n w.pool)) ≡ ahead b c (m >>= λ w. ahead w.records w.marks (n w.pool))
-  unfolding afterWalk
+  unfolding after_walk
   ahead-out b c (ok w) =
-      ap (λ k. k >>= afterWalk) (ahead-ok b c w) ∙ ok-then _ afterWalk ∙ sym (ap (ahead b c) (ok-then w afterWalk) ∙ ahead-ahead b w.records c w.marks (n w.pool))
+      ap (λ k. k >>= after_walk) (ahead-ok b c w) ∙ ok-then _ after_walk ∙ sym (ap (ahead b c) (ok-then w after_walk) ∙ ahead-ahead b w.records c w.marks (n w.pool))
   ahead-out b c (refuse r) = after-refused b c r
 
 -- ---- a record cut
 
 module _ (c : ℕ) (q : Record) (p : Pool) where
-  pub before-whole : c ≤ q.start → cutBefore c q p ≡ ok ([], q, p)
-  unfolding cutBefore
+  pub before-whole : c ≤ q.start → cut_before c q p ≡ ok ([], q, p)
+  unfolding cut_before
   before-whole h = rw (le-ltb q.start c h)
 
-  pub before-cut : q.start < c → cutBefore c q p ≡ allocate noTracker p >>= λ z. ok (withEnd c q ∷ [], from c z.0 q, z.1)
-  unfolding cutBefore splitAt ◌>>=◌
-  before-cut h = rw (lt-ltb q.start c h) (bind_assoc (allocate noTracker p) _ _)
+  pub before-cut : q.start < c → cut_before c q p ≡ allocate no_tracker p >>= λ z. ok (with_end c q ∷ [], from c z.0 q, z.1)
+  unfolding cut_before split_at ◌>>=◌
+  before-cut h = rw (lt-ltb q.start c h) (bind_assoc (allocate no_tracker p) _ _)
 
-  pub after-whole : q.end ≤ c → cutAfter c q p ≡ ok (q, [], p)
-  unfolding cutAfter
+  pub after-whole : q.end ≤ c → cut_after c q p ≡ ok (q, [], p)
+  unfolding cut_after
   after-whole h = rw (le-ltb c q.end h)
 
-  pub after-cut : c < q.end → cutAfter c q p ≡ allocate noTracker p >>= λ z. ok (withEnd c q, from c z.0 q ∷ [], z.1)
-  unfolding cutAfter splitAt ◌>>=◌
-  after-cut h = rw (lt-ltb c q.end h) (bind_assoc (allocate noTracker p) _ _)
+  pub after-cut : c < q.end → cut_after c q p ≡ allocate no_tracker p >>= λ z. ok (with_end c q, from c z.0 q ∷ [], z.1)
+  unfolding cut_after split_at ◌>>=◌
+  after-cut h = rw (lt-ltb c q.end h) (bind_assoc (allocate no_tracker p) _ _)
 
 -- ---- does a record meet the range
 

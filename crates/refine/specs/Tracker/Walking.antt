@@ -9,17 +9,17 @@ use Rattle.std.proofs.Math.Option.{Option, none}
 use Rattle.std.proofs.lemmas.List.{set-get_or}
 use Rattle.rights.specs.Rights.{union}
 use Rattle.model.specs.Lists.{In}
-use Rattle.refusals.specs.Refusals.{noTracker}
+use Rattle.refusals.specs.Refusals.{no_tracker}
 use Rattle.model.specs.Outcome.{Outcome, ok, refuse, ◌>>=◌}
 use Rattle.model.specs.State as state
-use Rattle.model.specs.State.{State, Record, Pool, Domain, withTracker}
+use Rattle.model.specs.State.{State, Record, Pool, Domain, with_tracker}
 use Rattle.model.specs.Pool.{allocate, free}
 use Rattle.model.specs.Layout.{link}
-use Rattle.model.specs.Tracker.{Walk, withEnd}
+use Rattle.model.specs.Tracker.{Walk, with_end}
 use Rattle.laws.specs.Words.SameTrackers.{uses, first_slot}
 use Rattle.laws.specs.Tracker.Pools.{Moved, moved_none, frame}
 use Rattle.tables.specs.declared.DomainHead.{DomainHead}
-use Rattle.tables.specs.Tables.{Tables, recordAt, withRecord}
+use Rattle.tables.specs.Tables.{Tables, record_at, with_record}
 use Rattle.answers.specs.declared.Answer.{Answer}
 use Rattle.answers.specs.declared.Answer.TheVariants.{Done, Refused}
 use Rattle.answers.specs.Answers.{Effect, and_then}
@@ -27,13 +27,13 @@ use Rattle.region.specs.declared.AccessRights.{AccessRights}
 use Rattle.walk_cursors.specs.declared.Cursor.{Cursor}
 use Rattle.walk_cursors.specs.declared.Progress.TheVariants.{Going, Over}
 use Rattle.region.specs.declared.Way.{Way}
-use Rattle.tracker_records.specs.Links.{with_next, firstLink, inserted, split, freedRecord}
+use Rattle.tracker_records.specs.Links.{with_next, first_link, inserted, split, freed_record}
 use Rattle.region.specs.Turns.{Turn, to, onward}
 use Rattle.tracker.specs.Walks.{turn, walk}
-use Rattle.decoded.specs.Tables.{recordFor, tables_of}
+use Rattle.decoded.specs.Tables.{record_for, tables_of}
 use Rattle.decoded.specs.Slots.Domains.{head_read}
 use Rattle.refine.specs.Agrees.{Agrees, agrees-step, agrees-call, agrees_from, bind-same}
-use Rattle.refine.specs.Tracker.Linked.{lastLink, row_is}
+use Rattle.refine.specs.Tracker.Linked.{last_link, row_is}
 use Rattle.refine.specs.Tracker.RecordSteps.{tracked, Held, spread, tracked-again, held_moved, in_slot, from, inserted-is, moves-in, split-is}
 use Rattle.refine.specs.Tracker.RecordFrees.{removed-is, joined_is, changed-is}
 use Rattle.refine.specs.Tracker.Unions.{union_assoc}
@@ -72,7 +72,7 @@ module _ (w : Way) (d : ℕ) (a : AccessRights) (n : ℕ) where
 -- ---- where a walk is
 
 unfoldable pub cursor : List Record → List Record → ℕ → ℕ → Cursor
-cursor b l s z = record { prev = lastLink b; at = link (first_slot l); start = s; marks = z }
+cursor b l s z = record { prev = last_link b; at = link (first_slot l); start = s; marks = z }
 
 -- the model's walk over the rest is put behind b; z are the marks before
 unfoldable pub finish : State → ℕ → Domain → ℕ → List Record → Walk → Outcome (ℕ × State)
@@ -88,27 +88,27 @@ finish-ahead s d x z k b c (refuse r) = refl
 
 -- ---- the state in the middle of a walk
 
-pub tracked-same : (s : State) (d : ℕ) (x : Domain) → In s.domains d x → tracked s d x x.tracker s.recordPool ≡ s
+pub tracked-same : (s : State) (d : ℕ) (x : Domain) → In s.domains d x → tracked s d x x.tracker s.record_pool ≡ s
 unfolding tracked
 tracked-same s d x at =
-    ap (λ (ds : List (Option Domain)). state.withDomains s.domainPool ds s) (ap (set s.domains d) (sym at) ∙ set-get_or s.domains d none)
+    ap (λ (ds : List (Option Domain)). state.with_domains s.domain_pool ds s) (ap (set s.domains d) (sym at) ∙ set-get_or s.domains d none)
 
 module _ (s : State) (d : ℕ) (x : Domain) where
   abbrev pub Fits : List Record → Pool → Type 0
-  Fits l p = Held (tracked s d x l p) d (withTracker l x)
+  Fits l p = Held (tracked s d x l p) d (with_tracker l x)
 
   pub fits_moved : (l m : List Record) (p p' : Pool) → Fits l p → Moved p p' l m → Fits m p'
   unfolding tracked
-  fits_moved l m p p' h v = subst (λ (z : State). Held z d (withTracker m x)) (tracked-again s d x l m p p') (held_moved (tracked s d x l p) d (withTracker l x) h p' m v)
+  fits_moved l m p p' h v = subst (λ (z : State). Held z d (with_tracker m x)) (tracked-again s d x l m p p') (held_moved (tracked s d x l p) d (with_tracker l x) h p' m v)
 
   -- the first of the rest is done
   pub fits_on : (b l : List Record) (q : Record) (p : Pool) → Fits (b ++ q ∷ l) p → Fits ((b ++ q ∷ []) ++ l) p
   fits_on b l q p h = subst (λ (m : List Record). Fits m p) (sym (append_assoc b (q ∷ []) l)) h
 
   -- a slot is taken, and goes into the list
-  pub fits_in : (l m : List Record) (p : Pool) (y : ℕ × Pool) (q : Record) → Fits l p → allocate noTracker p ≡ ok y → q.slot ≡ y.0
+  pub fits_in_lem : (l m : List Record) (p : Pool) (y : ℕ × Pool) (q : Record) → Fits l p → allocate no_tracker p ≡ ok y → q.slot ≡ y.0
       → ((k : ℕ) → uses k l + uses k (q ∷ []) ≡ uses k m) → Fits m y.1
-  fits_in l m p y q h e k u = fits_moved l m p y.1 h (moves-in p y.1 y.0 q l m e k u)
+  fits_in_lem l m p y q h e k u = fits_moved l m p y.1 h (moves-in p y.1 y.0 q l m e k u)
 
   -- the same slots
   pub fits_kept : (l m : List Record) (p : Pool) → Fits l p → ((k : ℕ) → uses k l ≡ uses k m) → Fits m p
@@ -117,55 +117,55 @@ module _ (s : State) (d : ℕ) (x : Domain) where
   module _ (l : List Record) (p : Pool) (h : Fits l p) where
     -- a call that puts back over it
     again : {A : Type 0} (m : Outcome A) (v : A → ℕ) (f : A → List Record) (g : A → Pool) (y : Effect)
-        → Agrees y (m >>= λ z. ok (v z, tracked (tracked s d x l p) d (withTracker l x) (f z) (g z))) → Agrees y (m >>= λ z. ok (v z, tracked s d x (f z) (g z)))
+        → Agrees y (m >>= λ z. ok (v z, tracked (tracked s d x l p) d (with_tracker l x) (f z) (g z))) → Agrees y (m >>= λ z. ok (v z, tracked s d x (f z) (g z)))
     again m v f g y k = agrees-call y _ _ (bind-same m _ _ (λ z. ap (λ (u : State). ok (v z, u)) (sym (tracked-again s d x l (f z) p (g z))))) k
 
-    pub first-here : firstLink (tables_of (tracked s d x l p)) d ≡ link (first_slot l)
-    unfolding firstLink tracked
-    first-here = ap (λ (k : DomainHead). k.tracker) (head_read (tracked s d x l p) h.long d (withTracker l x) h.at)
+    pub first-here : first_link (tables_of (tracked s d x l p)) d ≡ link (first_slot l)
+    unfolding first_link tracked
+    first-here = ap (λ (k : DomainHead). k.tracker) (head_read (tracked s d x l p) h.long d (with_tracker l x) h.at)
 
   module _ (b a : List Record) (p : Pool) (h : Fits (b ++ a) p) where
-    pub inserted-here : (q : Record) → Agrees (inserted (tables_of (tracked s d x (b ++ a) p)) d (lastLink b) (recordFor q (first_slot a)))
-        (allocate noTracker p >>= λ z. ok (suc z.0, tracked s d x (b ++ in_slot z.0 q ∷ a) z.1))
+    pub inserted-here : (q : Record) → Agrees (inserted (tables_of (tracked s d x (b ++ a) p)) d (last_link b) (record_for q (first_slot a)))
+        (allocate no_tracker p >>= λ z. ok (suc z.0, tracked s d x (b ++ in_slot z.0 q ∷ a) z.1))
     unfolding tracked
     inserted-here q =
-        again (b ++ a) p h (allocate noTracker p) (λ z. suc z.0) (λ z. b ++ in_slot z.0 q ∷ a) (λ z. z.1) _
-        (inserted-is (tracked s d x (b ++ a) p) d (withTracker (b ++ a) x) h b a q refl)
+        again (b ++ a) p h (allocate no_tracker p) (λ z. suc z.0) (λ z. b ++ in_slot z.0 q ∷ a) (λ z. z.1) _
+        (inserted-is (tracked s d x (b ++ a) p) d (with_tracker (b ++ a) x) h b a q refl)
 
   module _ (b a : List Record) (q : Record) (p : Pool) (h : Fits (b ++ q ∷ a) p) where
     abbrev now : State
     now = tracked s d x (b ++ q ∷ a) p
 
-    pub row_here : recordAt (tables_of now) q.slot ≡ recordFor q (first_slot a)
+    pub row_here : record_at (tables_of now) q.slot ≡ record_for q (first_slot a)
     unfolding tracked
-    row_here = row_is now h.long d (withTracker (b ++ q ∷ a) x) h.at (spread now.sizes.records now.domains p h.sound) b a q refl
+    row_here = row_is now h.long d (with_tracker (b ++ q ∷ a) x) h.at (spread now.sizes.records now.domains p h.sound) b a q refl
 
     pub split-here : (c : ℕ) → Agrees (split (tables_of now) q.slot c)
-        (allocate noTracker p >>= λ z. ok (suc z.0, tracked s d x (b ++ withEnd c q ∷ from c z.0 q ∷ a) z.1))
+        (allocate no_tracker p >>= λ z. ok (suc z.0, tracked s d x (b ++ with_end c q ∷ from c z.0 q ∷ a) z.1))
     unfolding tracked
     split-here c =
-        again (b ++ q ∷ a) p h (allocate noTracker p) (λ z. suc z.0) (λ z. b ++ withEnd c q ∷ from c z.0 q ∷ a) (λ z. z.1) _
-        (split-is now d (withTracker (b ++ q ∷ a) x) h b a q refl c)
+        again (b ++ q ∷ a) p h (allocate no_tracker p) (λ z. suc z.0) (λ z. b ++ with_end c q ∷ from c z.0 q ∷ a) (λ z. z.1) _
+        (split-is now d (with_tracker (b ++ q ∷ a) x) h b a q refl c)
 
-    pub removed-here : Agrees (freedRecord (with_next (tables_of now) d (lastLink b) (link (first_slot a))) q.slot) (free q.slot p >>= λ z. ok (0, tracked s d x (b ++ a) z))
+    pub removed-here : Agrees (freed_record (with_next (tables_of now) d (last_link b) (link (first_slot a))) q.slot) (free q.slot p >>= λ z. ok (0, tracked s d x (b ++ a) z))
     unfolding tracked
-    removed-here = again (b ++ q ∷ a) p h (free q.slot p) (λ z. 0) (λ z. b ++ a) (λ z. z) _ (removed-is now d (withTracker (b ++ q ∷ a) x) h b a q refl)
+    removed-here = again (b ++ q ∷ a) p h (free q.slot p) (λ z. 0) (λ z. b ++ a) (λ z. z) _ (removed-is now d (with_tracker (b ++ q ∷ a) x) h b a q refl)
 
-    pub changed-here : (r : Record) → r.slot ≡ q.slot → withRecord (tables_of now) r.slot (recordFor r (first_slot a)) ≡ tables_of (tracked s d x (b ++ r ∷ a) p)
+    pub changed-here : (r : Record) → r.slot ≡ q.slot → with_record (tables_of now) r.slot (record_for r (first_slot a)) ≡ tables_of (tracked s d x (b ++ r ∷ a) p)
     unfolding tracked
-    changed-here r e = changed-is now d (withTracker (b ++ q ∷ a) x) h b a q r e refl ∙ ap tables_of (tracked-again s d x (b ++ q ∷ a) (b ++ r ∷ a) p p)
+    changed-here r e = changed-is now d (with_tracker (b ++ q ∷ a) x) h b a q r e refl ∙ ap tables_of (tracked-again s d x (b ++ q ∷ a) (b ++ r ∷ a) p p)
 
   -- the row of the record behind q
-  pub row-after-here : (b a : List Record) (q n : Record) (p : Pool) → Fits (b ++ q ∷ n ∷ a) p → recordAt (tables_of (tracked s d x (b ++ q ∷ n ∷ a) p)) n.slot ≡ recordFor n (first_slot a)
+  pub row-after-here : (b a : List Record) (q n : Record) (p : Pool) → Fits (b ++ q ∷ n ∷ a) p → record_at (tables_of (tracked s d x (b ++ q ∷ n ∷ a) p)) n.slot ≡ record_for n (first_slot a)
   unfolding tracked
   row-after-here b a q n p h =
       let y = tracked s d x (b ++ q ∷ n ∷ a) p in
-      row_is y h.long d (withTracker (b ++ q ∷ n ∷ a) x) h.at (spread y.sizes.records y.domains p h.sound) (b ++ q ∷ []) a n (sym (append_assoc b (q ∷ []) (n ∷ a)))
+      row_is y h.long d (with_tracker (b ++ q ∷ n ∷ a) x) h.at (spread y.sizes.records y.domains p h.sound) (b ++ q ∷ []) a n (sym (append_assoc b (q ∷ []) (n ∷ a)))
 
   pub joined-here : (b a : List Record) (q r n : Record) (p : Pool) → Fits (b ++ q ∷ n ∷ a) p → r.slot ≡ q.slot
-      → Agrees (freedRecord (withRecord (tables_of (tracked s d x (b ++ q ∷ n ∷ a) p)) r.slot (recordFor r (first_slot a))) n.slot)
+      → Agrees (freed_record (with_record (tables_of (tracked s d x (b ++ q ∷ n ∷ a) p)) r.slot (record_for r (first_slot a))) n.slot)
       (free n.slot p >>= λ z. ok (0, tracked s d x (b ++ r ∷ a) z))
   unfolding tracked
   joined-here b a q r n p h e =
       let l = b ++ q ∷ n ∷ a in
-      again l p h (free n.slot p) (λ z. 0) (λ z. b ++ r ∷ a) (λ z. z) _ (joined_is (tracked s d x l p) d (withTracker l x) h b a q r n e refl)
+      again l p h (free n.slot p) (λ z. 0) (λ z. b ++ r ∷ a) (λ z. z) _ (joined_is (tracked s d x l p) d (with_tracker l x) h b a q r n e refl)

@@ -8,11 +8,11 @@ use mathlib.Core.List.{List, [], ◌∷◌, ◌++◌, append_assoc}
 use Rattle.std.specs.Int.Bits.{or_zero_r}
 use Rattle.rights.specs.Rights.{union}
 use Rattle.model.specs.Outcome.{Outcome, ok, ◌>>=◌}
-use Rattle.refusals.specs.Refusals.{noTracker}
+use Rattle.refusals.specs.Refusals.{no_tracker}
 use Rattle.model.specs.State.{State, Record, Pool, Domain}
 use Rattle.model.specs.Pool.{allocate}
 use Rattle.model.specs.Layout.{link}
-use Rattle.model.specs.Tracker.{Walk, withEnd}
+use Rattle.model.specs.Tracker.{Walk, with_end}
 use Rattle.laws.specs.Words.SameTrackers.{first_slot}
 use Rattle.laws.specs.Tracker.Pools.{uses-append}
 use Rattle.tables.specs.Tables.{Tables}
@@ -30,7 +30,7 @@ use Rattle.refine.specs.Agrees.{Agrees, agrees-step, agrees-call, bind_assoc}
 use Rattle.refine.specs.Tracker.Linked.{last_of}
 use Rattle.refine.specs.Tracker.RecordSteps.{tracked, from}
 use Rattle.refine.specs.Tracker.WalkSteps.{walked, ahead}
-use Rattle.refine.specs.Tracker.Walking.{walk-going, walk-over, turned, cursor, finish, finish-ahead, Fits, fits_on, fits_in, split-here}
+use Rattle.refine.specs.Tracker.Walking.{walk-going, walk-over, turned, cursor, finish, finish-ahead, Fits, fits_on, fits_in_lem, split-here}
 
 -- the cursor behind record q
 abbrev pub behind : Record → List Record → ℕ → ℕ → Cursor
@@ -89,31 +89,31 @@ module _ {s : State} {d : ℕ} {x : Domain} {a : AccessRights} {w : Way} where
 module _ (s : State) (d : ℕ) (x : Domain) (a : AccessRights) (w : Way) (c n st z : ℕ) (b : List Record) (q : Record) (l : List Record) (p : Pool) (h : Fits s d x (b ++ q ∷ l) p)
     (m : ℕ → Pool → Outcome Walk)
   where
-    halves : (y : ℕ × Pool) → allocate noTracker p ≡ ok y → Fits s d x (b ++ withEnd c q ∷ from c y.0 q ∷ l) y.1
+    halves : (y : ℕ × Pool) → allocate no_tracker p ≡ ok y → Fits s d x (b ++ with_end c q ∷ from c y.0 q ∷ l) y.1
     halves y f =
-        let u = withEnd c q in
+        let u = with_end c q in
         let v = from c y.0 q in
-        fits_in s d x (b ++ q ∷ l) (b ++ u ∷ v ∷ l) p y v h f refl (λ j. omega (arith, uses-append j b (q ∷ l), uses-append j b (u ∷ v ∷ l)))
+        fits_in_lem s d x (b ++ q ∷ l) (b ++ u ∷ v ∷ l) p y v h f refl (λ j. omega (arith, uses-append j b (q ∷ l), uses-append j b (u ∷ v ∷ l)))
 
     abbrev t : Tables
     t = tables_of (tracked s d x (b ++ q ∷ l) p)
 
     abbrev left : ℕ × Pool → ℕ × State
-    left y = (suc y.0, tracked s d x (b ++ withEnd c q ∷ from c y.0 q ∷ l) y.1)
+    left y = (suc y.0, tracked s d x (b ++ with_end c q ∷ from c y.0 q ∷ l) y.1)
 
     -- the left part is done
     pub walks-cut : turn w t d a (cursor b (q ∷ l) st z) ≡ onward (split t q.slot c) (λ k. record { prev = suc q.slot; at = k; start = st; marks = z })
-        → ((i : ℕ) (p₁ : Pool) → Fits s d x ((b ++ withEnd c q ∷ []) ++ from c i q ∷ l) p₁ → Walks s d x a w n st z (b ++ withEnd c q ∷ []) (from c i q ∷ l) p₁ (m i p₁))
-        → Walks s d x a w (suc n) st z b (q ∷ l) p (allocate noTracker p >>= λ y. ahead (withEnd c q ∷ []) 0 (m y.0 y.1))
+        → ((i : ℕ) (p₁ : Pool) → Fits s d x ((b ++ with_end c q ∷ []) ++ from c i q ∷ l) p₁ → Walks s d x a w n st z (b ++ with_end c q ∷ []) (from c i q ∷ l) p₁ (m i p₁))
+        → Walks s d x a w (suc n) st z b (q ∷ l) p (allocate no_tracker p >>= λ y. ahead (with_end c q ∷ []) 0 (m y.0 y.1))
     walks-cut e k =
-        let u = withEnd c q in
-        walks-then _ _ (allocate noTracker p) left (λ y. ahead (u ∷ []) 0 (m y.0 y.1)) e (split-here s d x b l q p h c) (λ y f.
+        let u = with_end c q in
+        walks-then _ _ (allocate no_tracker p) left (λ y. ahead (u ∷ []) 0 (m y.0 y.1)) e (split-here s d x b l q p h c) (λ y f.
         agrees-call _ _ _ (finish-ahead s d x z 0 b (u ∷ []) (m y.0 y.1) ∙ ap (λ (o : ℕ). m y.0 y.1 >>= finish s d x o (b ++ u ∷ [])) (or_zero_r z))
         (behind-last b u (k y.0 y.1 (fits_on s d x b (from c y.0 q ∷ l) u y.1 (halves y f)))))
 
     -- the left part stays at hand
     pub walks-trim : turn w t d a (cursor b (q ∷ l) st z) ≡ onward (split t q.slot c) (λ k. cursor b (q ∷ l) st z)
-        → ((i : ℕ) (p₁ : Pool) → Fits s d x (b ++ withEnd c q ∷ from c i q ∷ l) p₁ → Walks s d x a w n st z b (withEnd c q ∷ from c i q ∷ l) p₁ (m i p₁))
-        → Walks s d x a w (suc n) st z b (q ∷ l) p (allocate noTracker p >>= λ y. m y.0 y.1)
+        → ((i : ℕ) (p₁ : Pool) → Fits s d x (b ++ with_end c q ∷ from c i q ∷ l) p₁ → Walks s d x a w n st z b (with_end c q ∷ from c i q ∷ l) p₁ (m i p₁))
+        → Walks s d x a w (suc n) st z b (q ∷ l) p (allocate no_tracker p >>= λ y. m y.0 y.1)
     unfolding cursor
-    walks-trim e k = walks-then _ _ (allocate noTracker p) left (λ y. m y.0 y.1) e (split-here s d x b l q p h c) (λ y f. (k y.0 y.1 (halves y f)).agrees)
+    walks-trim e k = walks-then _ _ (allocate no_tracker p) left (λ y. m y.0 y.1) e (split-here s d x b l q p h c) (λ y f. (k y.0 y.1 (halves y f)).agrees)

@@ -10,8 +10,8 @@ use Rattle.region_calls.proofs.alias.Tie as tie
 check-alias-requires : tie.Need-check-alias-requires
 check-alias-requires c κs = search rules
 
-same_length : tie.Need-same-length
-same_length c = search rules
+same_length_lem : tie.Need-same-length
+same_length_lem c = search rules
 
 returns : tie.Need-returns
 unfolding aliased
@@ -57,4 +57,4 @@ unfolding aliased
 returns-4 c = rw (← c.before.before.before.before.before.before.before.before.check-alias.ensures, not-false c.before.before.before.before.before.before.before.before.check-alias.result c.before.before.before.before.before.before.before.if1.false) (on-refused _ _ _ _ c.before.before.before.before.before.add-child.ensures _ c.before.r2.given.1)
 
 pub alias-spec : {M : Type 1} → statement M
-alias-spec = tie.close (tie.spec check-alias-requires same_length returns add-child-requires enum-known-n activate-region-requires enum-known-v enum-known-r enum-known-r-2 same-length-2 returns-2 same-length-3 returns-3 same-length-4 returns-4)
+alias-spec = tie.close (tie.spec check-alias-requires same_length_lem returns add-child-requires enum-known-n activate-region-requires enum-known-v enum-known-r enum-known-r-2 same-length-2 returns-2 same-length-3 returns-3 same-length-4 returns-4)

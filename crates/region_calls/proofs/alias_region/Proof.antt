@@ -36,8 +36,8 @@ enum-known-r-2 c = search rules
 enum-known-r-3 : tie.Need-enum-known-r-3
 enum-known-r-3 c = search rules
 
-same_length : tie.Need-same-length
-same_length c = search rules
+same_length_lem : tie.Need-same-length
+same_length_lem c = search rules
 
 returns : tie.Need-returns
 returns c = rw alias-is (on-done _ _ _ _ (ran-caller _ _ c.before.before.before.before.before.before.before.before.before.before.before.before.before.before.before.before.before.before.before.before.before.before.requires _ _ c.before.before.before.before.before.before.before.before.before.before.before.before.before.before.before.before.before.before.before.caller-with.ensures) _ _ _ c.before.before.before.before.before.before.before.before.before.before.before.before.before.before.before.before.before.d.given.1 (on-done _ _ _ _ (ran-held _ _ c.before.before.before.before.before.before.before.before.before.before.before.before.before.before.before.before.before.before.before.before.before.before.requires _ _ c.before.before.before.before.before.before.before.before.before.before.before.before.before.before.region-held.ensures) _ _ _ c.before.before.before.before.before.before.before.before.before.before.before.before.p.given.1 (on-done _ _ _ _ c.before.before.before.before.before.before.before.before.before.room-for-region.ensures _ _ _ c.before.before.before.before.before.u.given.1 c.before.before.alias.ensures)))
@@ -61,4 +61,4 @@ returns-4 : tie.Need-returns-4
 returns-4 c = rw alias-is (on-refused _ _ _ _ (ran-caller _ _ c.before.before.before.before.before.before.requires _ _ c.before.before.before.caller-with.ensures) _ c.before.r3.given.1)
 
 pub alias-region-spec : {M : Type 1} → statement M
-alias-region-spec = tie.close (tie.spec caller-with-requires enum-known-d region-held-requires enum-known-p room-for-region-requires enum-known-u alias-requires enum-known-r enum-known-r-2 enum-known-r-3 same_length returns same-length-2 returns-2 same-length-3 returns-3 same-length-4 returns-4)
+alias-region-spec = tie.close (tie.spec caller-with-requires enum-known-d region-held-requires enum-known-p room-for-region-requires enum-known-u alias-requires enum-known-r enum-known-r-2 enum-known-r-3 same_length_lem returns same-length-2 returns-2 same-length-3 returns-3 same-length-4 returns-4)

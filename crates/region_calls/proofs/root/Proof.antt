@@ -36,8 +36,8 @@ enum-known-r-2 c = search rules
 enum-known-r-3 : tie.Need-enum-known-r-3
 enum-known-r-3 c = search rules
 
-same_length : tie.Need-same-length
-same_length c = search rules
+same_length_lem : tie.Need-same-length
+same_length_lem c = search rules
 
 returns : tie.Need-returns
 unfolding rooted
@@ -65,4 +65,4 @@ unfolding rooted
 returns-4 c = on-refused _ _ _ _ (rw c.before.before.before.before.before.before.capa-for.ensures at c.before.before.before.before.before.new-region.ensures) _ c.before.r3.given.1
 
 pub root-spec : {M : Type 1} → statement M
-root-spec = tie.close (tie.spec capa-for-requires new-region-requires enum-known-i hold-requires enum-known-l activate-region-requires enum-known-v enum-known-r enum-known-r-2 enum-known-r-3 same_length returns same-length-2 returns-2 same-length-3 returns-3 same-length-4 returns-4)
+root-spec = tie.close (tie.spec capa-for-requires new-region-requires enum-known-i hold-requires enum-known-l activate-region-requires enum-known-v enum-known-r enum-known-r-2 enum-known-r-3 same_length_lem returns same-length-2 returns-2 same-length-3 returns-3 same-length-4 returns-4)

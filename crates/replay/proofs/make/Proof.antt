@@ -13,8 +13,8 @@ total-of-requires c κs = limits-true _ (sym c.before.limits-hold.ensures ∙ c.
 make-empty-requires : tie.Need-make-empty-requires
 make-empty-requires c κs = (limits-true _ (sym c.before.before.before.before.limits-hold.ensures ∙ c.before.before.before.if1.true), sym c.before.if2.true ∙ c.before.before.total_of.ensures)
 
-same_length : tie.Need-same-length
-same_length c = search rules
+same_length_lem : tie.Need-same-length
+same_length_lem c = search rules
 
 returns : tie.Need-returns
 returns c = search rules
@@ -32,7 +32,7 @@ make_spec =
     limits-hold-requires
     total-of-requires
     make-empty-requires
-    same_length
+    same_length_lem
     returns
     returns-2
     returns-3)

@@ -15,8 +15,8 @@ loop-holds c = (refl, refl)
 next-requires : tie.Need-next-requires invariant-loop decreases-loop
 next-requires c κs = search rules
 
-same_length : tie.Need-same-length invariant-loop decreases-loop
-same_length c = search rules
+same_length_lem : tie.Need-same-length invariant-loop decreases-loop
+same_length_lem c = search rules
 
 same-length-2 : tie.Need-same-length-2 invariant-loop decreases-loop
 same-length-2 c = search rules
@@ -53,7 +53,7 @@ run-all-spec =
     decreases-loop
     loop-holds
     next-requires
-    same_length
+    same_length_lem
     same-length-2
     returns
     turn-requires

@@ -10,8 +10,8 @@ is-sized-requires c κs = search rules
 run-requires : tie.Need-run-requires
 run-requires c κs = sized-true _ (sym c.before.before.before.is-sized.ensures ∙ c.before.before.if1.true)
 
-same_length : tie.Need-same-length
-same_length c = search rules
+same_length_lem : tie.Need-same-length
+same_length_lem c = search rules
 
 same-length-2 : tie.Need-same-length-2
 same-length-2 c = search rules
@@ -31,7 +31,7 @@ run-sized-spec =
     (tie.spec
     is-sized-requires
     run-requires
-    same_length
+    same_length_lem
     same-length-2
     returns
     same-length-3

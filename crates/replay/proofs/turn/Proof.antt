@@ -27,8 +27,8 @@ slice-aggregate-line-2 c = sym (length-take-le _ _ c.before.before.if2.false)
 line-requires : tie.Need-line-requires
 line-requires c κs = search rules
 
-same_length : tie.Need-same-length
-same_length c = search rules
+same_length_lem : tie.Need-same-length
+same_length_lem c = search rules
 
 same-length-2 : tie.Need-same-length-2
 same-length-2 c = search rules
@@ -48,6 +48,6 @@ turn_spec =
     slice-relend-prefix-line-2
     slice-aggregate-line-2
     line-requires
-    same_length
+    same_length_lem
     same-length-2
     returns-3)

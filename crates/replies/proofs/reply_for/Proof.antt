@@ -1,6 +1,6 @@
 -- By the answer's case.
 use mathlib.Core.Path.{sym, ap, ◌∙◌}
-use Rattle.replies.specs.ReplyFor.{replyFor}
+use Rattle.replies.specs.ReplyFor.{reply_for}
 use borrow.Author.Rules.{rules}
 use Rattle.replies.proofs.reply_for.Statement.{statement}
 use Rattle.replies.proofs.reply_for.Tie as tie
@@ -15,10 +15,10 @@ refused-requires : tie.Need-refused-requires
 refused-requires c κs = search rules
 
 returns : tie.Need-returns
-returns c = ap replyFor (sym c.before.a.given.1)
+returns c = ap reply_for (sym c.before.a.given.1)
 
 returns-2 : tie.Need-returns-2
-returns-2 c = c.refused.ensures ∙ ap replyFor (sym c.before.before.a2.given.1)
+returns-2 c = c.refused.ensures ∙ ap reply_for (sym c.before.before.a2.given.1)
 
 pub reply-for-spec : {M : Type 1} → statement M
 reply-for-spec =

@@ -8,7 +8,7 @@ use borrow.Fn.PlainCycle.{Measures, is, falls, and}
 use lib.ListN.{length}
 use Rattle.tables.specs.View.{view, Sized}
 use Rattle.answers.specs.Then.{same_step}
-use Rattle.revocation.specs.Revoke.{revokeRegion}
+use Rattle.revocation.specs.Revoke.{revoke_region}
 use Rattle.revocation.specs.Walks.{revoke-out, revoke-here, revoke-on, revoke-refused}
 use Rattle.revocation.proofs.revoke_region.Reads as revoke-region
 use Rattle.revocation.proofs.revoke_region.Kinds as revoke-region-kinds
@@ -35,7 +35,7 @@ revoke-region-below t =
     revoke-region.Pre
 
 abbrev revoke-region-Inv-loop : revoke-region-lts.invariant-loop
-revoke-region-Inv-loop t₀ i left closing n₀ t n = (n ≤ left) × (length t ≡ length t₀) × Sized t × (revokeRegion closing n i (view t) ≡ revokeRegion closing left i (view t₀))
+revoke-region-Inv-loop t₀ i left closing n₀ t n = (n ≤ left) × (length t ≡ length t₀) × Sized t × (revoke_region closing n i (view t) ≡ revoke_region closing left i (view t₀))
 
 abbrev revoke-region-μ-loop : revoke-region-lts.decreases-loop
 revoke-region-μ-loop t₀ i left closing n₀ t n = n

@@ -10,8 +10,8 @@ use Rattle.revoke_calls.proofs.add_revoker.Tie as tie
 load-region-requires : tie.Need-load-region-requires
 load-region-requires c κs = search rules
 
-same_length : tie.Need-same-length
-same_length c = search rules
+same_length_lem : tie.Need-same-length
+same_length_lem c = search rules
 
 returns : tie.Need-returns
 unfolding revoker
@@ -47,4 +47,4 @@ unfolding revoker
 returns-3 c = rw (← c.before.before.before.before.before.before.before.before.before.load-region.ensures, ne_eqb _ _ c.before.before.before.before.before.before.before.if1.false) (on-refused _ _ _ _ c.before.before.before.before.before.reserve.ensures _ c.before.r.given.1)
 
 pub add-revoker-spec : {M : Type 1} → statement M
-add-revoker-spec = tie.close (tie.spec load-region-requires same_length returns reserve-requires enum-known-v region-generation-requires insert-requires enum-known-r same-length-2 returns-2 same-length-3 returns-3)
+add-revoker-spec = tie.close (tie.spec load-region-requires same_length_lem returns reserve-requires enum-known-v region-generation-requires insert-requires enum-known-r same-length-2 returns-2 same-length-3 returns-3)

@@ -27,8 +27,8 @@ enum-known-r c = search rules
 enum-known-r-2 : tie.Need-enum-known-r-2
 enum-known-r-2 c = search rules
 
-same_length : tie.Need-same-length
-same_length c = search rules
+same_length_lem : tie.Need-same-length
+same_length_lem c = search rules
 
 returns : tie.Need-returns
 returns c = rw revoker-is (on-done _ _ _ _ (ran-domain _ _ c.before.before.before.before.before.before.before.before.before.before.before.before.before.before.before.requires _ c.before.before.before.before.before.before.before.before.before.before.before.before.live-domain.ensures) _ _ _ c.before.before.before.before.before.before.before.before.before.before.d.given.1 (on-done _ _ _ _ (ran-held _ _ c.before.before.before.before.before.before.before.before.before.before.before.before.before.before.before.requires _ _ c.before.before.before.before.before.before.before.region-held.ensures) _ _ _ c.before.before.before.before.before.i.given.1 c.before.before.add-revoker.ensures))
@@ -46,4 +46,4 @@ returns-3 : tie.Need-returns-3
 returns-3 c = rw revoker-is (on-refused _ _ _ _ (ran-domain _ _ c.before.before.before.before.before.before.requires _ c.before.before.before.live-domain.ensures) _ c.before.r2.given.1)
 
 pub create-revoke-capa-spec : {M : Type 1} → statement M
-create-revoke-capa-spec = tie.close (tie.spec live-domain-requires enum-known-d region-held-requires enum-known-i add-revoker-requires enum-known-r enum-known-r-2 same_length returns same-length-2 returns-2 same-length-3 returns-3)
+create-revoke-capa-spec = tie.close (tie.spec live-domain-requires enum-known-d region-held-requires enum-known-i add-revoker-requires enum-known-r enum-known-r-2 same_length_lem returns same-length-2 returns-2 same-length-3 returns-3)

@@ -1,6 +1,6 @@
 -- With room the write place lies in the array.
 use mathlib.Core.Path.{sym, ◌∙◌}
-use Rattle.ring.specs.Ring.{inside, pushOf}
+use Rattle.ring.specs.Ring.{inside, push_of}
 use borrow.Author.Rules.{rules}
 use Rattle.ring.proofs.pushed.Statement.{statement}
 use Rattle.ring.proofs.pushed.Tie as tie
@@ -18,11 +18,11 @@ element-set-from-e : tie.Need-element-set-from-e
 element-set-from-e c = inside c.before.before.before.after.result c.before.before.before.before.args.ring.read c.before.before.before.before.args.ring.write _ c.before.both.ensures c.if1.true
 
 returns : tie.Need-returns
-unfolding pushOf
+unfolding push_of
 returns c = simp (← c.before.before.before.after.ensures, sym c.before.both.ensures ∙ c.if1.true)
 
 returns-2 : tie.Need-returns-2
-unfolding pushOf
+unfolding push_of
 returns-2 c = simp (← c.before.before.before.after.ensures, sym c.before.both.ensures ∙ c.if1.false)
 
 pub pushed-spec : {M : Type 1} → statement M

@@ -10,11 +10,11 @@ mark-at-requires c κs = search rules
 put-requires : tie.Need-put-requires
 put-requires c κs = search rules
 
-same_length : tie.Need-same-length
-same_length c = search rules
+same_length_lem : tie.Need-same-length
+same_length_lem c = search rules
 
 returns : tie.Need-returns
 returns c = mark-stored _ c.before.before.before.before.before.before.before.requires _ _ _ _ c.before.before.before.before.mark-at.ensures c.before.before.put.ensures
 
 pub store-mark-spec : {M : Type 1} → statement M
-store-mark-spec = tie.close (tie.spec mark-at-requires put-requires same_length returns)
+store-mark-spec = tie.close (tie.spec mark-at-requires put-requires same_length_lem returns)

@@ -13,8 +13,8 @@ slice-aggregate-store c = search rules
 store-requires : tie.Need-store-requires
 store-requires c κs = search rules
 
-same_length : tie.Need-same-length
-same_length c = search rules
+same_length_lem : tie.Need-same-length
+same_length_lem c = search rules
 
 returns : tie.Need-returns
 returns c = update-stored _ c.before.before.before.before.before.before.before.before.requires _ _ _ _ c.before.before.before.before.before.update-at.ensures c.before.before.store.ensures
@@ -22,4 +22,4 @@ returns c = update-stored _ c.before.before.before.before.before.before.before.b
 pub store-update-spec : {M : Type 1} → statement M
 store-update-spec =
     tie.close
-    (tie.spec update-at-requires slice-aggregate-store store-requires same_length returns)
+    (tie.spec update-at-requires slice-aggregate-store store-requires same_length_lem returns)

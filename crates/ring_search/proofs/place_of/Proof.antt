@@ -5,13 +5,13 @@ use native.Mathlib.Omega.{arith}
 use borrow.Author.Rules.{rules}
 use borrow.Author.Tests.{eq-eqb, ne_eqb, lt-ltb, le-ltb}
 use Rattle.ring.specs.Ring.{cap}
-use Rattle.ring_search.specs.Queueing.{place_of, placeFrom, place-step, place_none}
+use Rattle.ring_search.specs.Queueing.{place_of, place_from, place-step, place_none}
 use Rattle.ring_search.proofs.place_of.Statement.{statement}
 use Rattle.ring_search.proofs.place_of.Tie as tie
 
 abbrev invariant-loop : tie.invariant-loop
 invariant-loop slot generation ring write size i₀ n₀ i n =
-    (write ≡ ring.write) × (size ≡ ring.size) × (place_of ring slot generation ≡ placeFrom ring slot generation (cap - n) i)
+    (write ≡ ring.write) × (size ≡ ring.size) × (place_of ring slot generation ≡ place_from ring slot generation (cap - n) i)
 
 abbrev decreases-loop : tie.decreases-loop
 decreases-loop slot generation ring write size i₀ n₀ i n = cap - n

@@ -1,7 +1,7 @@
 -- The search first. Where a place other than the write place is found it lies in the array, and marks are gathered there; else the domain is pushed.
 use mathlib.Core.Path.{sym, ◌∙◌}
 use Rattle.ring.specs.Ring.{inside}
-use Rattle.ring_search.specs.Queueing.{queueOf}
+use Rattle.ring_search.specs.Queueing.{queue_of}
 use borrow.Author.Rules.{rules}
 use Rattle.ring_search.proofs.queued.Statement.{statement}
 use Rattle.ring_search.proofs.queued.Tie as tie
@@ -25,7 +25,7 @@ element-set-from-joined : tie.Need-element-set-from-joined
 element-set-from-joined c = inside c.before.before.before.before.before.place_of.result c.before.before.before.before.before.before.args.ring.write c.before.before.before.before.before.place_of.result _ c.before.before.before.both.ensures c.before.before.if1.true
 
 returns : tie.Need-returns
-unfolding queueOf
+unfolding queue_of
 returns c = simp (← c.before.before.before.before.before.place_of.ensures, sym c.before.before.before.both.ensures ∙ c.before.before.if1.true)
 
 permission-requires : tie.Need-permission-requires
@@ -35,7 +35,7 @@ pushed-requires : tie.Need-pushed-requires
 pushed-requires c κs = search rules
 
 returns-2 : tie.Need-returns-2
-unfolding queueOf
+unfolding queue_of
 returns-2 c = simp (← c.before.before.before.before.before.place_of.ensures, sym c.before.before.before.both.ensures ∙ c.before.before.if1.false, ← c.before.permission.ensures, c.pushed.ensures)
 
 pub queued-spec : {M : Type 1} → statement M

@@ -4,15 +4,15 @@ use mathlib.Core.Path.{◌≡◌}
 use native.Mathlib.Omega.{arith}
 use lib.ListN.{length, drop, replicate, length-replicate}
 use Rattle.output.specs.Printing.{prints-next, Rest}
-use Rattle.script_text.specs.ScriptText.{domainText}
-use Rattle.script_text.specs.Domains.{linesIn, lines-begun, line-printed, lines-printed, found-printed}
+use Rattle.script_text.specs.ScriptText.{domain_text}
+use Rattle.script_text.specs.Domains.{lines_in, lines-begun, line-printed, lines-printed, found-printed}
 use Rattle.script.specs.Bounds.{lines-few}
 use borrow.Author.Rules.{rules}
 use Rattle.script.proofs.list_domain.Statement.{statement}
 use Rattle.script.proofs.list_domain.Tie as tie
 
 abbrev invariant-loop : tie.invariant-loop
-invariant-loop text₀ t d run lines q₀ i₀ text q i = (q.n ≤ length text₀) × (length text ≡ length text₀) × (i ≤ lines) × (5 * lines ≤ length run → Rest text₀ q₀ (domainText (linesIn lines run)) text q (domainText (linesIn (lines - i) (drop (5 * i) run))))
+invariant-loop text₀ t d run lines q₀ i₀ text q i = (q.n ≤ length text₀) × (length text ≡ length text₀) × (i ≤ lines) × (5 * lines ≤ length run → Rest text₀ q₀ (domain_text (lines_in lines run)) text q (domain_text (lines_in (lines - i) (drop (5 * i) run))))
 
 abbrev decreases-loop : tie.decreases-loop
 decreases-loop text₀ t d run lines q₀ i₀ text q i = lines - i
@@ -47,8 +47,8 @@ loop-less c = search rules
 loop-again : tie.Need-loop-preserved invariant-loop decreases-loop
 loop-again c = (search rules, search rules, search rules, λ f. line-printed _ _ f (c.before.before.before.before.before.before.before.before.loop.invariant.3 f) c.before.before.before.before.before.before.before.loop-test.true (prints-next _ _ _ c.before.before.before.before.before.room.ensures.1.0 c.before.before.before.before.before.room.ensures.1.1.0 c.before.before.before.before.before.room.ensures.1.1.1 c.before.before.domain-line.ensures.0 (search rules)))
 
-same_length : tie.Need-same-length invariant-loop decreases-loop
-same_length c = search rules
+same_length_lem : tie.Need-same-length invariant-loop decreases-loop
+same_length_lem c = search rules
 
 returns : tie.Need-returns invariant-loop decreases-loop
 returns c = (search rules, λ s g. found-printed _ s g _ (replicate 640 0) (length-replicate {A = ℕ} 640 0) c.before.before.before.fill-lines.ensures.1 (search rules) c.before.before.before.fill-lines.ensures.0 (λ f. lines-printed _ _ f (c.before.loop.invariant.3 f) c.loop-test.false))
@@ -69,5 +69,5 @@ list-domain-spec =
     add-i
     loop-less
     loop-again
-    same_length
+    same_length_lem
     returns)

@@ -3,7 +3,7 @@ use Prim.Native.Nat.{◌-◌, ◌≤◌}
 use mathlib.Core.Path.{◌≡◌}
 use lib.ListN.{length}
 use Rattle.model.specs.State.{State}
-use Rattle.model.specs.Making.{scriptSizes}
+use Rattle.model.specs.Making.{script_sizes}
 use Rattle.model.specs.Memory.{Lent}
 use Rattle.output.specs.Printing.{prints-next}
 use Rattle.script_text.specs.Queue.{Left, left-all, left-none, left_one, left_end}
@@ -14,7 +14,7 @@ use Rattle.script.proofs.list_queue.Statement.{statement}
 use Rattle.script.proofs.list_queue.Tie as tie
 
 abbrev invariant-loop : tie.invariant-loop
-invariant-loop text₀ t₀ w₀ q₀ left₀ text t w q left = (q.n ≤ length text₀) × (length text ≡ length text₀) × (length t ≡ length t₀) × (length w ≡ length w₀) × ScriptTables t × ((s : State) → Lent t₀ w₀ s → s.sizes ≡ scriptSizes → Left s.queue.items text₀ q₀ t w text q left)
+invariant-loop text₀ t₀ w₀ q₀ left₀ text t w q left = (q.n ≤ length text₀) × (length text ≡ length text₀) × (length t ≡ length t₀) × (length w ≡ length w₀) × ScriptTables t × ((s : State) → Lent t₀ w₀ s → s.sizes ≡ script_sizes → Left s.queue.items text₀ q₀ t w text q left)
 
 abbrev decreases-loop : tie.decreases-loop
 decreases-loop text₀ t₀ w₀ q₀ left₀ text t w q left = left
@@ -25,8 +25,8 @@ loop-holds c = (search rules, search rules, search rules, search rules, c.before
 pop-requires : tie.Need-pop-requires invariant-loop decreases-loop
 pop-requires c κs = search rules
 
-same_length : tie.Need-same-length invariant-loop decreases-loop
-same_length c = search rules
+same_length_lem : tie.Need-same-length invariant-loop decreases-loop
+same_length_lem c = search rules
 
 same-length-2 : tie.Need-same-length-2 invariant-loop decreases-loop
 same-length-2 c = search rules
@@ -72,7 +72,7 @@ list-queue-spec =
     decreases-loop
     loop-holds
     pop-requires
-    same_length
+    same_length_lem
     same-length-2
     same-length-3
     returns

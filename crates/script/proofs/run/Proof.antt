@@ -19,8 +19,8 @@ list-domains-requires c κs = (search rules, (search rules, reached_then (made-r
 list-queue-requires : tie.Need-list-queue-requires
 list-queue-requires c κs = (omega (arith, c.before.before.before.before.before.list-domains.ensures.0, c.before.before.before.before.before.list-domains.auto.0), (omega (arith, c.before.before.before.before.before.list-domains.auto.0, c.before.before.before.before.before.before.before.before.before.before.before.before.before.before.before.before.run-records.auto.1.0, c.before.before.before.before.before.before.before.before.before.before.before.before.before.before.before.before.before.before.before.before.before.before.before.before.before.before.before.before.before.before.before.before.requires.0), reached_then (made-reached tt c.before.before.before.before.before.before.before.before.before.before.before.before.before.before.before.before.before.before.before.before.before.before.before.before.before.before.before.before.before.before.before.before.requires.1.tables c.before.before.before.before.before.before.before.before.before.before.before.before.before.before.before.before.before.before.before.before.before.before.before.before.before.before.before.before.before.before.before.before.requires.1.work c.before.before.before.before.before.before.before.before.before.before.before.before.before.before.before.before.before.before.before.before.before.before.before.before.before.make-tables.ensures) c.before.before.before.before.before.before.before.before.before.before.before.before.before.before.before.before.run-records.ensures.1.0))
 
-same_length : tie.Need-same-length
-same_length c = search rules
+same_length_lem : tie.Need-same-length
+same_length_lem c = search rules
 
 same-length-2 : tie.Need-same-length-2
 same-length-2 c = search rules
@@ -42,7 +42,7 @@ run_spec =
     run-records-requires
     list-domains-requires
     list-queue-requires
-    same_length
+    same_length_lem
     same-length-2
     same-length-3
     same-length-4

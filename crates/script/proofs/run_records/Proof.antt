@@ -53,8 +53,8 @@ loop-less c = search rules
 loop-again : tie.Need-loop-preserved invariant-loop decreases-loop
 loop-again c = (search rules, search rules, search rules, search rules, search rules, search rules, leads-then c.before.before.before.before.before.before.before.before.before.before.before.before.before.before.before.before.before.before.before.before.before.before.before.before.loop.invariant.6 c.before.before.before.before.before.before.before.before.before.turn.ensures.1.0, λ s g. at_more (at_ready (c.before.before.before.before.before.before.before.before.before.before.before.before.before.before.before.before.before.before.before.before.before.before.before.before.loop.invariant.7 s g) c.before.before.before.before.before.before.before.before.before.before.before.before.before.before.before.before.before.before.before.before.before.before.before.before.loop.invariant.0 c.before.before.before.before.before.before.before.before.before.before.before.before.before.before.before.before.before.before.before.before.before.before.before.before.loop.invariant.2 c.before.before.before.before.before.before.before.before.before.before.before.before.before.before.before.before.before.before.before.before.before.ready.ensures.0 (search rules) c.before.before.before.before.before.before.before.before.before.before.before.before.before.before.before.before.before.before.before.before.before.ready.ensures.1.0 (prints-room _ _ _ c.before.before.before.before.before.before.before.before.before.before.before.before.before.before.before.before.before.room.ensures.1.0 c.before.before.before.before.before.before.before.before.before.before.before.before.before.before.before.before.before.room.ensures.1.1.0 c.before.before.before.before.before.before.before.before.before.before.before.before.before.before.before.before.before.room.ensures.1.1.1)) c.before.before.before.before.before.before.before.before.before.turn.ensures.1.1 c.before.if3.false (search rules) (search rules))
 
-same_length : tie.Need-same-length invariant-loop decreases-loop
-same_length c = search rules
+same_length_lem : tie.Need-same-length invariant-loop decreases-loop
+same_length_lem c = search rules
 
 same-length-2 : tie.Need-same-length-2 invariant-loop decreases-loop
 same-length-2 c = search rules
@@ -115,7 +115,7 @@ run-records-spec =
     add-k
     loop-less
     loop-again
-    same_length
+    same_length_lem
     same-length-2
     same-length-3
     same-length-4

@@ -27,8 +27,8 @@ enum-known-x c = search rules
 call-line-requires : tie.Need-call-line-requires
 call-line-requires c κs = search rules
 
-same_length : tie.Need-same-length
-same_length c = search rules
+same_length_lem : tie.Need-same-length
+same_length_lem c = search rules
 
 same-length-2 : tie.Need-same-length-2
 same-length-2 c = search rules
@@ -74,7 +74,7 @@ turn_spec =
     bad-requires-2
     enum-known-x
     call-line-requires
-    same_length
+    same_length_lem
     same-length-2
     same-length-3
     returns

@@ -23,8 +23,8 @@ insert-requires c κs = search rules
 enum-known-r : tie.Need-enum-known-r
 enum-known-r c = search rules
 
-same_length : tie.Need-same-length
-same_length c = search rules
+same_length_lem : tie.Need-same-length
+same_length_lem c = search rules
 
 returns : tie.Need-returns
 unfolding passed
@@ -38,4 +38,4 @@ unfolding passed
 returns-2 c = rw (← c.before.before.before.before.before.before.before.capa-at.ensures) (on-refused _ _ _ _ c.before.before.before.before.before.send-capa.ensures _ c.before.r.given.1)
 
 pub pass_spec : {M : Type 1} → statement M
-pass_spec = tie.close (tie.spec capa-at-requires send-capa-requires enum-known-v remove-capa-requires insert-requires enum-known-r same_length returns same-length-2 returns-2)
+pass_spec = tie.close (tie.spec capa-at-requires send-capa-requires enum-known-v remove-capa-requires insert-requires enum-known-r same_length_lem returns same-length-2 returns-2)

@@ -2,7 +2,7 @@
 use mathlib.Core.Path.{refl}
 use Rattle.answers.specs.Then.{stays, on-done, on-refused}
 use Rattle.checks.specs.Reads.{ran-region}
-use Rattle.send_calls.specs.Calls.{sendHeld}
+use Rattle.send_calls.specs.Calls.{send_held}
 use borrow.Author.Rules.{rules}
 use Rattle.send_calls.proofs.send_held.Statement.{statement}
 use Rattle.send_calls.proofs.send_held.Tie as tie
@@ -37,33 +37,33 @@ enum-known-r-2 c = search rules
 enum-known-r-3 : tie.Need-enum-known-r-3
 enum-known-r-3 c = search rules
 
-same_length : tie.Need-same-length
-same_length c = search rules
+same_length_lem : tie.Need-same-length
+same_length_lem c = search rules
 
 returns : tie.Need-returns
-unfolding sendHeld
+unfolding send_held
 returns c = on-done _ _ _ _ (ran-region _ _ c.before.before.before.before.before.before.before.before.before.before.before.before.before.before.before.before.before.before.before.before.before.requires _ c.before.before.before.before.before.before.before.before.before.before.before.before.before.before.before.before.before.before.live-region.ensures) _ _ _ c.before.before.before.before.before.before.before.before.before.before.before.before.before.before.before.before.i.given.1 (on-done _ _ _ _ (c.before.before.before.before.before.before.before.before.before.before.before.before.before.before.check-options.ensures, stays _ c.before.before.before.before.before.before.before.before.before.before.before.before.before.before.before.before.before.before.before.before.before.requires) _ _ _ c.before.before.before.before.before.before.before.before.before.before.before.before.u.given.1 (on-done _ _ _ _ c.before.before.before.before.before.before.before.before.before.send-region.ensures _ _ _ c.before.before.before.before.before.v.given.1 (refl, c.before.before.apply-options.ensures)))
 
 same-length-2 : tie.Need-same-length-2
 same-length-2 c = search rules
 
 returns-2 : tie.Need-returns-2
-unfolding sendHeld
+unfolding send_held
 returns-2 c = on-done _ _ _ _ (ran-region _ _ c.before.before.before.before.before.before.before.before.before.before.before.before.before.before.before.before.before.requires _ c.before.before.before.before.before.before.before.before.before.before.before.before.before.before.live-region.ensures) _ _ _ c.before.before.before.before.before.before.before.before.before.before.before.before.i.given.1 (on-done _ _ _ _ (c.before.before.before.before.before.before.before.before.before.before.check-options.ensures, stays _ c.before.before.before.before.before.before.before.before.before.before.before.before.before.before.before.before.before.requires) _ _ _ c.before.before.before.before.before.before.before.before.u.given.1 (on-refused _ _ _ _ c.before.before.before.before.before.send-region.ensures _ c.before.r.given.1))
 
 same-length-3 : tie.Need-same-length-3
 same-length-3 c = search rules
 
 returns-3 : tie.Need-returns-3
-unfolding sendHeld
+unfolding send_held
 returns-3 c = on-done _ _ _ _ (ran-region _ _ c.before.before.before.before.before.before.before.before.before.before.requires _ c.before.before.before.before.before.before.before.live-region.ensures) _ _ _ c.before.before.before.before.before.i.given.1 (on-refused _ _ _ _ (c.before.before.before.check-options.ensures, stays _ c.before.before.before.before.before.before.before.before.before.before.requires) _ c.before.r2.given.1)
 
 same-length-4 : tie.Need-same-length-4
 same-length-4 c = search rules
 
 returns-4 : tie.Need-returns-4
-unfolding sendHeld
+unfolding send_held
 returns-4 c = on-refused _ _ _ _ (ran-region _ _ c.before.before.before.before.before.before.requires _ c.before.before.before.live-region.ensures) _ c.before.r3.given.1
 
 pub send-held-spec : {M : Type 1} → statement M
-send-held-spec = tie.close (tie.spec live-region-requires enum-known-i check-options-requires enum-known-u send-region-requires enum-known-v apply-options-requires enum-known-r enum-known-r-2 enum-known-r-3 same_length returns same-length-2 returns-2 same-length-3 returns-3 same-length-4 returns-4)
+send-held-spec = tie.close (tie.spec live-region-requires enum-known-i check-options-requires enum-known-u send-region-requires enum-known-v apply-options-requires enum-known-r enum-known-r-2 enum-known-r-3 same_length_lem returns same-length-2 returns-2 same-length-3 returns-3 same-length-4 returns-4)

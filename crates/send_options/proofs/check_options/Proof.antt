@@ -1,5 +1,5 @@
 -- By the options.
-use Rattle.send_options.specs.Options.{optionsAnswer}
+use Rattle.send_options.specs.Options.{options_answer}
 use borrow.Author.Rules.{rules}
 use Rattle.send_options.proofs.check_options.Statement.{statement}
 use Rattle.send_options.proofs.check_options.Tie as tie
@@ -20,15 +20,15 @@ check-flags-requires-2 : tie.Need-check-flags-requires-2
 check-flags-requires-2 c κs = search rules
 
 returns : tie.Need-returns
-unfolding optionsAnswer
+unfolding options_answer
 returns c = rw c.enum_told.given.1
 
 returns-2 : tie.Need-returns-2
-unfolding optionsAnswer
+unfolding options_answer
 returns-2 c = rw c.before.before.o.given.1 c.check-flags.ensures
 
 returns-3 : tie.Need-returns-3
-unfolding optionsAnswer
+unfolding options_answer
 returns-3 c = rw c.before.before.o2.given.1 c.check-flags2.ensures
 
 pub check-options-spec : {M : Type 1} → statement M

@@ -1,5 +1,5 @@
 -- Each test is what its definition says.
-use Rattle.sizes.specs.Limits.{limitsB}
+use Rattle.sizes.specs.Limits.{limits_b}
 use borrow.Author.Rules.{rules}
 use Rattle.sizes.proofs.limits_hold.Statement.{statement}
 use Rattle.sizes.proofs.limits_hold.Tie as tie
@@ -32,7 +32,7 @@ both-requires-4 : tie.Need-both-requires-4
 both-requires-4 c κs = search rules
 
 returns : tie.Need-returns
-unfolding limitsB
+unfolding limits_b
 returns c = cc
 
 pub limits-hold-spec : {M : Type 1} → statement M

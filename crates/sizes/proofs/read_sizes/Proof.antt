@@ -1,5 +1,5 @@
 -- Each field is the word that was read.
-use Rattle.sizes.specs.Sizes.{sizesOf}
+use Rattle.sizes.specs.Sizes.{sizes_of}
 use borrow.Author.Rules.{rules}
 use Rattle.sizes.proofs.read_sizes.Statement.{statement}
 use Rattle.sizes.proofs.read_sizes.Tie as tie
@@ -20,7 +20,7 @@ size-requires-5 : tie.Need-size-requires-5
 size-requires-5 c κs = search rules
 
 returns : tie.Need-returns
-unfolding sizesOf
+unfolding sizes_of
 returns c = cc
 
 pub read-sizes-spec : {M : Type 1} → statement M

@@ -1,5 +1,5 @@
 -- By the slot's kind.
-use Rattle.slot_list.specs.Lists.{takeSlot}
+use Rattle.slot_list.specs.Lists.{take_slot}
 use borrow.Author.Rules.{rules}
 use Rattle.slot_list.proofs.take.Statement.{statement}
 use Rattle.slot_list.proofs.take.Tie as tie
@@ -11,7 +11,7 @@ is-free-requires : tie.Need-is-free-requires
 is-free-requires c κs = search rules
 
 returns : tie.Need-returns
-unfolding takeSlot
+unfolding take_slot
 returns c = rw (← c.before.before.slot-of.ensures, ← c.before.is_free.ensures, c.if1.true)
 
 free-slot-requires : tie.Need-free-slot-requires
@@ -24,7 +24,7 @@ less-one-requires : tie.Need-less-one-requires
 less-one-requires c κs = search rules
 
 returns-2 : tie.Need-returns-2
-unfolding takeSlot
+unfolding take_slot
 returns-2 c = rw (← c.before.before.before.before.before.slot-of.ensures, ← c.before.before.before.before.is_free.ensures, c.before.before.before.if1.false, c.less_one.ensures, c.before.put.ensures, c.before.before.free-slot.ensures)
 
 pub take_spec : {M : Type 1} → statement M

@@ -1,8 +1,8 @@
 -- The slots from i on are left to sweep.
-use Rattle.sizes.specs.Limits.{mostSlots}
+use Rattle.sizes.specs.Limits.{most_slots}
 use Prim.Native.Nat.{◌-◌, ◌≤◌}
 use Rattle.slot_list.specs.Arrays.{length-mapped}
-use Rattle.slot_sweep.specs.Sweep.{isInvalidB, sweepSlot, sweepFrom, sweep}
+use Rattle.slot_sweep.specs.Sweep.{is_invalid_b, sweep_slot, sweep_from, sweep}
 use Rattle.slot_sweep.specs.Steps.{sweep-turn, sweep-end, sweep-freed, sweep-left}
 use Rattle.slot_list.specs.declared.SlotList.{SlotList}
 use Rattle.tables.specs.View.{view}
@@ -15,10 +15,10 @@ use Rattle.slot_sweep.proofs.free_invalid_capas.Statement.{statement}
 use Rattle.slot_sweep.proofs.free_invalid_capas.Tie as tie
 
 abbrev invariant-loop : tie.invariant-loop
-invariant-loop t size slots₀ head₀ count₀ i₀ slots head count i = (i ≤ mostSlots) × (sweepFrom (isInvalidB (view t)) (mostSlots - i) i (record { slots = slots; head = head; count = count; size = size }) ≡ sweepFrom (isInvalidB (view t)) mostSlots 0 (record { slots = slots₀; head = head₀; count = count₀; size = size }))
+invariant-loop t size slots₀ head₀ count₀ i₀ slots head count i = (i ≤ most_slots) × (sweep_from (is_invalid_b (view t)) (most_slots - i) i (record { slots = slots; head = head; count = count; size = size }) ≡ sweep_from (is_invalid_b (view t)) most_slots 0 (record { slots = slots₀; head = head₀; count = count₀; size = size }))
 
 abbrev decreases-loop : tie.decreases-loop
-decreases-loop t size slots₀ head₀ count₀ i₀ slots head count i = mostSlots - i
+decreases-loop t size slots₀ head₀ count₀ i₀ slots head count i = most_slots - i
 
 loop-holds : tie.Need-loop-init invariant-loop decreases-loop
 loop-holds c = (omega arith, refl)
@@ -57,10 +57,10 @@ loop-again : tie.Need-loop-preserved invariant-loop decreases-loop
 loop-again c =
     let a = c.before.before.before.before.before.before.before.before.args in
     let k = c.before.before.before.before.before.loop in
-    let bad = isInvalidB (view a.t.now) in
+    let bad = is_invalid_b (view a.t.now) in
     let l : SlotList = record { slots = k.slots; head = k.head; count = k.count; size = a.list.size } in
     let m : SlotList = record { slots = c.if1.slots; head = c.if1.head; count = c.if1.count; size = a.list.size } in
-    let e : m ≡ sweepSlot bad l k.i =
+    let e : m ≡ sweep_slot bad l k.i =
     ⊎_elim
     (λ w. rw (w.3, w.4, w.5, w.1.ensures, w.2.ensures) (sweep-freed bad l k.i _ _ _ refl c.before.before.is-invalid.ensures c.before.both.ensures w.0.taken))
     (λ w. rw (w.1, w.2, w.3) (sweep-left bad l k.i _ _ _ refl c.before.before.is-invalid.ensures c.before.both.ensures w.0.left))
@@ -69,7 +69,7 @@ loop-again c =
 
 returns : tie.Need-returns invariant-loop decreases-loop
 unfolding sweep
-returns c = let n : length c.before.before.before.before.args.list.slots ≡ mostSlots = search length-mapped in sym (sweep-end _ _ c.before.loop.i c.loop-test.false) ∙ c.before.loop.invariant.1 ∙ rw n
+returns c = let n : length c.before.before.before.before.args.list.slots ≡ most_slots = search length-mapped in sym (sweep-end _ _ c.before.loop.i c.loop-test.false) ∙ c.before.loop.invariant.1 ∙ rw n
 
 pub free-invalid-capas-spec : {M : Type 1} → statement M
 free-invalid-capas-spec =

@@ -2,7 +2,7 @@
 use mathlib.Core.Path.{refl, sym, ◌∙◌}
 use borrow.Author.Tests.{not-false}
 use Rattle.tables.specs.Tests.{sized-true}
-use Rattle.sound.specs.Test.{isSound}
+use Rattle.sound.specs.Test.{is_sound}
 use Rattle.sound_outside.specs.Turns.{goes_on, ends, area_same}
 use borrow.Author.Rules.{rules}
 use Rattle.sound.proofs.is_sound.Statement.{statement}
@@ -12,17 +12,17 @@ is-sized-requires : tie.Need-is-sized-requires
 is-sized-requires c κs = search rules
 
 returns : tie.Need-returns
-unfolding isSound
+unfolding is_sound
 returns c = (ends _ _ _ _ c.before.is-sized.ensures refl c.if1.true, refl)
 
 outside-holds-requires : tie.Need-outside-holds-requires
 outside-holds-requires c κs = (sized-true _ (sym c.before.before.is-sized.ensures ∙ not-false _ c.before.if1.false), c.before.before.before.before.before.requires)
 
-same_length : tie.Need-same-length
-same_length c = search rules
+same_length_lem : tie.Need-same-length
+same_length_lem c = search rules
 
 returns-2 : tie.Need-returns-2
-unfolding isSound
+unfolding is_sound
 returns-2 c = (ends _ _ _ _ c.before.before.before.outside-holds.ensures.0 (goes_on _ _ _ _ c.before.before.before.before.before.before.is-sized.ensures refl c.before.before.before.before.before.if1.false) c.if2.true, c.before.before.before.outside-holds.ensures.1)
 
 queue-holds-requires : tie.Need-queue-holds-requires
@@ -32,7 +32,7 @@ same-length-2 : tie.Need-same-length-2
 same-length-2 c = search rules
 
 returns-3 : tie.Need-returns-3
-unfolding isSound
+unfolding is_sound
 returns-3 c = (ends _ _ _ _ c.before.queue-holds.ensures (goes_on _ _ _ _ c.before.before.before.before.before.outside-holds.ensures.0 (goes_on _ _ _ _ c.before.before.before.before.before.before.before.before.is-sized.ensures refl c.before.before.before.before.before.before.before.if1.false) c.before.before.if2.false) c.if3.true, c.before.before.before.before.before.outside-holds.ensures.1)
 
 tracked-holds-requires : tie.Need-tracked-holds-requires
@@ -42,7 +42,7 @@ same-length-3 : tie.Need-same-length-3
 same-length-3 c = search rules
 
 returns-4 : tie.Need-returns-4
-unfolding isSound
+unfolding is_sound
 returns-4 c = (c.before.before.tracked-holds.ensures.0 ∙ goes_on _ _ _ _ c.before.before.before.before.before.queue-holds.ensures (goes_on _ _ _ _ c.before.before.before.before.before.before.before.before.before.outside-holds.ensures.0 (goes_on _ _ _ _ c.before.before.before.before.before.before.before.before.before.before.before.before.is-sized.ensures refl c.before.before.before.before.before.before.before.before.before.before.before.if1.false) c.before.before.before.before.before.before.if2.false) c.before.before.before.before.if3.false, c.before.before.tracked-holds.ensures.1 ∙ c.before.before.before.before.before.before.before.before.before.outside-holds.ensures.1)
 
 pub is-sound-spec : {M : Type 1} → statement M
@@ -52,7 +52,7 @@ is-sound-spec =
     is-sized-requires
     returns
     outside-holds-requires
-    same_length
+    same_length_lem
     returns-2
     queue-holds-requires
     same-length-2

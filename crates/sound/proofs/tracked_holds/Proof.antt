@@ -8,8 +8,8 @@ use Rattle.sound.proofs.tracked_holds.Tie as tie
 record-pool-holds-requires : tie.Need-record-pool-holds-requires
 record-pool-holds-requires c κs = search rules
 
-same_length : tie.Need-same-length
-same_length c = search rules
+same_length_lem : tie.Need-same-length
+same_length_lem c = search rules
 
 returns : tie.Need-returns
 returns c = (ends _ _ _ _ c.before.before.before.record-pool-holds.ensures.0 refl c.if1.true, c.before.before.before.record-pool-holds.ensures.1)
@@ -28,7 +28,7 @@ tracked-holds-spec =
     tie.close
     (tie.spec
     record-pool-holds-requires
-    same_length
+    same_length_lem
     returns
     trackers-hold-requires
     same-length-2

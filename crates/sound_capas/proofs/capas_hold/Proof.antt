@@ -40,8 +40,8 @@ part-claims-hold-end c = (omega (arith, ap (λ (z : Sizes). z.regions) (c.before
 claims-hold-requires : tie.Need-claims-hold-requires
 claims-hold-requires c κs = (c.before.before.before.before.before.before.before.before.before.requires.0, lent-clear _ (c.before.before.before.before.before.before.read-sizes.result.regions + c.before.before.before.before.before.before.read-sizes.result.domains) c.before.before.before.before.before.before.before.before.before.requires.1.1 (omega (arith, ap (λ (z : Sizes). z.regions) (c.before.before.before.before.before.before.read-sizes.ensures), ap (λ (z : Sizes). z.domains) (c.before.before.before.before.before.before.read-sizes.ensures), marks-fit c.before.before.before.before.before.before.before.before.before.args.t.now c.before.before.before.before.before.before.before.before.before.requires.0, c.before.before.before.before.before.before.before.before.before.requires.1)))
 
-same_length : tie.Need-same-length
-same_length c = search rules
+same_length_lem : tie.Need-same-length
+same_length_lem c = search rules
 
 returns : tie.Need-returns
 returns c = (capas-are _ _ _ _ _ _ _ _ (c.before.before.before.before.before.before.before.before.before.read-sizes.ensures ∙ sizes-seen _) (c.before.before.before.before.before.before.before.region-capacity.ensures) (c.before.before.before.before.before.before.less.ensures) (c.before.before.before.before.before.domain-capacity.ensures) (c.before.before.before.before.less2.ensures) (length-first _ _ (omega (arith, ap (λ (z : Sizes). z.regions) (c.before.before.before.before.before.before.before.before.before.read-sizes.ensures), ap (λ (z : Sizes). z.domains) (c.before.before.before.before.before.before.before.before.before.read-sizes.ensures), marks-fit c.before.before.before.before.before.before.before.before.before.before.before.before.args.t.now c.before.before.before.before.before.before.before.before.before.before.before.before.requires.0, c.before.before.before.before.before.before.before.before.before.before.before.before.requires.1))) c.before.before.claims-hold.ensures.0, lent_same _ _ (c.before.before.before.before.before.before.before.before.before.read-sizes.result.regions + c.before.before.before.before.before.before.before.before.before.read-sizes.result.domains) c.before.before.claims-hold.ensures.1)
@@ -60,5 +60,5 @@ capas-hold-spec =
     part-claims-hold-start
     part-claims-hold-end
     claims-hold-requires
-    same_length
+    same_length_lem
     returns)

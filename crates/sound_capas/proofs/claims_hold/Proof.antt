@@ -38,8 +38,8 @@ clear-requires c κs = search rules
 both-requires : tie.Need-both-requires
 both-requires c κs = search rules
 
-same_length : tie.Need-same-length
-same_length c = search rules
+same_length_lem : tie.Need-same-length
+same_length_lem c = search rules
 
 returns : tie.Need-returns
 returns c = (c.both.ensures ∙ rows-hold _ _ _ _ _ _ (c.before.before.before.before.before.before.before.before.before.before.before.before.before.before.before.before.read-sizes.ensures ∙ sizes-seen _) c.before.before.before.before.before.before.before.before.before.before.before.before.before.before.before.before.before.before.before.requires.1 (c.before.before.before.before.before.before.before.before.walk.ensures) ∙ rw (c.before.before.before.before.before.before.before.before.before.before.before.before.before.before.before.before.read-sizes.ensures ∙ sizes-seen _), c.before.before.before.before.clear.ensures ∙ ap (λ k. replicate k 0) c.before.before.before.before.before.before.before.before.walk.auto.0 ∙ sym c.before.before.before.before.before.before.before.before.before.before.before.before.before.before.before.before.before.before.before.requires.1)
@@ -58,5 +58,5 @@ claims-hold-spec =
     walk-requires
     clear-requires
     both-requires
-    same_length
+    same_length_lem
     returns)

@@ -1,5 +1,5 @@
 -- Each test is what its definition says.
-use Rattle.sound_hashes.specs.Hashes.{hashClear}
+use Rattle.sound_hashes.specs.Hashes.{hash_clear}
 use borrow.Author.Rules.{rules}
 use Rattle.sound_hashes.proofs.hash_clear.Statement.{statement}
 use Rattle.sound_hashes.proofs.hash_clear.Tie as tie
@@ -17,7 +17,7 @@ both-requires-4 : tie.Need-both-requires-4
 both-requires-4 c κs = search rules
 
 returns : tie.Need-returns
-unfolding hashClear
+unfolding hash_clear
 returns c = cc
 
 pub hash-clear-spec : {M : Type 1} → statement M

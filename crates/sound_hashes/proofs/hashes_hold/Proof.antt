@@ -4,14 +4,14 @@ use Prim.Native.Nat.{◌-◌}
 use native.Mathlib.Omega.{arith}
 use borrow.Author.Rules.{rules}
 use borrow.Author.Tests.{not-true, not-false}
-use Rattle.sections.specs.Rows.{hashIn}
+use Rattle.sections.specs.Rows.{hash_in}
 use Rattle.sound_rows.specs.Passed.{Passed, passed_start, passed-go, passed-stop, passed-end}
-use Rattle.sound_hashes.specs.Hashes.{rowHolds, lent-hold}
+use Rattle.sound_hashes.specs.Hashes.{row_holds, lent-hold}
 use Rattle.sound_hashes.proofs.hashes_hold.Statement.{statement}
 use Rattle.sound_hashes.proofs.hashes_hold.Tie as tie
 
 abbrev invariant-loop : tie.invariant-loop
-invariant-loop t n links p i₀ i = Passed (rowHolds links (hashIn p)) n i
+invariant-loop t n links p i₀ i = Passed (row_holds links (hash_in p)) n i
 
 abbrev decreases-loop : tie.decreases-loop
 decreases-loop t n links p i₀ i = n - i

@@ -1,5 +1,5 @@
 -- Whether the slot is free, and its row.
-use Rattle.sound_interfaces.specs.Interfaces.{rowHolds}
+use Rattle.sound_interfaces.specs.Interfaces.{row_holds}
 use borrow.Author.Rules.{rules}
 use Rattle.sound_interfaces.proofs.row_holds.Statement.{statement}
 use Rattle.sound_interfaces.proofs.row_holds.Tie as tie
@@ -14,7 +14,7 @@ interface-fits-requires : tie.Need-interface-fits-requires
 interface-fits-requires c κs = search rules
 
 returns : tie.Need-returns
-unfolding rowHolds
+unfolding row_holds
 returns c = cc
 
 pub row-holds-spec : {M : Type 1} → statement M

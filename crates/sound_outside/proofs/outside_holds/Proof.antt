@@ -8,8 +8,8 @@ use Rattle.sound_outside.proofs.outside_holds.Tie as tie
 outside-pools-hold-requires : tie.Need-outside-pools-hold-requires
 outside-pools-hold-requires c κs = search rules
 
-same_length : tie.Need-same-length
-same_length c = search rules
+same_length_lem : tie.Need-same-length
+same_length_lem c = search rules
 
 returns : tie.Need-returns
 returns c = (ends _ _ _ _ c.before.before.before.outside-pools-hold.ensures.0 refl c.if1.true, c.before.before.before.outside-pools-hold.ensures.1)
@@ -55,7 +55,7 @@ outside-holds-spec =
     tie.close
     (tie.spec
     outside-pools-hold-requires
-    same_length
+    same_length_lem
     returns
     tree-holds-requires
     same-length-2

@@ -6,15 +6,15 @@ use borrow.Author.Rules.{rules}
 use mathlib.Core.Path.{◌≡◌, refl, ap, ◌∙◌}
 use mathlib.Core.Logic.{⊎_elim}
 use lib.ListN.{length}
-use Rattle.sections.specs.Rows.{slotIn, regionIn}
-use Rattle.sound_pieces.specs.Pieces.{slotsPieces}
+use Rattle.sections.specs.Rows.{slot_in, region_in}
+use Rattle.sound_pieces.specs.Pieces.{slots_pieces}
 use Rattle.sound_pieces.specs.Laid.{filled, places, placed}
 use Rattle.sound_pieces.specs.Walks.{pool, slots_end, slot-named, slot-passed}
 use Rattle.sound_pieces.proofs.gather.Statement.{statement}
 use Rattle.sound_pieces.proofs.gather.Tie as tie
 
 abbrev invariant-loop : tie.invariant-loop
-invariant-loop s slots links gens r n w₀ count₀ j₀ w count j = (length w ≡ length w₀) × (j ≤ slots) × (places (filled w count) (slotsPieces (pool links gens) (regionIn r) n (slotIn s) (slots - j) j) ≡ places (filled w₀ 0) (slotsPieces (pool links gens) (regionIn r) n (slotIn s) slots 0))
+invariant-loop s slots links gens r n w₀ count₀ j₀ w count j = (length w ≡ length w₀) × (j ≤ slots) × (places (filled w count) (slots_pieces (pool links gens) (region_in r) n (slot_in s) (slots - j) j) ≡ places (filled w₀ 0) (slots_pieces (pool links gens) (region_in r) n (slot_in s) slots 0))
 
 abbrev decreases-loop : tie.decreases-loop
 decreases-loop s slots links gens r n w₀ count₀ j₀ w count j = slots - j
@@ -40,8 +40,8 @@ loop-less c = omega arith
 loop-again : tie.Need-loop-preserved invariant-loop decreases-loop
 loop-again c = (⊎_elim (λ u. omega (arith, ap length u.5)) (λ u. rw u.1 c.before.before.before.before.loop.invariant.0) c.if1.branch, omega arith, ⊎_elim (λ u. rw (u.5, u.6) (slot-named _ _ _ _ _ _ _ c.before.before.before.loop-test.true _ c.before.before.slot-in.ensures _ c.before.names.ensures _ u.2.ensures u.0.taken ∙ c.before.before.before.before.loop.invariant.2)) (λ u. rw (u.1, u.2) (slot-passed _ _ _ _ _ _ _ c.before.before.before.loop-test.true _ c.before.before.slot-in.ensures _ c.before.names.ensures u.0.left ∙ c.before.before.before.before.loop.invariant.2)) c.if1.branch)
 
-same_length : tie.Need-same-length invariant-loop decreases-loop
-same_length c = search rules
+same_length_lem : tie.Need-same-length invariant-loop decreases-loop
+same_length_lem c = search rules
 
 returns : tie.Need-returns invariant-loop decreases-loop
 returns c = slots_end _ _ _ _ _ _ _ c.loop-test.false ∙ c.before.loop.invariant.2 ∙ placed _ _
@@ -59,5 +59,5 @@ gather-spec =
     add-j
     loop-less
     loop-again
-    same_length
+    same_length_lem
     returns)

@@ -48,8 +48,8 @@ slice-write-w-4 c = simp length-set (omega arith)
 add-result : tie.Need-overflow-add-result
 add-result c = search rules
 
-same_length : tie.Need-same-length
-same_length c = search rules
+same_length_lem : tie.Need-same-length
+same_length_lem c = search rules
 
 returns : tie.Need-returns
 returns c = piece-in _ _ _ _ _ c.before.if1.true c.if2.true
@@ -78,7 +78,7 @@ lay-spec =
     mul-w-4
     slice-write-w-4
     add-result
-    same_length
+    same_length_lem
     returns
     returns-2
     returns-3)

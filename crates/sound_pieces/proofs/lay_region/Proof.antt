@@ -4,15 +4,15 @@ use borrow.Author.Rules.{rules}
 use mathlib.Core.Path.{◌≡◌, refl, sym, ap, ◌∙◌}
 use mathlib.Core.Logic.{⊎_elim}
 use lib.ListN.{length}
-use Rattle.sections.specs.Rows.{regionIn}
-use Rattle.sound_pieces.specs.Pieces.{between, regionPieces}
+use Rattle.sections.specs.Rows.{region_in}
+use Rattle.sound_pieces.specs.Pieces.{between, region_pieces}
 use Rattle.sound_pieces.specs.Laid.{filled, places}
 use Rattle.sound_pieces.specs.Walks.{goes, between-end, between-cut, between-skip}
 use Rattle.sound_pieces.proofs.lay_region.Statement.{statement}
 use Rattle.sound_pieces.proofs.lay_region.Tie as tie
 
 abbrev invariant-loop : tie.invariant-loop
-invariant-loop r n i w₀ m g count₀ at₀ link₀ left₀ w count at link left = (length w ≡ length w₀) × (places (filled w count) (between (regionIn r) left g.rights g.end at link) ≡ places (filled w₀ m) (regionPieces (regionIn r) n i))
+invariant-loop r n i w₀ m g count₀ at₀ link₀ left₀ w count at link left = (length w ≡ length w₀) × (places (filled w count) (between (region_in r) left g.rights g.end at link) ≡ places (filled w₀ m) (region_pieces (region_in r) n i))
 
 abbrev decreases-loop : tie.decreases-loop
 decreases-loop r n i w₀ m g count₀ at₀ link₀ left₀ w count at link left = left
@@ -21,7 +21,7 @@ region-in-requires : tie.Need-region-in-requires invariant-loop decreases-loop
 region-in-requires c κs = search rules
 
 loop-holds : tie.Need-loop-init invariant-loop decreases-loop
-unfolding regionPieces
+unfolding region_pieces
 loop-holds c = (refl, rw c.region-in.ensures)
 
 both-requires : tie.Need-both-requires invariant-loop decreases-loop
@@ -48,8 +48,8 @@ loop-again c = (⊎_elim (λ u. omega (arith, ap length u.5)) (λ u. rw u.1 c.be
 lay-requires-2 : tie.Need-lay-requires-2 invariant-loop decreases-loop
 lay-requires-2 c κs = search rules
 
-same_length : tie.Need-same-length invariant-loop decreases-loop
-same_length c = search rules
+same_length_lem : tie.Need-same-length invariant-loop decreases-loop
+same_length_lem c = search rules
 
 returns : tie.Need-returns invariant-loop decreases-loop
 returns c = c.before.before.lay2.ensures ∙ ap (places _) (between-end _ _ _ _ _ _ (sym c.before.before.before.before.before.both.ensures ∙ c.before.before.before.before.if1.false)) ∙ c.before.before.before.before.before.before.loop.invariant.1
@@ -70,5 +70,5 @@ lay-region-spec =
     loop-less
     loop-again
     lay-requires-2
-    same_length
+    same_length_lem
     returns)

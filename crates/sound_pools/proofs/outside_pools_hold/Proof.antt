@@ -1,6 +1,6 @@
 -- Each pool, its stack and its rows; the work area is as it was after each.
 use mathlib.Core.Path.{◌∙◌}
-use Rattle.sound_pools.specs.Hold.{poolHolds}
+use Rattle.sound_pools.specs.Hold.{pool_holds}
 use Rattle.sound_rows.specs.Answers.{clean-same}
 use borrow.Author.Rules.{rules}
 use Rattle.sound_pools.proofs.outside_pools_hold.Statement.{statement}
@@ -27,11 +27,11 @@ both-requires-2 c κs = search rules
 both-requires-3 : tie.Need-both-requires-3
 both-requires-3 c κs = search rules
 
-same_length : tie.Need-same-length
-same_length c = search rules
+same_length_lem : tie.Need-same-length
+same_length_lem c = search rules
 
 returns : tie.Need-returns
-unfolding poolHolds
+unfolding pool_holds
 returns c = (c.both3.ensures ∙ rw (c.before.before.before.before.before.before.before.both.ensures, c.before.both2.ensures, c.before.before.before.before.before.before.before.before.before.before.before.before.before.before.stack-holds.ensures.0, c.before.before.before.before.before.before.before.before.before.before.domains-hold.ensures.0, c.before.before.before.before.before.stack-holds2.ensures.0, c.before.before.regions-hold.ensures), c.before.before.before.before.before.stack-holds2.ensures.1 ∙ c.before.before.before.before.before.before.before.before.before.before.domains-hold.ensures.1 ∙ c.before.before.before.before.before.before.before.before.before.before.before.before.before.before.stack-holds.ensures.1)
 
 pub outside-pools-hold-spec : {M : Type 1} → statement M
@@ -45,5 +45,5 @@ outside-pools-hold-spec =
     regions-hold-requires
     both-requires-2
     both-requires-3
-    same_length
+    same_length_lem
     returns)

@@ -1,6 +1,6 @@
 -- The pool, its stack and its rows, then the trackers; the work area is as it was after each.
 use mathlib.Core.Path.{◌∙◌}
-use Rattle.sound_pools.specs.Hold.{poolHolds}
+use Rattle.sound_pools.specs.Hold.{pool_holds}
 use Rattle.sound_rows.specs.Answers.{clean-same}
 use borrow.Author.Rules.{rules}
 use Rattle.sound_pools.proofs.record_pool_holds.Statement.{statement}
@@ -21,11 +21,11 @@ both-requires c κs = search rules
 both-requires-2 : tie.Need-both-requires-2
 both-requires-2 c κs = search rules
 
-same_length : tie.Need-same-length
-same_length c = search rules
+same_length_lem : tie.Need-same-length
+same_length_lem c = search rules
 
 returns : tie.Need-returns
-unfolding poolHolds
+unfolding pool_holds
 returns c = (c.both2.ensures ∙ rw (c.before.both.ensures, c.before.before.before.before.before.before.before.before.before.stack-holds.ensures.0, c.before.before.before.before.before.before.records-hold.ensures, c.before.before.before.before.trackers-hold.ensures.0), c.before.before.before.before.trackers-hold.ensures.1 ∙ c.before.before.before.before.before.before.before.before.before.stack-holds.ensures.1)
 
 pub record-pool-holds-spec : {M : Type 1} → statement M
@@ -37,5 +37,5 @@ record-pool-holds-spec =
     trackers-hold-requires
     both-requires
     both-requires-2
-    same_length
+    same_length_lem
     returns)

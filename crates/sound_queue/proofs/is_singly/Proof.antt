@@ -4,14 +4,14 @@ use mathlib.Core.Path.{◌≡◌, refl, sym, ap, ◌∙◌}
 use native.Mathlib.Omega.{arith}
 use borrow.Author.Tests.{not-true, not-false}
 use Rattle.tables.specs.declared.Update.{Update}
-use Rattle.sound_queue.specs.Ring.{allIn, numbered, noneSame, singly}
+use Rattle.sound_queue.specs.Ring.{all_in, numbered, none_same, singly}
 use Rattle.tables.specs.View.{view}
 use Rattle.sound_queue.specs.Steps.{all_end, all_go, all-stop}
 use Rattle.sound_queue.proofs.is_singly.Statement.{statement}
 use Rattle.sound_queue.proofs.is_singly.Tie as tie
 
 abbrev invariant-loop : tie.invariant-loop
-invariant-loop t n read m j₀ j = allIn (λ k. noneSame (view t) n read m (numbered (view t) n read k) (k + 1)) 0 m ≡ allIn (λ k. noneSame (view t) n read m (numbered (view t) n read k) (k + 1)) j m
+invariant-loop t n read m j₀ j = all_in (λ k. none_same (view t) n read m (numbered (view t) n read k) (k + 1)) 0 m ≡ all_in (λ k. none_same (view t) n read m (numbered (view t) n read k) (k + 1)) j m
 
 abbrev decreases-loop : tie.decreases-loop
 decreases-loop t n read m j₀ j = m - j
@@ -30,7 +30,7 @@ none-same-requires c κs = c.before.before.before.before.requires
 
 returns : tie.Need-returns invariant-loop decreases-loop
 unfolding singly
-returns c = sym (c.before.before.before.before.loop.invariant ∙ all-stop _ _ _ c.before.before.before.loop-test.true (sym (c.before.none-same.ensures ∙ ap (λ (u : Update). noneSame (view c.before.before.before.before.before.before.args.t.now) c.before.before.before.before.before.before.args.n c.before.before.before.before.before.before.args.read c.before.before.before.before.before.before.args.m u (c.before.before.before.before.loop.j + 1)) c.before.before.update-numbered.ensures) ∙ not-true _ c.if1.true))
+returns c = sym (c.before.before.before.before.loop.invariant ∙ all-stop _ _ _ c.before.before.before.loop-test.true (sym (c.before.none-same.ensures ∙ ap (λ (u : Update). none_same (view c.before.before.before.before.before.before.args.t.now) c.before.before.before.before.before.before.args.n c.before.before.before.before.before.before.args.read c.before.before.before.before.before.before.args.m u (c.before.before.before.before.loop.j + 1)) c.before.before.update-numbered.ensures) ∙ not-true _ c.if1.true))
 
 add-j : tie.Need-overflow-add-j invariant-loop decreases-loop
 add-j c = omega arith
@@ -39,7 +39,7 @@ loop-less : tie.Need-loop-smaller invariant-loop decreases-loop
 loop-less c = omega arith
 
 loop-again : tie.Need-loop-preserved invariant-loop decreases-loop
-loop-again c = c.before.before.before.before.loop.invariant ∙ all_go _ _ _ c.before.before.before.loop-test.true (sym (c.before.none-same.ensures ∙ ap (λ (u : Update). noneSame (view c.before.before.before.before.before.before.args.t.now) c.before.before.before.before.before.before.args.n c.before.before.before.before.before.before.args.read c.before.before.before.before.before.before.args.m u (c.before.before.before.before.loop.j + 1)) c.before.before.update-numbered.ensures) ∙ not-false _ c.if1.false)
+loop-again c = c.before.before.before.before.loop.invariant ∙ all_go _ _ _ c.before.before.before.loop-test.true (sym (c.before.none-same.ensures ∙ ap (λ (u : Update). none_same (view c.before.before.before.before.before.before.args.t.now) c.before.before.before.before.before.before.args.n c.before.before.before.before.before.before.args.read c.before.before.before.before.before.before.args.m u (c.before.before.before.before.loop.j + 1)) c.before.before.update-numbered.ensures) ∙ not-false _ c.if1.false)
 
 returns-2 : tie.Need-returns-2 invariant-loop decreases-loop
 unfolding singly

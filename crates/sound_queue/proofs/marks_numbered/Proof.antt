@@ -1,5 +1,5 @@
 -- The mark of the place with number j.
-use Rattle.sound_queue.specs.Ring.{markNumbered}
+use Rattle.sound_queue.specs.Ring.{mark_numbered}
 use borrow.Author.Rules.{rules}
 use Rattle.sound_queue.proofs.marks_numbered.Statement.{statement}
 use Rattle.sound_queue.proofs.marks_numbered.Tie as tie
@@ -14,7 +14,7 @@ load-mark-requires : tie.Need-load-mark-requires
 load-mark-requires c κs = search rules
 
 returns : tie.Need-returns
-unfolding markNumbered
+unfolding mark_numbered
 returns c = c.load-mark.ensures
 
 pub marks-numbered-spec : {M : Type 1} → statement M

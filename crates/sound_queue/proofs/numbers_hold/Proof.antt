@@ -4,14 +4,14 @@ use mathlib.Core.Path.{refl, sym, ◌∙◌, ◌≡◌}
 use native.Mathlib.Omega.{arith}
 use borrow.Author.Rules.{rules}
 use borrow.Author.Tests.{not-true, not-false}
-use Rattle.sound_queue.specs.Ring.{allIn, numbersHold}
+use Rattle.sound_queue.specs.Ring.{all_in, numbers_hold}
 use Rattle.tables.specs.View.{view}
-use Rattle.sound_queue.specs.Steps.{all_end, all_go, all-stop, numberHolds, number_is}
+use Rattle.sound_queue.specs.Steps.{all_end, all_go, all-stop, number_holds, number_is}
 use Rattle.sound_queue.proofs.numbers_hold.Statement.{statement}
 use Rattle.sound_queue.proofs.numbers_hold.Tie as tie
 
 abbrev invariant-loop : tie.invariant-loop
-invariant-loop t n read m j₀ j = allIn (numberHolds (view t) n read m) 0 n ≡ allIn (numberHolds (view t) n read m) j n
+invariant-loop t n read m j₀ j = all_in (number_holds (view t) n read m) 0 n ≡ all_in (number_holds (view t) n read m) j n
 
 abbrev decreases-loop : tie.decreases-loop
 decreases-loop t n read m j₀ j = n - j
@@ -35,7 +35,7 @@ both-requires : tie.Need-both-requires invariant-loop decreases-loop
 both-requires c κs = search rules
 
 returns : tie.Need-returns invariant-loop decreases-loop
-unfolding numbersHold
+unfolding numbers_hold
 returns c = sym (c.before.before.before.before.before.before.before.loop.invariant ∙ all-stop _ _ _ c.before.before.before.before.before.before.loop-test.true (sym (c.before.both.ensures ∙ number_is _ _ _ _ _ _ _ _ _ c.before.before.before.before.before.update-numbered.ensures c.before.before.before.before.marks-numbered.ensures c.before.before.before.update-fits.ensures c.before.before.marks-fit.ensures) ∙ not-true _ c.if1.true))
 
 add-j : tie.Need-overflow-add-j invariant-loop decreases-loop
@@ -48,7 +48,7 @@ loop-again : tie.Need-loop-preserved invariant-loop decreases-loop
 loop-again c = c.before.before.before.before.before.before.before.loop.invariant ∙ all_go _ _ _ c.before.before.before.before.before.before.loop-test.true (sym (c.before.both.ensures ∙ number_is _ _ _ _ _ _ _ _ _ c.before.before.before.before.before.update-numbered.ensures c.before.before.before.before.marks-numbered.ensures c.before.before.before.update-fits.ensures c.before.before.marks-fit.ensures) ∙ not-false _ c.if1.false)
 
 returns-2 : tie.Need-returns-2 invariant-loop decreases-loop
-unfolding numbersHold
+unfolding numbers_hold
 returns-2 c = sym (c.before.loop.invariant ∙ all_end _ _ _ c.loop-test.false)
 
 pub numbers-hold-spec : {M : Type 1} → statement M

@@ -29,8 +29,8 @@ both-requires-2 c κs = search rules
 returns : tie.Need-returns
 returns c = (domain-free _ _ _ _ c.before.before.before.before.before.may-meet.ensures c.before.before.before.before.slots-hold.ensures _ _ _ c.before.before.before.if1.true c.before.before.load-head.ensures c.before.head_clear.ensures c.both.ensures, refl)
 
-same_length : tie.Need-same-length
-same_length c = search rules
+same_length_lem : tie.Need-same-length
+same_length_lem c = search rules
 
 returns-2 : tie.Need-returns-2
 returns-2 c = (domain-used _ _ _ _ c.before.before.before.before.before.before.before.may-meet.ensures c.before.before.before.before.before.before.slots-hold.ensures _ _ c.before.before.before.before.before.if1.false (c.before.before.before.stack-holds.ensures.0) c.both2.ensures, c.before.before.before.stack-holds.ensures.1)
@@ -47,5 +47,5 @@ domain-holds-spec =
     stack-holds-requires
     both-requires-2
     returns
-    same_length
+    same_length_lem
     returns-2)

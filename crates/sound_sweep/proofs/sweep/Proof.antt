@@ -3,16 +3,16 @@ use borrow.Author.Rules.{rules}
 use native.Mathlib.Omega.{arith}
 use mathlib.Core.Path.{sym, ◌∙◌}
 use borrow.Author.Tests.{not-true, not-false}
-use Rattle.sections.specs.Rows.{recordIn}
+use Rattle.sections.specs.Rows.{record_in}
 use Rattle.sweep.specs.Sweep.{sweep}
-use Rattle.sound_events.specs.Events.{eventsIn}
+use Rattle.sound_events.specs.Events.{events_in}
 use Rattle.sound_sweep.specs.Records.{chained}
 use Rattle.sound_sweep.specs.Whole.{Sweeping, more, sweep-start, sweep-stop, sweep-fails, sweep-goes}
 use Rattle.sound_sweep.proofs.sweep.Statement.{statement}
 use Rattle.sound_sweep.proofs.sweep.Tie as tie
 
 abbrev invariant-loop : tie.invariant-loop
-invariant-loop q n first s e p₀ m₀ last₀ link₀ left₀ p m last link left = Sweeping (recordIn q) s e (sweep (chained (recordIn q) n first) (eventsIn s) (eventsIn e)) p m last link left
+invariant-loop q n first s e p₀ m₀ last₀ link₀ left₀ p m last link left = Sweeping (record_in q) s e (sweep (chained (record_in q) n first) (events_in s) (events_in e)) p m last link left
 
 abbrev decreases-loop : tie.decreases-loop
 decreases-loop q n first s e p₀ m₀ last₀ link₀ left₀ p m last link left = left
@@ -24,7 +24,7 @@ no-record-requires : tie.Need-no-record-requires invariant-loop decreases-loop
 no-record-requires c κs = search rules
 
 loop-holds : tie.Need-loop-init invariant-loop decreases-loop
-loop-holds c = sweep-start (recordIn c.before.before.before.before.before.args.q.now) c.before.before.before.before.before.args.s.now c.before.before.before.before.before.args.e.now c.before.before.before.before.before.args.n c.before.before.before.before.before.args.first c.before.start.result c.no_record.result c.before.start.ensures c.no_record.ensures
+loop-holds c = sweep-start (record_in c.before.before.before.before.before.args.q.now) c.before.before.before.before.before.args.s.now c.before.before.before.before.before.args.e.now c.before.before.before.before.before.args.n c.before.before.before.before.before.args.first c.before.start.result c.no_record.result c.before.start.ensures c.no_record.ensures
 
 both-requires : tie.Need-both-requires invariant-loop decreases-loop
 both-requires c κs = search rules

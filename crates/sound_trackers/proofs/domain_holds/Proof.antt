@@ -95,8 +95,8 @@ part-clear-end-2 c = omega (arith, count_fits _ _ _ _ c.before.before.before.bef
 clear-requires-2 : tie.Need-clear-requires-2
 clear-requires-2 c κs = search rules
 
-same_length : tie.Need-same-length
-same_length c = omega arith
+same_length_lem : tie.Need-same-length
+same_length_lem c = omega arith
 
 returns : tie.Need-returns
 returns c = domain-done _ _ _ _ c.before.before.before.before.before.before.before.before.before.before.before.before.before.before.before.before.before.before.before.before.before.before.gather.ensures _ _ _ _ _ _ c.before.before.before.before.before.before.before.before.before.before.before.before.before.before.before.before.before.before.before.before.before.before.before.before.before.before.before.before.before.before.requires c.before.before.before.before.before.before.before.before.before.before.before.before.before.before.before.before.before.before.sort.ensures c.before.before.before.before.before.before.before.before.before.before.before.before.before.before.sort2.ensures c.before.before.before.before.before.before.before.before.sweep.ensures c.before.before.before.before.before.before.clear.ensures c.before.before.clear2.ensures
@@ -135,5 +135,5 @@ domain-holds-spec =
     part-clear-start-2
     part-clear-end-2
     clear-requires-2
-    same_length
+    same_length_lem
     returns)

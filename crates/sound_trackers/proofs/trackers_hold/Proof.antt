@@ -7,13 +7,13 @@ use mathlib.Core.Path.{◌≡◌, refl, ap, ◌∙◌}
 use mathlib.Core.Logic.{⊎_elim}
 use lib.ListN.{length}
 use Rattle.tables.specs.View.{view}
-use Rattle.sound_trackers.specs.Trackers.{allHold, trackersHold}
+use Rattle.sound_trackers.specs.Trackers.{all_hold, trackers_hold}
 use Rattle.sound_trackers.specs.Turns.{free-holds, domain-is, all_start, all_end, all-goes, all-fails}
 use Rattle.sound_trackers.proofs.trackers_hold.Statement.{statement}
 use Rattle.sound_trackers.proofs.trackers_hold.Tie as tie
 
 abbrev invariant-loop : tie.invariant-loop
-invariant-loop t w₀ z used links gens r q d₀ w d = (w ≡ w₀) × (d ≤ z.domains) × (allHold (view t) (z.domains - d) d ≡ trackersHold (view t))
+invariant-loop t w₀ z used links gens r q d₀ w d = (w ≡ w₀) × (d ≤ z.domains) × (all_hold (view t) (z.domains - d) d ≡ trackers_hold (view t))
 
 abbrev decreases-loop : tie.decreases-loop
 decreases-loop t w₀ z used links gens r q d₀ w d = z.domains - d
@@ -51,8 +51,8 @@ load-head-requires c κs = c.before.before.before.before.before.before.before.be
 domain-holds-requires : tie.Need-domain-holds-requires invariant-loop decreases-loop
 domain-holds-requires c κs = rw c.before.before.before.before.before.before.before.loop.invariant.0 c.before.before.before.before.before.before.before.before.before.before.before.before.before.before.before.before.requires.1.1
 
-same_length : tie.Need-same-length invariant-loop decreases-loop
-same_length c = ap length (c.before.before.before.domain-holds.ensures.1 ∙ c.before.before.before.before.before.before.before.before.before.before.before.loop.invariant.0)
+same_length_lem : tie.Need-same-length invariant-loop decreases-loop
+same_length_lem c = ap length (c.before.before.before.domain-holds.ensures.1 ∙ c.before.before.before.before.before.before.before.before.before.before.before.loop.invariant.0)
 
 returns : tie.Need-returns invariant-loop decreases-loop
 returns c = (all-fails _ _ _ c.before.before.before.before.before.before.before.before.before.if1.true (domain-is _ _ _ _ c.before.before.before.before.before.before.before.before.before.before.before.before.before.before.before.before.links-of.ensures c.before.before.before.before.before.before.before.before.word.ensures _ _ _ c.before.before.before.before.before.before.before.before.before.before.before.loop.w _ _ _ _ c.before.before.before.before.before.before.before.before.before.before.before.before.before.before.before.before.before.before.before.before.requires.0 c.before.before.before.before.before.before.before.before.before.before.before.before.before.before.before.before.before.read-sizes.ensures c.before.before.before.before.before.before.before.before.before.before.before.before.before.before.before.links-of2.ensures c.before.before.before.before.before.before.before.before.before.before.before.before.before.before.generations-of.ensures c.before.before.before.before.before.before.before.before.before.before.before.before.before.regions-of.ensures c.before.before.before.before.before.before.slots-of.ensures c.before.before.before.before.before.before.before.before.before.before.before.before.records-of.ensures c.before.before.before.before.before.load-head.ensures (ap length c.before.before.before.before.before.before.before.before.before.before.before.loop.invariant.0 ∙ c.before.before.before.before.before.before.before.before.before.before.before.before.before.before.before.before.before.before.before.before.requires.1.0) c.before.before.before.before.before.before.before.if2.true _ c.before.before.before.domain-holds.ensures.0 ∙ not-true _ c.if3.true) ∙ c.before.before.before.before.before.before.before.before.before.before.before.loop.invariant.2, c.before.before.before.domain-holds.ensures.1 ∙ c.before.before.before.before.before.before.before.before.before.before.before.loop.invariant.0)
@@ -89,7 +89,7 @@ trackers-hold-spec =
     slots-of-requires
     load-head-requires
     domain-holds-requires
-    same_length
+    same_length_lem
     returns
     add-d
     loop-less

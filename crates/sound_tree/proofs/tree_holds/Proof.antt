@@ -31,8 +31,8 @@ roots-hold-requires c κs = search rules
 clear-first-requires : tie.Need-clear-first-requires
 clear-first-requires c κs = omega (arith, regions-fit _ _ c.before.before.before.before.before.before.before.before.before.before.before.before.before.before.requires.0 c.before.before.before.before.before.before.before.before.before.before.before.size.ensures, c.before.before.before.before.before.before.before.before.before.before.before.before.before.before.requires.1.0, c.before.before.before.roots-hold.auto.1.0)
 
-same_length : tie.Need-same-length
-same_length c = c.before.before.clear_first.auto.0 ∙ c.before.before.before.before.before.before.roots-hold.auto.1.0
+same_length_lem : tie.Need-same-length
+same_length_lem c = c.before.before.clear_first.auto.0 ∙ c.before.before.before.before.before.before.roots-hold.auto.1.0
 
 returns : tie.Need-returns
 returns c = (all_tested _ _ c.before.before.before.before.before.before.before.before.before.before.before.before.before.before.before.before.before.requires.0 c.before.before.before.before.before.before.before.before.before.before.before.before.before.before.size.ensures _ c.before.before.before.before.before.before.before.before.before.before.before.before.before.regions-of.ensures _ c.before.before.before.before.before.before.before.before.before.before.before.before.links-of.ensures _ c.before.before.before.before.before.before.before.before.before.before.before.count-children.ensures _ c.before.before.before.before.before.before.before.before.before.before.if1.true c.before.before.before.before.before.before.before.before.before.lists-hold.ensures _ c.before.before.before.before.before.before.before.before.before.before.before.before.before.before.before.before.before.requires.1.0 c.before.before.before.before.before.before.before.before.before.before.before.before.before.before.before.before.before.requires.1.1 _ c.before.before.before.before.before.before.before.before.if2.true c.before.before.before.before.before.before.roots-hold.ensures.0, all-cleared _ _ _ _ (omega (arith, regions-fit _ _ c.before.before.before.before.before.before.before.before.before.before.before.before.before.before.before.before.before.requires.0 c.before.before.before.before.before.before.before.before.before.before.before.before.before.before.size.ensures, c.before.before.before.before.before.before.before.before.before.before.before.before.before.before.before.before.before.requires.1.0)) c.before.before.before.before.before.before.before.before.before.before.before.before.before.before.before.before.before.requires.1.1 (marks-inside _ _ c.before.before.before.before.before.before.before.before.before.before.before.before.before.before.before.before.before.requires.0 c.before.before.before.before.before.before.before.before.before.before.before.before.before.before.size.ensures _ c.before.before.before.before.before.before.before.before.before.before.before.before.before.regions-of.ensures _ _ c.before.before.before.before.before.before.roots-hold.ensures.1) c.before.before.clear_first.ensures)
@@ -55,7 +55,7 @@ tree-holds-spec =
     lists-hold-requires
     roots-hold-requires
     clear-first-requires
-    same_length
+    same_length_lem
     returns
     returns-2
     returns-3)

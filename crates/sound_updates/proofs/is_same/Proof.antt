@@ -1,5 +1,5 @@
 -- Kinds, slots and generations.
-use Rattle.sound_updates.specs.Updates.{sameDomain}
+use Rattle.sound_updates.specs.Updates.{same_domain}
 use borrow.Author.Rules.{rules}
 use Rattle.sound_updates.proofs.is_same.Statement.{statement}
 use Rattle.sound_updates.proofs.is_same.Tie as tie
@@ -14,7 +14,7 @@ both-requires-3 : tie.Need-both-requires-3
 both-requires-3 c κs = search rules
 
 returns : tie.Need-returns
-unfolding sameDomain
+unfolding same_domain
 returns c = rw (c.both3.ensures, c.before.both2.ensures, c.before.before.before.before.before.before.both.ensures)
 
 pub is-same-spec : {M : Type 1} → statement M

@@ -5,12 +5,12 @@ use mathlib.Core.Path.{◌≡◌, sym, ap, ◌∙◌}
 use native.Mathlib.Omega.{arith}
 use borrow.Author.Rules.{rules}
 use Rattle.ring.specs.Ring.{cap}
-use Rattle.stored_ring.specs.Stored.{readTo, read_none, read_more}
+use Rattle.stored_ring.specs.Stored.{read_to, read_none, read_more}
 use Rattle.stored_ring.proofs.ring_in.Statement.{statement}
 use Rattle.stored_ring.proofs.ring_in.Tie as tie
 
 abbrev invariant-loop : tie.invariant-loop
-invariant-loop p m n read write places₀ i₀ places i = (i ≤ n) × (places ≡ readTo p m i)
+invariant-loop p m n read write places₀ i₀ places i = (i ≤ n) × (places ≡ read_to p m i)
 
 abbrev decreases-loop : tie.decreases-loop
 decreases-loop p m n read write places₀ i₀ places i = n - i

@@ -1,7 +1,7 @@
 -- The first i slots are read.
-use Rattle.sizes.specs.Limits.{mostSlots}
+use Rattle.sizes.specs.Limits.{most_slots}
 use Prim.Native.Nat.{◌-◌, ◌≤◌}
-use Rattle.stored_slots.specs.Rows.{readTo, read_none, read_more, read_all}
+use Rattle.stored_slots.specs.Rows.{read_to, read_none, read_more, read_all}
 use borrow.Author.Rules.{rules}
 use lib.ListN.{replicate}
 use mathlib.Core.Path.{◌≡◌, sym, ap, ◌∙◌}
@@ -10,7 +10,7 @@ use Rattle.stored_slots.proofs.list_of.Statement.{statement}
 use Rattle.stored_slots.proofs.list_of.Tie as tie
 
 abbrev invariant-loop : tie.invariant-loop
-invariant-loop p n slots₀ i₀ slots i = (i ≤ n) × (slots ≡ readTo p i)
+invariant-loop p n slots₀ i₀ slots i = (i ≤ n) × (slots ≡ read_to p i)
 
 abbrev decreases-loop : tie.decreases-loop
 decreases-loop p n slots₀ i₀ slots i = n - i
@@ -19,7 +19,7 @@ no-slot-requires : tie.Need-no-slot-requires invariant-loop decreases-loop
 no-slot-requires c κs = search rules
 
 loop-holds : tie.Need-loop-init invariant-loop decreases-loop
-loop-holds c = (omega arith, ap (replicate mostSlots) c.no_slot.ensures ∙ sym (read_none c.before.before.args.p.now))
+loop-holds c = (omega arith, ap (replicate most_slots) c.no_slot.ensures ∙ sym (read_none c.before.before.args.p.now))
 
 mul-read-slot : tie.Need-overflow-mul-read-slot invariant-loop decreases-loop
 mul-read-slot c = omega arith

@@ -1,5 +1,5 @@
 -- What is lent is the domain's row.
-use Rattle.stored_slots.specs.Record.{list_of, listAt}
+use Rattle.stored_slots.specs.Record.{list_of, list_at}
 use Rattle.stored_slots.specs.Rows.{row_read}
 use Rattle.stored_slots.specs.Steps.{domain-there, no-list}
 use borrow.Author.Rules.{rules}
@@ -32,7 +32,7 @@ no-list-requires : tie.Need-no-list-requires
 no-list-requires c κs = search rules
 
 returns : tie.Need-returns
-unfolding listAt
+unfolding list_at
 returns c = c.list-of.ensures ∙ ap list_of (row_read _ _ _ c.before.before.before.before.before.before.requires (domain-there _ _ _ c.before.before.before.before.size.ensures c.before.before.before.if1.true) c.before.before.row_of.ensures)
 
 returns-2 : tie.Need-returns-2

@@ -26,8 +26,8 @@ part-write-list-end c = search rules
 write-list-requires : tie.Need-write-list-requires
 write-list-requires c κs = search rules
 
-same_length : tie.Need-same-length
-same_length c = search rules
+same_length_lem : tie.Need-same-length
+same_length_lem c = search rules
 
 returns : tie.Need-returns
 returns c = row_back _ _ _ c.before.before.before.before.before.before.before.before.before.before.requires (domain-there _ _ _ c.before.before.before.before.before.before.before.size.ensures c.before.before.before.before.before.before.if1.true) c.before.before.before.before.row_of.ensures _ _ c.before.before.write-list.auto.0 c.before.before.write-list.ensures
@@ -49,7 +49,7 @@ store-list-spec =
     part-write-list-start
     part-write-list-end
     write-list-requires
-    same_length
+    same_length_lem
     returns
     same-length-2
     returns-2)

@@ -30,8 +30,8 @@ mul-p-3 c = search rules
 slice-write-p-3 : tie.Need-slice-write-p-3
 slice-write-p-3 c = simp length-set (omega arith)
 
-same_length : tie.Need-same-length
-same_length c = search rules
+same_length_lem : tie.Need-same-length
+same_length_lem c = search rules
 
 returns : tie.Need-returns
 returns c = rw (add-one, add-two)
@@ -48,5 +48,5 @@ write-slot-spec =
     add-p-2
     mul-p-3
     slice-write-p-3
-    same_length
+    same_length_lem
     returns)

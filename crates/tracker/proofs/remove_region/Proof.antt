@@ -1,6 +1,6 @@
 -- The merging walk follows, unless the first one is refused.
 use Rattle.tracker.proofs.Steps.{merged, not-merged}
-use Rattle.tracker.specs.Walks.{removeRegion}
+use Rattle.tracker.specs.Walks.{remove_region}
 use Rattle.region.specs.declared.Way.TheVariants.{Remove}
 use borrow.Author.Rules.{rules}
 use Rattle.tracker.proofs.remove_region.Statement.{statement}
@@ -18,19 +18,19 @@ walk-requires-2 c κs = search rules
 enum-known-r : tie.Need-enum-known-r
 enum-known-r c = search rules
 
-same_length : tie.Need-same-length
-same_length c = search rules
+same_length_lem : tie.Need-same-length
+same_length_lem c = search rules
 
 returns : tie.Need-returns
-unfolding removeRegion
+unfolding remove_region
 returns c = merged Remove _ _ _ _ _ c.before.before.before.before.before.before.before.before.before.walk.ensures _ _ _ c.before.before.before.before.before.marks.given.1 c.before.before.walk2.ensures
 
 same-length-2 : tie.Need-same-length-2
 same-length-2 c = search rules
 
 returns-2 : tie.Need-returns-2
-unfolding removeRegion
+unfolding remove_region
 returns-2 c = not-merged Remove _ _ _ _ _ c.before.before.before.before.before.walk.ensures _ c.before.r.given.1
 
 pub remove-region-spec : {M : Type 1} → statement M
-remove-region-spec = tie.close (tie.spec walk-requires enum-known-marks walk-requires-2 enum-known-r same_length returns same-length-2 returns-2)
+remove-region-spec = tie.close (tie.spec walk-requires enum-known-marks walk-requires-2 enum-known-r same_length_lem returns same-length-2 returns-2)

@@ -14,12 +14,12 @@ pop-lent-requires c κs = search rules
 store-place-requires : tie.Need-store-place-requires
 store-place-requires c κs = search rules
 
-same_length : tie.Need-same-length
-same_length c = search rules
+same_length_lem : tie.Need-same-length
+same_length_lem c = search rules
 
 returns : tie.Need-returns
 returns c = rw (← c.before.before.before.before.before.before.load-ring.ensures, ← c.before.before.before.before.before.pop-lent.ensures) (refl, ring-stored _ _ _ _ _ c.before.before.before.before.before.before.before.before.before.requires c.before.before.before.before.before.before.load-ring.ensures (rw c.before.before.before.before.before.pop-lent.ensures (pop-at _)) c.before.before.before.store-place.ensures)
 
 pub pop-update-spec : {M : Type 1} → statement M
 pop-update-spec =
-    tie.close (tie.spec load-ring-requires pop-lent-requires store-place-requires same_length returns)
+    tie.close (tie.spec load-ring-requires pop-lent-requires store-place-requires same_length_lem returns)

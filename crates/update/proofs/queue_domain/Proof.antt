@@ -17,8 +17,8 @@ queue-lent-requires c κs = search rules
 store-place-requires : tie.Need-store-place-requires
 store-place-requires c κs = search rules
 
-same_length : tie.Need-same-length
-same_length c = search rules
+same_length_lem : tie.Need-same-length
+same_length_lem c = search rules
 
 returns : tie.Need-returns
 returns c =
@@ -27,4 +27,4 @@ returns c =
 
 pub queue-domain-spec : {M : Type 1} → statement M
 queue-domain-spec =
-    tie.close (tie.spec load-ring-requires place-of-requires queue-lent-requires store-place-requires same_length returns)
+    tie.close (tie.spec load-ring-requires place-of-requires queue-lent-requires store-place-requires same_length_lem returns)

@@ -12,8 +12,8 @@ no-interface-requires c κs = search rules
 store-interface-requires : tie.Need-store-interface-requires
 store-interface-requires c κs = search rules
 
-same_length : tie.Need-same-length
-same_length c = search rules
+same_length_lem : tie.Need-same-length
+same_length_lem c = search rules
 
 returns : tie.Need-returns
 returns c = rw (← c.before.before.before.no-interface.ensures, ← c.before.before.before.before.before.before.before.clear-domain.ensures.seen) c.before.before.store-interface.ensures
@@ -25,5 +25,5 @@ wipe-domain-spec =
     clear-domain-requires
     no-interface-requires
     store-interface-requires
-    same_length
+    same_length_lem
     returns)

@@ -9,8 +9,8 @@ no-record-requires c κs = search rules
 store-record-requires : tie.Need-store-record-requires
 store-record-requires c κs = search rules
 
-same_length : tie.Need-same-length
-same_length c = search rules
+same_length_lem : tie.Need-same-length
+same_length_lem c = search rules
 
 returns : tie.Need-returns
 returns c = rw c.before.before.before.no_record.ensures at c.before.before.store-record.ensures
@@ -21,5 +21,5 @@ wipe-record-spec =
     (tie.spec
     no-record-requires
     store-record-requires
-    same_length
+    same_length_lem
     returns)

@@ -15,8 +15,8 @@ no-hash-requires c κs = search rules
 store-hash-requires : tie.Need-store-hash-requires
 store-hash-requires c κs = search rules
 
-same_length : tie.Need-same-length
-same_length c = search rules
+same_length_lem : tie.Need-same-length
+same_length_lem c = search rules
 
 returns : tie.Need-returns
 returns c = rw (← c.before.before.before.before.before.before.before.before.no-region.ensures, ← c.before.before.before.no-hash.ensures, ← c.before.before.before.before.before.before.before.store-region.ensures.seen) c.before.before.store-hash.ensures
@@ -29,5 +29,5 @@ wipe-region-spec =
     store-region-requires
     no-hash-requires
     store-hash-requires
-    same_length
+    same_length_lem
     returns)

@@ -32,8 +32,8 @@ loop-less c = omega arith
 loop-again : tie.Need-loop-preserved invariant-loop decreases-loop
 loop-again c = (omega arith, begun_more _ _ _ 0 (rw length-replicate c.loop-test.true) (c.before.loop.invariant.1) (sym (get_or-replicate _ _ 0 0 c.loop-test.true)))
 
-same_length : tie.Need-same-length invariant-loop decreases-loop
-same_length c = c.before.loop.invariant.1.long ∙ length-replicate _ 0
+same_length_lem : tie.Need-same-length invariant-loop decreases-loop
+same_length_lem c = c.before.loop.invariant.1.long ∙ length-replicate _ 0
 
 returns : tie.Need-returns invariant-loop decreases-loop
 returns c = begun_all _ _ _ (c.before.loop.invariant.1) (rw length-replicate c.loop-test.false)
@@ -50,5 +50,5 @@ clear_spec =
     add-i
     loop-less
     loop-again
-    same_length
+    same_length_lem
     returns)

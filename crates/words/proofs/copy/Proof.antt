@@ -37,8 +37,8 @@ loop-less c = omega arith
 loop-again : tie.Need-loop-preserved invariant-loop decreases-loop
 loop-again c = (omega arith, begun_more _ _ _ _ c.before.loop-test.true (c.before.before.loop.invariant.1) refl)
 
-same_length : tie.Need-same-length invariant-loop decreases-loop
-same_length c = c.before.loop.invariant.1.long ∙ c.before.before.if1.true
+same_length_lem : tie.Need-same-length invariant-loop decreases-loop
+same_length_lem c = c.before.loop.invariant.1.long ∙ c.before.before.if1.true
 
 returns : tie.Need-returns invariant-loop decreases-loop
 unfolding copied
@@ -62,6 +62,6 @@ copy_spec =
     add-i
     loop-less
     loop-again
-    same_length
+    same_length_lem
     returns
     returns-2)

@@ -12,8 +12,8 @@ mul-t c = search rules
 slice-write-t : tie.Need-slice-write-t
 slice-write-t c = search rules
 
-same_length : tie.Need-same-length
-same_length c = search rules
+same_length_lem : tie.Need-same-length
+same_length_lem c = search rules
 
 returns : tie.Need-returns
 returns c = search rules
@@ -22,4 +22,4 @@ returns-2 : tie.Need-returns-2
 returns-2 c = sym (set_out _ _ _ c.if1.false)
 
 pub put_spec : {M : Type 1} → statement M
-put_spec = tie.close (tie.spec mul-t slice-write-t same_length returns returns-2)
+put_spec = tie.close (tie.spec mul-t slice-write-t same_length_lem returns returns-2)

@@ -31,8 +31,8 @@ part-copy-end c = search rules
 copy-requires : tie.Need-copy-requires
 copy-requires c κs = search rules
 
-same_length : tie.Need-same-length
-same_length c = search rules
+same_length_lem : tie.Need-same-length
+same_length_lem c = search rules
 
 returns : tie.Need-returns
 returns c = let s = c.before.before.before.before.before.before.before.before in let a = s.args.a in copied-back s.args.t.now s.args.vs.now _ a (a + length s.args.vs.now - a) (omega arith) (omega arith) c.before.before.copy.ensures
@@ -54,7 +54,7 @@ store_spec =
     part-copy-start
     part-copy-end
     copy-requires
-    same_length
+    same_length_lem
     returns
     returns-2
     returns-3)

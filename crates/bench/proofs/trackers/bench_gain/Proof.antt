@@ -2,7 +2,7 @@
 use mathlib.Core.Path.{sym, ap, ◌∙◌}
 use Rattle.tables.specs.Tests.{sized-true}
 use Rattle.bench.specs.Steps.{taken, refused}
-use Rattle.bench.specs.Trackers.{changeOf}
+use Rattle.bench.specs.Trackers.{change_of}
 use borrow.Author.Rules.{rules}
 use Rattle.bench.proofs.trackers.bench_gain.Statement.{statement}
 use Rattle.bench.proofs.trackers.bench_gain.Tie as tie
@@ -16,11 +16,11 @@ add-region-requires c κs = sized-true _ (sym c.before.before.is-sized.ensures �
 change-requires : tie.Need-change-requires
 change-requires c κs = search rules
 
-same_length : tie.Need-same-length
-same_length c = search rules
+same_length_lem : tie.Need-same-length
+same_length_lem c = search rules
 
 returns : tie.Need-returns
-returns c = taken _ _ c.before.before.before.before.before.before.is-sized.ensures c.before.before.before.before.before.if1.true _ _ (c.change.ensures ∙ ap changeOf c.before.before.before.add-region.ensures.0) _ _ c.before.before.before.add-region.ensures.1
+returns c = taken _ _ c.before.before.before.before.before.before.is-sized.ensures c.before.before.before.before.before.if1.true _ _ (c.change.ensures ∙ ap change_of c.before.before.before.add-region.ensures.0) _ _ c.before.before.before.add-region.ensures.1
 
 same-length-2 : tie.Need-same-length-2
 same-length-2 c = search rules
@@ -35,7 +35,7 @@ bench-gain-spec =
     is-sized-requires
     add-region-requires
     change-requires
-    same_length
+    same_length_lem
     returns
     same-length-2
     returns-2)

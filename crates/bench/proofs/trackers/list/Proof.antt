@@ -37,12 +37,12 @@ loop-less c = omega arith
 loop-again : tie.Need-loop-preserved invariant-loop decreases-loop
 loop-again c = rw (c.before.before.put-permission.ensures, c.before.before.before.before.found_at.ensures) (listing-more _ _ _ _ _ _ _ _ c.before.before.before.before.before.loop-test.true c.before.before.before.before.before.before.loop.invariant)
 
-same_length : tie.Need-same-length invariant-loop decreases-loop
-same_length c = c.before.loop.invariant.same
+same_length_lem : tie.Need-same-length invariant-loop decreases-loop
+same_length_lem c = c.before.loop.invariant.same
 
 returns : tie.Need-returns invariant-loop decreases-loop
 returns c = (ap (λ (p : Plan). p.answer) c.before.before.plan-of.ensures, listing-end _ _ _ _ _ _ _ _ _ c.loop-test.false c.before.loop.invariant (plan-list _ _ _ c.before.before.before.before.before.requires c.before.before.plan-of.ensures))
 
 pub list-spec : {M : Type 1} → statement M
 list-spec =
-    tie.close (tie.spec invariant-loop decreases-loop plan-of-requires loop-holds found-at-requires put-permission-requires add-i sub-left loop-less loop-again same_length returns)
+    tie.close (tie.spec invariant-loop decreases-loop plan-of-requires loop-holds found-at-requires put-permission-requires add-i sub-left loop-less loop-again same_length_lem returns)

@@ -18,11 +18,11 @@ add-put-2 c = search rules
 put-requires-3 : tie.Need-put-requires-3
 put-requires-3 c κs = search rules
 
-same_length : tie.Need-same-length
-same_length c = search rules
+same_length_lem : tie.Need-same-length
+same_length_lem c = search rules
 
 returns : tie.Need-returns
 returns c = rw (c.before.before.put3.ensures, c.before.before.before.before.before.before.put2.ensures, c.before.before.before.before.before.before.before.before.before.before.put.ensures)
 
 pub put-permission-spec : {M : Type 1} → statement M
-put-permission-spec = tie.close (tie.spec put-requires add-put put-requires-2 add-put-2 put-requires-3 same_length returns)
+put-permission-spec = tie.close (tie.spec put-requires add-put put-requires-2 add-put-2 put-requires-3 same_length_lem returns)

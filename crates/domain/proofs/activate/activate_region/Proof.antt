@@ -17,8 +17,8 @@ notify-if-requires c κs = search rules
 enum-known-r : tie.Need-enum-known-r
 enum-known-r c = search rules
 
-same_length : tie.Need-same-length
-same_length c = search rules
+same_length_lem : tie.Need-same-length
+same_length_lem c = search rules
 
 returns : tie.Need-returns
 unfolding activate
@@ -32,4 +32,4 @@ unfolding activate
 returns-2 c = on-refused _ _ _ _ c.before.before.before.before.before.add-region.ensures _ c.before.r.given.1
 
 pub activate-region-spec : {M : Type 1} → statement M
-activate-region-spec = tie.close (tie.spec add-region-requires enum-known-marks notify-if-requires enum-known-r same_length returns same-length-2 returns-2)
+activate-region-spec = tie.close (tie.spec add-region-requires enum-known-marks notify-if-requires enum-known-r same_length_lem returns same-length-2 returns-2)

@@ -13,8 +13,8 @@ enum-known-i c = search rules
 enum_told : tie.Need-enum-told
 enum_told c = search rules
 
-same_length : tie.Need-same-length
-same_length c = search rules
+same_length_lem : tie.Need-same-length
+same_length_lem c = search rules
 
 returns : tie.Need-returns
 unfolding insert
@@ -28,4 +28,4 @@ unfolding insert
 returns-2 c = (rw (← c.before.before.before.before.insert-capa.ensures.0, c.enum_told.given.1), c.before.before.before.before.insert-capa.ensures.1)
 
 pub insert-spec : {M : Type 1} → statement M
-insert-spec = tie.close (tie.spec insert-capa-requires enum-known-i enum_told same_length returns same-length-2 returns-2)
+insert-spec = tie.close (tie.spec insert-capa-requires enum-known-i enum_told same_length_lem returns same-length-2 returns-2)

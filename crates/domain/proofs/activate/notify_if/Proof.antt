@@ -18,8 +18,8 @@ returns-2 c = rw (sym c.before.before.is-closing.ensures ∙ c.before.if1.false,
 notify-requires : tie.Need-notify-requires
 notify-requires c κs = search rules
 
-same_length : tie.Need-same-length
-same_length c = search rules
+same_length_lem : tie.Need-same-length
+same_length_lem c = search rules
 
 returns-3 : tie.Need-returns-3
 returns-3 c = rw (sym c.before.before.before.before.before.before.is-closing.ensures ∙ c.before.before.before.before.before.if1.false, ne_eqb _ _ c.before.before.before.before.if2.false) c.before.before.notify.ensures
@@ -27,4 +27,4 @@ returns-3 c = rw (sym c.before.before.before.before.before.before.is-closing.ens
 pub notify-if-spec : {M : Type 1} → statement M
 notify-if-spec =
     tie.close
-    (tie.spec is-closing-requires returns returns-2 notify-requires same_length returns-3)
+    (tie.spec is-closing-requires returns returns-2 notify-requires same_length_lem returns-3)

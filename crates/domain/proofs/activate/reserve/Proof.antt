@@ -11,12 +11,12 @@ has-capacity-for-requires c κs = search rules
 or-refused-requires : tie.Need-or-refused-requires
 or-refused-requires c κs = search rules
 
-same_length : tie.Need-same-length
-same_length c = search rules
+same_length_lem : tie.Need-same-length
+same_length_lem c = search rules
 
 returns : tie.Need-returns
 unfolding reserve
 returns c = (c.or-refused.ensures ∙ rw (c.before.before.before.has-capacity-for.ensures.0), c.before.before.before.has-capacity-for.ensures.1)
 
 pub reserve_spec : {M : Type 1} → statement M
-reserve_spec = tie.close (tie.spec has-capacity-for-requires or-refused-requires same_length returns)
+reserve_spec = tie.close (tie.spec has-capacity-for-requires or-refused-requires same_length_lem returns)

@@ -1,6 +1,6 @@
 -- Onward with the right half's link.
 use Rattle.region.proofs.Steps.{onward-done, onward-refused}
-use Rattle.region.specs.Turns.{cutEnd}
+use Rattle.region.specs.Turns.{cut_end}
 use borrow.Author.Rules.{rules}
 use Rattle.region.proofs.turns.cut_end.Statement.{statement}
 use Rattle.region.proofs.turns.cut_end.Tie as tie
@@ -17,18 +17,18 @@ enum-known-link c = search rules
 enum-known-r : tie.Need-enum-known-r
 enum-known-r c = search rules
 
-same_length : tie.Need-same-length
-same_length c = search rules
+same_length_lem : tie.Need-same-length
+same_length_lem c = search rules
 
 returns : tie.Need-returns
-unfolding cutEnd
+unfolding cut_end
 returns c = onward-done _ _ _ _ (rw c.before.before.before.before.before.before.slot-to.ensures at c.before.before.before.before.before.split-region-at.ensures) _ c.before.link.given.1
 
 same-length-2 : tie.Need-same-length-2
 same-length-2 c = search rules
 
 returns-2 : tie.Need-returns-2
-unfolding cutEnd
+unfolding cut_end
 returns-2 c = onward-refused _ _ _ _ (rw c.before.before.before.before.before.before.slot-to.ensures at c.before.before.before.before.before.split-region-at.ensures) _ c.before.r.given.1
 
 pub cut-end-spec : {M : Type 1} → statement M
@@ -39,7 +39,7 @@ cut-end-spec =
     split-region-at-requires
     enum-known-link
     enum-known-r
-    same_length
+    same_length_lem
     returns
     same-length-2
     returns-2)

@@ -3,7 +3,7 @@ use Prim.Native.Nat.{ℕ, ◌^◌}
 use mathlib.Core.Path.{◌≡◌, ap, ◌∙◌}
 use borrow.Author.Rules.{rules}
 use Rattle.rights.specs.Rights.{contains}
-use Rattle.rights.specs.Counters.{oneIf}
+use Rattle.rights.specs.Counters.{one_if}
 use Rattle.rights.specs.Bits.{bit}
 use Rattle.rights.specs.Laws.{contains-flag}
 use Rattle.rights.proofs.Rights.counters.Statement.{statement}
@@ -27,7 +27,7 @@ count-requires-5 c κs = search rules
 returns : tie.Need-returns
 returns c =
     let word = c.before.before.before.before.before.args.self.0 in
-    let flag : (k : ℕ) → oneIf (contains word (2 ^ k)) ≡ oneIf (bit k word) = λ k. ap oneIf (contains-flag k word) in
+    let flag : (k : ℕ) → one_if (contains word (2 ^ k)) ≡ one_if (bit k word) = λ k. ap one_if (contains-flag k word) in
     λ t. record {
       read_count = (c.before.before.before.before.count.ensures ∙ flag 0) t;
       write_count = (c.before.before.before.count2.ensures ∙ flag 1) t;

@@ -38,8 +38,8 @@ enum_told c = search rules
 bad-record-requires : tie.Need-bad-record-requires invariant-loop decreases-loop
 bad-record-requires c κs = search rules
 
-same_length : tie.Need-same-length invariant-loop decreases-loop
-same_length c = search rules
+same_length_lem : tie.Need-same-length invariant-loop decreases-loop
+same_length_lem c = search rules
 
 same-length-2 : tie.Need-same-length-2 invariant-loop decreases-loop
 same-length-2 c = search rules
@@ -96,7 +96,7 @@ run-records-spec =
     take-requires
     enum_told
     bad-record-requires
-    same_length
+    same_length_lem
     same-length-2
     returns
     enum-told-2

@@ -10,8 +10,8 @@ make-tables-requires c κs = search rules
 run-records-requires : tie.Need-run-records-requires
 run-records-requires c κs = search rules
 
-same_length : tie.Need-same-length
-same_length c = search rules
+same_length_lem : tie.Need-same-length
+same_length_lem c = search rules
 
 same-length-2 : tie.Need-same-length-2
 same-length-2 c = search rules
@@ -34,7 +34,7 @@ run-script-spec =
     (tie.spec
     make-tables-requires
     run-records-requires
-    same_length
+    same_length_lem
     same-length-2
     returns
     same-length-3

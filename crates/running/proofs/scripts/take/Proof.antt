@@ -30,8 +30,8 @@ returns c = left-short _ _ c.before.before.parse.ensures _ _ c.enum_told.given.1
 returns-2 : tie.Need-returns-2
 returns-2 c = left-bad _ _ c.before.before.parse.ensures _ _ c.enum-told2.given.1
 
-same_length : tie.Need-same-length
-same_length c = search rules
+same_length_lem : tie.Need-same-length
+same_length_lem c = search rules
 
 same-length-2 : tie.Need-same-length-2
 same-length-2 c = search rules
@@ -51,6 +51,6 @@ take_spec =
     size-of-requires
     returns
     returns-2
-    same_length
+    same_length_lem
     same-length-2
     returns-3)

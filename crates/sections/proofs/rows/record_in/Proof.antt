@@ -1,7 +1,7 @@
 -- The words are those of the row, or none.
 use Rattle.sections.specs.Rows.{row_is, no_row}
-use Rattle.sizes.specs.Sizes.{recordWidth}
-use Rattle.tables.specs.View.{recordOf}
+use Rattle.sizes.specs.Sizes.{record_width}
+use Rattle.tables.specs.View.{record_of}
 use mathlib.Core.Path.{◌∙◌}
 use borrow.Author.Rules.{rules}
 use Rattle.sections.proofs.rows.record_in.Statement.{statement}
@@ -17,10 +17,10 @@ no-record-requires : tie.Need-no-record-requires
 no-record-requires c κs = search rules
 
 returns : tie.Need-returns
-returns c = c.record_of.ensures ∙ row_is recordOf recordWidth _ _ _ c.before.before.row.ensures
+returns c = c.record_of.ensures ∙ row_is record_of record_width _ _ _ c.before.before.row.ensures
 
 returns-2 : tie.Need-returns-2
-returns-2 c = c.no_record.ensures ∙ no_row recordOf recordWidth _ _ _ c.before.before.row.ensures c.before.if1.false
+returns-2 c = c.no_record.ensures ∙ no_row record_of record_width _ _ _ c.before.before.row.ensures c.before.if1.false
 
 pub record-in-spec : {M : Type 1} → statement M
 record-in-spec =

@@ -1,5 +1,5 @@
 -- What is lent lies behind the domain's head.
-use Rattle.sections.specs.Rows.{slotIn}
+use Rattle.sections.specs.Rows.{slot_in}
 use Rattle.sections.specs.Slots.{domain-place-fits, slots-are, no-slots-lent}
 use Rattle.sizes.specs.declared.Sizes.{Sizes}
 use mathlib.Core.Path.{ap, ◌∙◌}
@@ -39,7 +39,7 @@ run-requires-2 : tie.Need-run-requires-2
 run-requires-2 c κs = search rules
 
 returns-2 : tie.Need-returns-2
-returns-2 c = ap slotIn c.run2.ensures ∙ no-slots-lent _ c.before.before.before.before.before.requires c.before.before.before.before.before.args.d (omega (arith, c.before.if1.false, ap (λ (z : Sizes). z.domains) c.before.before.before.read-sizes.ensures))
+returns-2 c = ap slot_in c.run2.ensures ∙ no-slots-lent _ c.before.before.before.before.before.requires c.before.before.before.before.before.args.d (omega (arith, c.before.if1.false, ap (λ (z : Sizes). z.domains) c.before.before.before.read-sizes.ensures))
 
 pub slots-of-spec : {M : Type 1} → statement M
 slots-of-spec =

@@ -1,6 +1,6 @@
 -- By what freeing answers.
 use mathlib.Core.Path.{refl}
-use Rattle.segment.specs.Regions.{freedRegion}
+use Rattle.segment.specs.Regions.{freed_region}
 use borrow.Author.Rules.{rules}
 use Rattle.segment.proofs.regions.free_region.Statement.{statement}
 use Rattle.segment.proofs.regions.free_region.Tie as tie
@@ -17,26 +17,26 @@ enum-told-2 c = search rules
 enum-told-3 : tie.Need-enum-told-3
 enum-told-3 c = search rules
 
-same_length : tie.Need-same-length
-same_length c = search rules
+same_length_lem : tie.Need-same-length
+same_length_lem c = search rules
 
 returns : tie.Need-returns
-unfolding freedRegion
+unfolding freed_region
 returns c = rw (← c.before.before.before.before.free-region.ensures.0, c.enum_told.given.1) (refl, c.before.before.before.before.free-region.ensures.1)
 
 same-length-2 : tie.Need-same-length-2
 same-length-2 c = search rules
 
 returns-2 : tie.Need-returns-2
-unfolding freedRegion
+unfolding freed_region
 returns-2 c = rw (← c.before.before.before.before.free-region.ensures.0, c.enum-told2.given.1) (refl, c.before.before.before.before.free-region.ensures.1)
 
 same-length-3 : tie.Need-same-length-3
 same-length-3 c = search rules
 
 returns-3 : tie.Need-returns-3
-unfolding freedRegion
+unfolding freed_region
 returns-3 c = rw (← c.before.before.before.before.free-region.ensures.0, c.enum-told3.given.1) (refl, c.before.before.before.before.free-region.ensures.1)
 
 pub free-region-spec : {M : Type 1} → statement M
-free-region-spec = tie.close (tie.spec free-region-requires enum_told enum-told-2 enum-told-3 same_length returns same-length-2 returns-2 same-length-3 returns-3)
+free-region-spec = tie.close (tie.spec free-region-requires enum_told enum-told-2 enum-told-3 same_length_lem returns same-length-2 returns-2 same-length-3 returns-3)

@@ -3,7 +3,7 @@ use lib.ListN.{length}
 use mathlib.Core.Path.{◌≡◌, refl, ◌∙◌}
 use Rattle.tables.specs.View.{view, Sized}
 use Rattle.answers.specs.Then.{same_step}
-use Rattle.segment.specs.Regions.{sendFrom}
+use Rattle.segment.specs.Regions.{send_from}
 use Rattle.segment.specs.Walks.{send-out, send-last, send-skip, send-on, send-refused}
 use borrow.Author.Rules.{rules}
 use native.Mathlib.Omega.{arith}
@@ -11,7 +11,7 @@ use Rattle.segment.proofs.send.send_from.Statement.{statement}
 use Rattle.segment.proofs.send.send_from.Tie as tie
 
 abbrev invariant-loop : tie.invariant-loop
-invariant-loop t₀ old new rights end limit start first left₀ x₀ k₀ t left x k = (length t ≡ length t₀) × Sized t × (sendFrom old new rights end left x k (view t) ≡ sendFrom old new rights end limit start first (view t₀))
+invariant-loop t₀ old new rights end limit start first left₀ x₀ k₀ t left x k = (length t ≡ length t₀) × Sized t × (send_from old new rights end left x k (view t) ≡ send_from old new rights end limit start first (view t₀))
 
 abbrev decreases-loop : tie.decreases-loop
 decreases-loop t₀ old new rights end limit start first left₀ x₀ k₀ t left x k = left
@@ -25,8 +25,8 @@ sub-left c = omega arith
 move-piece-requires : tie.Need-move-piece-requires invariant-loop decreases-loop
 move-piece-requires c κs = c.before.before.before.loop.invariant.1
 
-same_length : tie.Need-same-length invariant-loop decreases-loop
-same_length c = search rules
+same_length_lem : tie.Need-same-length invariant-loop decreases-loop
+same_length_lem c = search rules
 
 returns : tie.Need-returns invariant-loop decreases-loop
 returns c = same_step _ _ _ _ (send-last _ _ _ _ _ _ _ _ (omega arith) c.before.before.before.before.if1.true ∙ c.before.before.before.before.before.before.loop.invariant.2) c.before.before.move-piece.ensures
@@ -71,4 +71,4 @@ returns-3 : tie.Need-returns-3 invariant-loop decreases-loop
 returns-3 c = same_step _ _ _ _ c.before.loop.invariant.2 (send-out _ _ _ _ _ _ _ _ c.before.loop.invariant.1 (omega arith))
 
 pub send-from-spec : {M : Type 1} → statement M
-send-from-spec = tie.close (tie.spec invariant-loop decreases-loop loop-holds sub-left move-piece-requires same_length returns slot-to-requires load-region-requires loop-less loop-again move-piece-requires-2 enum-known-v loop-less-2 loop-again-2 enum-known-r same-length-2 returns-2 same-length-3 returns-3)
+send-from-spec = tie.close (tie.spec invariant-loop decreases-loop loop-holds sub-left move-piece-requires same_length_lem returns slot-to-requires load-region-requires loop-less loop-again move-piece-requires-2 enum-known-v loop-less-2 loop-again-2 enum-known-r same-length-2 returns-2 same-length-3 returns-3)

@@ -1,7 +1,7 @@
 -- The region with its new owner, then its ranges.
 use native.Mathlib.Numerals.{add-one}
-use Rattle.sizes.specs.Sizes.{sizesOf}
-use Rattle.segment.specs.Regions.{sendRegion}
+use Rattle.sizes.specs.Sizes.{sizes_of}
+use Rattle.segment.specs.Regions.{send_region}
 use Rattle.children.specs.Walks.{regions-read}
 use borrow.Author.Rules.{rules}
 use native.Mathlib.Omega.{arith}
@@ -12,7 +12,7 @@ size-requires : tie.Need-size-requires
 size-requires c κs = search rules
 
 add-limit : tie.Need-overflow-add-limit
-unfolding sizesOf
+unfolding sizes_of
 add-limit c = omega (arith, c.size.ensures, c.before.before.before.requires.limits.regions-high)
 
 load-region-requires : tie.Need-load-region-requires
@@ -30,12 +30,12 @@ slot-to-requires c κs = search rules
 send-from-requires : tie.Need-send-from-requires
 send-from-requires c κs = search rules
 
-same_length : tie.Need-same-length
-same_length c = search rules
+same_length_lem : tie.Need-same-length
+same_length_lem c = search rules
 
 returns : tie.Need-returns
-unfolding sendRegion
+unfolding send_region
 returns c = rw (c.before.before.before.slot-to.ensures, add-one, c.before.before.before.before.before.before.before.before.before.before.before.before.size.ensures, regions-read, c.before.before.before.before.before.before.before.store-region.ensures.seen, c.before.before.before.before.before.before.before.before.before.link-to.ensures, c.before.before.before.before.before.before.before.before.before.before.load-region.ensures) at c.before.before.send-from.ensures
 
 pub send-region-spec : {M : Type 1} → statement M
-send-region-spec = tie.close (tie.spec size-requires add-limit load-region-requires link-to-requires store-region-requires slot-to-requires send-from-requires same_length returns)
+send-region-spec = tie.close (tie.spec size-requires add-limit load-region-requires link-to-requires store-region-requires slot-to-requires send-from-requires same_length_lem returns)

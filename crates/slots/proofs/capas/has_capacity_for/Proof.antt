@@ -8,8 +8,8 @@ use Rattle.slots.proofs.capas.has_capacity_for.Tie as tie
 has-room-requires : tie.Need-has-room-requires
 has-room-requires c κs = search rules
 
-same_length : tie.Need-same-length
-same_length c = search rules
+same_length_lem : tie.Need-same-length
+same_length_lem c = search rules
 
 returns : tie.Need-returns
 returns c = capacity-kept _ _ _ c.before.has_room.ensures c.before.before.before.before.requires c.if1.true
@@ -37,7 +37,7 @@ has-capacity-for-spec =
     tie.close
     (tie.spec
     has-room-requires
-    same_length
+    same_length_lem
     returns
     load-list-requires
     free-invalid-capas-requires

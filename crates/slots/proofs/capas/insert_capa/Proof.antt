@@ -23,8 +23,8 @@ store-list-requires c κs = search rules
 enum_told : tie.Need-enum-told
 enum_told c = search rules
 
-same_length : tie.Need-same-length
-same_length c = search rules
+same_length_lem : tie.Need-same-length
+same_length_lem c = search rules
 
 returns : tie.Need-returns
 returns c = capa-inserted _ _ _ _ (c.before.before.before.before.before.before.before.before.before.give.ensures ∙ rw c.before.before.before.before.before.before.before.before.before.before.load-list.ensures) _ _ _ c.before.before.before.before.before.before.at.given.1 c.before.before.before.put.ensures c.before.before.store-list.ensures
@@ -45,7 +45,7 @@ insert-capa-spec =
     put-requires
     store-list-requires
     enum_told
-    same_length
+    same_length_lem
     returns
     same-length-2
     returns-2)

@@ -22,8 +22,8 @@ head-claim-requires c κs = search rules
 take-requires : tie.Need-take-requires
 take-requires c κs = search rules
 
-same_length : tie.Need-same-length
-same_length c = search rules
+same_length_lem : tie.Need-same-length
+same_length_lem c = search rules
 
 returns-2 : tie.Need-returns-2
 returns-2 c = row-used _ _ _ c.before.before.before.before.before.before.before.before.before.before.before.before.before.before.before.before.before.before.before.before.requires.1.1 _ _ _ _ _ _ (c.before.before.before.before.before.before.before.before.before.before.before.word.ensures) (c.before.before.before.before.before.before.before.before.before.before.if1.false) (c.before.before.before.before.before.before.before.before.before.slots-of.ensures) (c.before.before.before.before.before.before.before.list-walk.ensures) (c.before.before.before.head-claim.ensures) (c.before.before.take.ensures)
@@ -38,5 +38,5 @@ domain-walk-spec =
     list-walk-requires
     head-claim-requires
     take-requires
-    same_length
+    same_length_lem
     returns-2)

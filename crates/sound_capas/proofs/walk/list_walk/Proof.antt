@@ -1,9 +1,9 @@
 -- The rest of the slots from here, with the marks as they are, are the slots from the start.
 use Prim.Native.Nat.{◌-◌, ◌≤◌}
-use Rattle.capa_claims.specs.CapaClaims.{slotClaim}
-use Rattle.capa_claims.specs.Lent.{lent, listClaim}
+use Rattle.capa_claims.specs.CapaClaims.{slot_claim}
+use Rattle.capa_claims.specs.Lent.{lent, list_claim}
 use Rattle.claims.specs.Walk.{marking, taken, walked, walk_start, walk-go, walk_end}
-use Rattle.sections.specs.Rows.{slotIn}
+use Rattle.sections.specs.Rows.{slot_in}
 use borrow.Author.Rules.{rules}
 use lib.ListN.{length}
 use mathlib.Core.Path.{◌≡◌, refl, sym, ap, ◌∙◌}
@@ -12,7 +12,7 @@ use Rattle.sound_capas.proofs.walk.list_walk.Statement.{statement}
 use Rattle.sound_capas.proofs.walk.list_walk.Tie as tie
 
 abbrev invariant-loop : tie.invariant-loop
-invariant-loop m₀ z rl rg r dl dg p s d seen₀ j₀ m seen j = (j ≤ z.slots) × (length m ≡ length m₀) × (walked (listClaim (lent z rl rg r dl dg p) d (slotIn s)) z.slots 0 (marking m₀ seen₀) ≡ walked (listClaim (lent z rl rg r dl dg p) d (slotIn s)) (z.slots - j) j (marking m seen))
+invariant-loop m₀ z rl rg r dl dg p s d seen₀ j₀ m seen j = (j ≤ z.slots) × (length m ≡ length m₀) × (walked (list_claim (lent z rl rg r dl dg p) d (slot_in s)) z.slots 0 (marking m₀ seen₀) ≡ walked (list_claim (lent z rl rg r dl dg p) d (slot_in s)) (z.slots - j) j (marking m seen))
 
 abbrev decreases-loop : tie.decreases-loop
 decreases-loop m₀ z rl rg r dl dg p s d seen₀ j₀ m seen j = z.slots - j
@@ -36,10 +36,10 @@ loop-less : tie.Need-loop-smaller invariant-loop decreases-loop
 loop-less c = omega arith
 
 loop-again : tie.Need-loop-preserved invariant-loop decreases-loop
-loop-again c = (omega arith, c.before.before.take.auto.0 ∙ c.before.before.before.before.before.before.before.before.loop.invariant.1, c.before.before.before.before.before.before.before.before.loop.invariant.2 ∙ walk-go _ _ _ _ _ (c.before.before.before.before.before.before.if1.true) (c.before.before.take.ensures ∙ ap (taken _) (c.before.before.before.before.slot-claim.ensures ∙ ap (slotClaim _ _) (c.before.before.before.before.before.slot-in.ensures))))
+loop-again c = (omega arith, c.before.before.take.auto.0 ∙ c.before.before.before.before.before.before.before.before.loop.invariant.1, c.before.before.before.before.before.before.before.before.loop.invariant.2 ∙ walk-go _ _ _ _ _ (c.before.before.before.before.before.before.if1.true) (c.before.before.take.ensures ∙ ap (taken _) (c.before.before.before.before.slot-claim.ensures ∙ ap (slot_claim _ _) (c.before.before.before.before.before.slot-in.ensures))))
 
-same_length : tie.Need-same-length invariant-loop decreases-loop
-same_length c = c.before.before.loop.invariant.1
+same_length_lem : tie.Need-same-length invariant-loop decreases-loop
+same_length_lem c = c.before.before.loop.invariant.1
 
 returns : tie.Need-returns invariant-loop decreases-loop
 returns c = sym (c.before.before.loop.invariant.2 ∙ walk_end _ _ _ _ (c.if1.false))
@@ -57,5 +57,5 @@ list-walk-spec =
     add-j
     loop-less
     loop-again
-    same_length
+    same_length_lem
     returns)

@@ -1,7 +1,7 @@
 -- The rest of the domains from here, with the marks as they are, are the domains from the start.
 use Prim.Native.Nat.{◌+◌, ◌-◌, ◌≤◌}
-use Rattle.sound_capas.specs.Capas.{rowClaim}
-use Rattle.claims.specs.Walk.{marking, rowsWalked, rows_start, rows-go, rows_end}
+use Rattle.sound_capas.specs.Capas.{row_claim}
+use Rattle.claims.specs.Walk.{marking, rows_walked, rows_start, rows-go, rows_end}
 use Rattle.tables.specs.View.{view}
 use lib.ListN.{length}
 use mathlib.Core.Path.{◌≡◌, refl, sym, ◌∙◌}
@@ -11,7 +11,7 @@ use Rattle.sound_capas.proofs.walk.walk.Statement.{statement}
 use Rattle.sound_capas.proofs.walk.walk.Tie as tie
 
 abbrev invariant-loop : tie.invariant-loop
-invariant-loop m₀ want t z rl rg r dl dg p seen₀ d₀ m seen d = (d ≤ z.domains) × (length m ≡ length m₀) × (rowsWalked (rowClaim (view t)) (z.slots + 1) z.domains 0 (marking m₀ (record { fits = true; left = want })) ≡ rowsWalked (rowClaim (view t)) (z.slots + 1) (z.domains - d) d (marking m seen))
+invariant-loop m₀ want t z rl rg r dl dg p seen₀ d₀ m seen d = (d ≤ z.domains) × (length m ≡ length m₀) × (rows_walked (row_claim (view t)) (z.slots + 1) z.domains 0 (marking m₀ (record { fits = true; left = want })) ≡ rows_walked (row_claim (view t)) (z.slots + 1) (z.domains - d) d (marking m seen))
 
 abbrev decreases-loop : tie.decreases-loop
 decreases-loop m₀ want t z rl rg r dl dg p seen₀ d₀ m seen d = z.domains - d
@@ -31,8 +31,8 @@ loop-less c = omega arith
 loop-again : tie.Need-loop-preserved invariant-loop decreases-loop
 loop-again c = (omega arith, c.before.before.domain-walk.auto.0 ∙ c.before.before.before.before.before.before.loop.invariant.1, c.before.before.before.before.before.before.loop.invariant.2 ∙ rows-go _ _ _ _ _ _ (c.before.before.before.before.if1.true) (c.before.before.domain-walk.ensures))
 
-same_length : tie.Need-same-length invariant-loop decreases-loop
-same_length c = c.before.before.loop.invariant.1
+same_length_lem : tie.Need-same-length invariant-loop decreases-loop
+same_length_lem c = c.before.before.loop.invariant.1
 
 returns : tie.Need-returns invariant-loop decreases-loop
 returns c = sym (c.before.before.loop.invariant.2 ∙ rows_end _ _ _ _ _ (c.if1.false))
@@ -48,5 +48,5 @@ walk-spec =
     add-d
     loop-less
     loop-again
-    same_length
+    same_length_lem
     returns)

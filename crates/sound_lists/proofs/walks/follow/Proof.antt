@@ -44,8 +44,8 @@ is-marked-requires c κs = search rules
 both-requires-2 : tie.Need-both-requires-2 invariant-loop decreases-loop
 both-requires-2 c κs = search rules
 
-same_length : tie.Need-same-length invariant-loop decreases-loop
-same_length c = c.before.before.before.before.before.before.before.loop.invariant.0
+same_length_lem : tie.Need-same-length invariant-loop decreases-loop
+same_length_lem c = c.before.before.before.before.before.before.before.loop.invariant.0
 
 returns : tie.Need-returns invariant-loop decreases-loop
 returns c = follow-stop (view c.before.before.before.before.before.before.before.before.before.before.before.before.before.args.t.now) _ _ _ _ _ _ _ _ c.before.before.before.before.before.before.before.loop.invariant.1 _ c.before.before.before.before.before.before.both.ensures c.before.before.before.before.before.if1.true _ _ _ (step_is (view c.before.before.before.before.before.before.before.before.before.before.before.before.before.args.t.now) c.before.before.before.before.before.before.before.before.before.before.before.before.before.args.s _ _ _ (c.before.before.before.before.before.before.before.loop.l - 1) _ c.before.before.before.before.before.before.before.before.before.words_of.ensures c.before.before.before.before.before.before.before.before.records-of.ensures c.before.before.before.before.before.before.before.before.before.before.slots-of.ensures c.before.before.before.before.step-at.ensures) c.before.before.is-marked.ensures c.before.both2.ensures (not-true _ c.if2.true)
@@ -83,7 +83,7 @@ follow-spec =
     step-at-requires
     is-marked-requires
     both-requires-2
-    same_length
+    same_length_lem
     returns
     mark-requires
     add-followed

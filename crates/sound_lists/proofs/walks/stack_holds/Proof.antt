@@ -21,8 +21,8 @@ follow-requires c κs = search rules
 settle-requires : tie.Need-settle-requires
 settle-requires c κs = search rules
 
-same_length : tie.Need-same-length
-same_length c = search rules
+same_length_lem : tie.Need-same-length
+same_length_lem c = search rules
 
 returns : tie.Need-returns
 returns c = stack_is c.before.before.before.before.before.before.before.before.before.before.before.before.before.before.args.t.now c.before.before.before.before.before.before.before.before.before.before.before.before.before.before.args.w.now c.before.before.before.before.before.before.before.before.before.before.before.before.before.before.requires.1 c.before.before.before.before.before.before.before.before.before.before.before.before.before.before.args.s _ _ c.before.before.before.before.before.before.before.before.before.before.before.slots-of.ensures c.before.before.before.before.before.before.before.before.before.before.top_of.ensures _ _ _ _ _ c.before.before.before.before.before.before.before.before.before.if1.true c.before.before.before.before.before.before.before.before.link-to.ensures c.before.before.before.before.before.before.follow.ensures c.before.before.before.before.before.before.follow.auto.1.1.1.1.1.0 c.before.before.settle.ensures
@@ -39,6 +39,6 @@ stack-holds-spec =
     link-to-requires
     follow-requires
     settle-requires
-    same_length
+    same_length_lem
     returns
     returns-2)

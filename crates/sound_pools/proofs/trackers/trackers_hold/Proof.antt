@@ -10,12 +10,12 @@ follow-trackers-requires c κs = search rules
 settle-requires : tie.Need-settle-requires
 settle-requires c κs = search rules
 
-same_length : tie.Need-same-length
-same_length c = search rules
+same_length_lem : tie.Need-same-length
+same_length_lem c = search rules
 
 returns : tie.Need-returns
 returns c = trackers-is c.before.before.before.before.before.before.before.before.before.before.args.t.now c.before.before.before.before.before.before.before.before.before.before.args.w.now c.before.before.before.before.before.before.before.before.before.before.requires.1 _ _ _ _ c.before.before.before.before.before.before.follow-trackers.ensures c.before.before.before.before.before.before.follow-trackers.auto.1.0 c.before.before.settle.ensures
 
 pub trackers-hold-spec : {M : Type 1} → statement M
 trackers-hold-spec =
-    tie.close (tie.spec follow-trackers-requires settle-requires same_length returns)
+    tie.close (tie.spec follow-trackers-requires settle-requires same_length_lem returns)

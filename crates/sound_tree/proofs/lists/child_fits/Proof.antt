@@ -1,5 +1,5 @@
 -- Each test is what its definition says.
-use Rattle.sound_tree.specs.Tree.{childFits}
+use Rattle.sound_tree.specs.Tree.{child_fits}
 use borrow.Author.Rules.{rules}
 use Rattle.sound_tree.proofs.lists.child_fits.Statement.{statement}
 use Rattle.sound_tree.proofs.lists.child_fits.Tie as tie
@@ -14,7 +14,7 @@ both-requires-2 : tie.Need-both-requires-2
 both-requires-2 c κs = search rules
 
 returns : tie.Need-returns
-unfolding childFits
+unfolding child_fits
 returns c = cc
 
 pub child-fits-spec : {M : Type 1} → statement M

@@ -2,14 +2,14 @@
 use mathlib.Core.Path.{◌≡◌, ◌∙◌}
 use native.Mathlib.Omega.{arith}
 use Prim.Native.Nat.{◌-◌, ◌≤◌}
-use Rattle.sections.specs.Rows.{regionIn}
-use Rattle.sound_tree.specs.Tree.{listsFrom}
+use Rattle.sections.specs.Rows.{region_in}
+use Rattle.sound_tree.specs.Tree.{lists_from}
 use Rattle.sound_tree.specs.Turns.{walked-few, lists-turn, lists-stop, lists-end}
 use Rattle.sound_tree.proofs.lists.lists_hold.Statement.{statement}
 use Rattle.sound_tree.proofs.lists.lists_hold.Tie as tie
 
 abbrev invariant-loop : tie.invariant-loop
-invariant-loop p n many left₀ i₀ left i = (i ≤ n) × (left ≤ 1024) × (listsFrom (regionIn p) left (n - i) i ≡ listsFrom (regionIn p) many n 0)
+invariant-loop p n many left₀ i₀ left i = (i ≤ n) × (left ≤ 1024) × (lists_from (region_in p) left (n - i) i ≡ lists_from (region_in p) many n 0)
 
 abbrev decreases-loop : tie.decreases-loop
 decreases-loop p n many left₀ i₀ left i = n - i

@@ -4,14 +4,14 @@ use borrow.Author.Rules.{rules}
 use native.Mathlib.Omega.{arith}
 use borrow.Author.Tests.{not-true, not-false}
 use Prim.Native.Nat.{◌<◌, ◌≤◌}
-use Rattle.sections.specs.Rows.{regionIn}
-use Rattle.sound_tree.specs.Tree.{walkFrom, walked}
+use Rattle.sections.specs.Rows.{region_in}
+use Rattle.sound_tree.specs.Tree.{walk_from, walked}
 use Rattle.sound_tree.specs.Turns.{walk_turn, walk-stop, walk-full, walk_end}
 use Rattle.sound_tree.proofs.lists.walk.Statement.{statement}
 use Rattle.sound_tree.proofs.lists.walk.Tie as tie
 
 abbrev invariant-loop : tie.invariant-loop
-invariant-loop p left k own link₀ n₀ s₀ link n s = (n ≤ left) × (walkFrom (regionIn p) own n link s ≡ walked (regionIn p) left k)
+invariant-loop p left k own link₀ n₀ s₀ link n s = (n ≤ left) × (walk_from (region_in p) own n link s ≡ walked (region_in p) left k)
 
 abbrev decreases-loop : tie.decreases-loop
 decreases-loop p left k own link₀ n₀ s₀ link n s = n

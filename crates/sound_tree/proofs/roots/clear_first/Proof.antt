@@ -16,8 +16,8 @@ part-clear-end c = search rules
 clear-requires : tie.Need-clear-requires
 clear-requires c κs = search rules
 
-same_length : tie.Need-same-length
-same_length c = search rules
+same_length_lem : tie.Need-same-length
+same_length_lem c = search rules
 
 returns : tie.Need-returns
 returns c = first-cleared _ _ _ c.before.before.before.before.before.requires c.before.before.clear.ensures
@@ -25,4 +25,4 @@ returns c = first-cleared _ _ _ c.before.before.before.before.before.requires c.
 pub clear-first-spec : {M : Type 1} → statement M
 clear-first-spec =
     tie.close
-    (tie.spec sub-clear part-clear-start part-clear-end clear-requires same_length returns)
+    (tie.spec sub-clear part-clear-start part-clear-end clear-requires same_length_lem returns)

@@ -2,14 +2,14 @@
 use mathlib.Core.Path.{◌≡◌, refl, ◌∙◌}
 use borrow.Author.Rules.{rules}
 use native.Mathlib.Omega.{arith}
-use Rattle.sections.specs.Rows.{regionIn}
-use Rattle.sound_tree.specs.Tree.{climbFrom}
+use Rattle.sections.specs.Rows.{region_in}
+use Rattle.sound_tree.specs.Tree.{climb_from}
 use Rattle.sound_tree.specs.Ways.{climb-turn, climb-stop, climb-end}
 use Rattle.sound_tree.proofs.roots.climb.Statement.{statement}
 use Rattle.sound_tree.proofs.roots.climb.Tie as tie
 
 abbrev invariant-loop : tie.invariant-loop
-invariant-loop p w n i j₀ left₀ j left = climbFrom (regionIn p) w left j ≡ climbFrom (regionIn p) w n i
+invariant-loop p w n i j₀ left₀ j left = climb_from (region_in p) w left j ≡ climb_from (region_in p) w n i
 
 abbrev decreases-loop : tie.decreases-loop
 decreases-loop p w n i j₀ left₀ j left = left

@@ -2,15 +2,15 @@
 use mathlib.Core.Path.{◌≡◌, refl, ◌∙◌}
 use borrow.Author.Rules.{rules}
 use native.Mathlib.Omega.{arith}
-use Rattle.sections.specs.Rows.{regionIn}
+use Rattle.sections.specs.Rows.{region_in}
 use lib.ListN.{length}
-use Rattle.sound_tree.specs.Tree.{markFrom}
+use Rattle.sound_tree.specs.Tree.{mark_from}
 use Rattle.sound_tree.specs.Ways.{mark-turn, mark-stop, mark-end}
 use Rattle.sound_tree.proofs.roots.mark.Statement.{statement}
 use Rattle.sound_tree.proofs.roots.mark.Tie as tie
 
 abbrev invariant-loop : tie.invariant-loop
-invariant-loop p w₀ n i j₀ left₀ w j left = (length w ≡ length w₀) × (markFrom (regionIn p) w left j ≡ markFrom (regionIn p) w₀ n i)
+invariant-loop p w₀ n i j₀ left₀ w j left = (length w ≡ length w₀) × (mark_from (region_in p) w left j ≡ mark_from (region_in p) w₀ n i)
 
 abbrev decreases-loop : tie.decreases-loop
 decreases-loop p w₀ n i j₀ left₀ w j left = left
@@ -21,8 +21,8 @@ loop-holds c = (refl, refl)
 stops-at-requires : tie.Need-stops-at-requires invariant-loop decreases-loop
 stops-at-requires c κs = search rules
 
-same_length : tie.Need-same-length invariant-loop decreases-loop
-same_length c = c.before.before.before.before.loop.invariant.0
+same_length_lem : tie.Need-same-length invariant-loop decreases-loop
+same_length_lem c = c.before.before.before.before.loop.invariant.0
 
 returns : tie.Need-returns invariant-loop decreases-loop
 returns c = mark-stop _ _ _ _ c.before.stops_at.ensures _ c.before.before.before.loop-test.true c.if1.true ∙ c.before.before.before.before.loop.invariant.1
@@ -56,7 +56,7 @@ mark_spec =
     decreases-loop
     loop-holds
     stops-at-requires
-    same_length
+    same_length_lem
     returns
     put-requires
     parent-of-requires

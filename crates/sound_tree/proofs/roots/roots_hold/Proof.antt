@@ -4,15 +4,15 @@ use borrow.Author.Rules.{rules}
 use native.Mathlib.Omega.{arith}
 use borrow.Author.Tests.{not-true, not-false}
 use Prim.Native.Nat.{◌-◌, ◌≤◌}
-use Rattle.sections.specs.Rows.{regionIn}
+use Rattle.sections.specs.Rows.{region_in}
 use lib.ListN.{length}
-use Rattle.sound_tree.specs.Tree.{rootedFrom, marksFrom}
+use Rattle.sound_tree.specs.Tree.{rooted_from, marks_from}
 use Rattle.sound_tree.specs.Ways.{roots-turn, roots-stop, roots-end, marks-turn, marks-stop, marks-end}
 use Rattle.sound_tree.proofs.roots.roots_hold.Statement.{statement}
 use Rattle.sound_tree.proofs.roots.roots_hold.Tie as tie
 
 abbrev invariant-loop : tie.invariant-loop
-invariant-loop p w₀ n i₀ w i = (i ≤ n) × (length w ≡ length w₀) × (rootedFrom (regionIn p) n w (n - i) i ≡ rootedFrom (regionIn p) n w₀ n 0) × (marksFrom (regionIn p) n w (n - i) i ≡ marksFrom (regionIn p) n w₀ n 0)
+invariant-loop p w₀ n i₀ w i = (i ≤ n) × (length w ≡ length w₀) × (rooted_from (region_in p) n w (n - i) i ≡ rooted_from (region_in p) n w₀ n 0) × (marks_from (region_in p) n w (n - i) i ≡ marks_from (region_in p) n w₀ n 0)
 
 abbrev decreases-loop : tie.decreases-loop
 decreases-loop p w₀ n i₀ w i = n - i
@@ -23,8 +23,8 @@ loop-holds c = let k : (c.before.before.args.n) - 0 ≡ c.before.before.args.n =
 climb-requires : tie.Need-climb-requires invariant-loop decreases-loop
 climb-requires c κs = search rules
 
-same_length : tie.Need-same-length invariant-loop decreases-loop
-same_length c = c.before.before.before.before.loop.invariant.1
+same_length_lem : tie.Need-same-length invariant-loop decreases-loop
+same_length_lem c = c.before.before.before.before.loop.invariant.1
 
 returns : tie.Need-returns invariant-loop decreases-loop
 returns c = (roots-stop _ _ _ _ _ c.before.before.before.loop-test.true c.before.climb.ensures (not-true _ c.if1.true) ∙ c.before.before.before.before.loop.invariant.2, marks-stop _ _ _ _ _ c.before.before.before.loop-test.true c.before.climb.ensures (not-true _ c.if1.true) ∙ c.before.before.before.before.loop.invariant.3)
@@ -55,7 +55,7 @@ roots-hold-spec =
     decreases-loop
     loop-holds
     climb-requires
-    same_length
+    same_length_lem
     returns
     mark-requires
     add-i

@@ -5,14 +5,14 @@ use native.Mathlib.Omega.{arith}
 use borrow.Author.Tests.{not-true, not-false}
 use Prim.Native.Nat.{◌-◌, ◌≤◌}
 use lib.Dec.{ltb}
-use Rattle.sections.specs.Rows.{regionIn}
-use Rattle.sound_tree.specs.Tree.{countFrom}
+use Rattle.sections.specs.Rows.{region_in}
+use Rattle.sound_tree.specs.Tree.{count_from}
 use Rattle.sound_tree.specs.Turns.{one-few, count_turn, count-stop, count-end}
 use Rattle.sound_tree.proofs.rows.count_children.Statement.{statement}
 use Rattle.sound_tree.proofs.rows.count_children.Tie as tie
 
 abbrev invariant-loop : tie.invariant-loop
-invariant-loop links p n many₀ i₀ many i = (i ≤ n) × (many ≤ i) × (countFrom links (regionIn p) many (n - i) i ≡ countFrom links (regionIn p) 0 n 0)
+invariant-loop links p n many₀ i₀ many i = (i ≤ n) × (many ≤ i) × (count_from links (region_in p) many (n - i) i ≡ count_from links (region_in p) 0 n 0)
 
 abbrev decreases-loop : tie.decreases-loop
 decreases-loop links p n many₀ i₀ many i = n - i

@@ -1,5 +1,5 @@
 -- Each test is what its definition says.
-use Rattle.sound_tree.specs.Tree.{inParent}
+use Rattle.sound_tree.specs.Tree.{in_parent}
 use borrow.Author.Rules.{rules}
 use Rattle.sound_tree.proofs.rows.in_parent.Statement.{statement}
 use Rattle.sound_tree.proofs.rows.in_parent.Tie as tie
@@ -14,7 +14,7 @@ both-requires-2 : tie.Need-both-requires-2
 both-requires-2 c κs = search rules
 
 returns : tie.Need-returns
-unfolding inParent
+unfolding in_parent
 returns c = cc
 
 pub in-parent-spec : {M : Type 1} → statement M

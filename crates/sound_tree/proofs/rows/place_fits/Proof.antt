@@ -1,6 +1,6 @@
 -- A root and another region.
 use borrow.Author.Tests.{eq-eqb, ne_eqb}
-use Rattle.sound_tree.specs.Tree.{placeFits}
+use Rattle.sound_tree.specs.Tree.{place_fits}
 use borrow.Author.Rules.{rules}
 use Rattle.sound_tree.proofs.rows.place_fits.Statement.{statement}
 use Rattle.sound_tree.proofs.rows.place_fits.Tie as tie
@@ -15,11 +15,11 @@ both-requires-2 : tie.Need-both-requires-2
 both-requires-2 c κs = search rules
 
 returns : tie.Need-returns
-unfolding placeFits
+unfolding place_fits
 returns c = rw (eq-eqb _ _ c.before.before.before.if1.true) c.both.ensures
 
 returns-2 : tie.Need-returns-2
-unfolding placeFits
+unfolding place_fits
 returns-2 c = rw (ne_eqb _ _ c.before.before.before.if1.false, ← c.before.in-parent.ensures) c.both2.ensures
 
 pub place-fits-spec : {M : Type 1} → statement M

@@ -1,11 +1,11 @@
 -- A free slot, or the tests of the row.
-use Rattle.sound_tree.specs.Tree.{regionFits}
+use Rattle.sound_tree.specs.Tree.{region_fits}
 use borrow.Author.Rules.{rules}
 use Rattle.sound_tree.proofs.rows.region_fits.Statement.{statement}
 use Rattle.sound_tree.proofs.rows.region_fits.Tie as tie
 
 returns : tie.Need-returns
-unfolding regionFits
+unfolding region_fits
 returns c = rw c.if1.true
 
 slot-to-requires : tie.Need-slot-to-requires
@@ -24,7 +24,7 @@ both-requires : tie.Need-both-requires
 both-requires c κs = search rules
 
 returns-2 : tie.Need-returns-2
-unfolding regionFits
+unfolding region_fits
 returns-2 c = rw c.before.before.before.before.before.if1.false (cc)
 
 pub region-fits-spec : {M : Type 1} → statement M

@@ -1,5 +1,5 @@
 -- Each test is what its definition says.
-use Rattle.sound_tree.specs.Tree.{rowFits}
+use Rattle.sound_tree.specs.Tree.{row_fits}
 use borrow.Author.Rules.{rules}
 use Rattle.sound_tree.proofs.rows.row_fits.Statement.{statement}
 use Rattle.sound_tree.proofs.rows.row_fits.Tie as tie
@@ -17,7 +17,7 @@ both-requires-4 : tie.Need-both-requires-4
 both-requires-4 c κs = search rules
 
 returns : tie.Need-returns
-unfolding rowFits
+unfolding row_fits
 returns c = cc
 
 pub row-fits-spec : {M : Type 1} → statement M

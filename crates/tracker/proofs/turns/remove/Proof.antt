@@ -1,5 +1,5 @@
 -- No record is at hand, or one.
-use Rattle.tracker.specs.Walks.{removeTurn}
+use Rattle.tracker.specs.Walks.{remove_turn}
 use borrow.Author.Rules.{rules}
 use borrow.Author.Tests.{eq-eqb, ne_eqb}
 use mathlib.Core.Path.{refl}
@@ -8,7 +8,7 @@ use Rattle.tracker.proofs.turns.remove.Statement.{statement}
 use Rattle.tracker.proofs.turns.remove.Tie as tie
 
 returns : tie.Need-returns
-unfolding removeTurn
+unfolding remove_turn
 returns c = rw (eq-eqb _ _ c.if1.true) (refl, stays _ c.before.before.before.requires)
 
 slot-to-requires : tie.Need-slot-to-requires
@@ -20,12 +20,12 @@ load-record-requires c κs = search rules
 remove-at-requires : tie.Need-remove-at-requires
 remove-at-requires c κs = search rules
 
-same_length : tie.Need-same-length
-same_length c = search rules
+same_length_lem : tie.Need-same-length
+same_length_lem c = search rules
 
 returns-2 : tie.Need-returns-2
-unfolding removeTurn
+unfolding remove_turn
 returns-2 c = rw (ne_eqb _ _ c.before.before.before.before.before.before.before.if1.false) (rw (c.before.before.before.before.load-record.ensures, c.before.before.before.before.before.slot-to.ensures) at c.before.before.remove-at.ensures)
 
 pub remove-spec : {M : Type 1} → statement M
-remove-spec = tie.close (tie.spec returns slot-to-requires load-record-requires remove-at-requires same_length returns-2)
+remove-spec = tie.close (tie.spec returns slot-to-requires load-record-requires remove-at-requires same_length_lem returns-2)

@@ -21,8 +21,8 @@ enum-told-3 c = search rules
 merge-requires : tie.Need-merge-requires
 merge-requires c κs = search rules
 
-same_length : tie.Need-same-length
-same_length c = search rules
+same_length_lem : tie.Need-same-length
+same_length_lem c = search rules
 
 returns : tie.Need-returns
 returns c = rw c.before.before.before.before.enum_told.given.1 c.before.before.add.ensures
@@ -49,7 +49,7 @@ turn_spec =
     remove-requires
     enum-told-3
     merge-requires
-    same_length
+    same_length_lem
     returns
     same-length-2
     returns-2

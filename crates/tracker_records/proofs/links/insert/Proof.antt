@@ -23,8 +23,8 @@ set-next-requires c κs = search rules
 enum_told : tie.Need-enum-told
 enum_told c = search rules
 
-same_length : tie.Need-same-length
-same_length c = search rules
+same_length_lem : tie.Need-same-length
+same_length_lem c = search rules
 
 returns : tie.Need-returns
 unfolding inserted
@@ -47,7 +47,7 @@ insert-spec =
     link-to-requires
     set-next-requires
     enum_told
-    same_length
+    same_length_lem
     returns
     same-length-2
     returns-2)

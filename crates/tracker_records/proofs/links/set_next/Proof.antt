@@ -23,8 +23,8 @@ bounded-requires c κs = search rules
 store-record-requires : tie.Need-store-record-requires
 store-record-requires c κs = search rules
 
-same_length : tie.Need-same-length
-same_length c = search rules
+same_length_lem : tie.Need-same-length
+same_length_lem c = search rules
 
 returns : tie.Need-returns
 unfolding with_next
@@ -47,7 +47,7 @@ set-next-spec =
     load-record-requires
     bounded-requires
     store-record-requires
-    same_length
+    same_length_lem
     returns
     same-length-2
     returns-2)

@@ -29,8 +29,8 @@ store-record-requires-2 c κs = search rules
 enum_told : tie.Need-enum-told
 enum_told c = search rules
 
-same_length : tie.Need-same-length
-same_length c = search rules
+same_length_lem : tie.Need-same-length
+same_length_lem c = search rules
 
 returns : tie.Need-returns
 unfolding split
@@ -55,7 +55,7 @@ split-region-at-spec =
     bounded-requires
     store-record-requires-2
     enum_told
-    same_length
+    same_length_lem
     returns
     same-length-2
     returns-2)

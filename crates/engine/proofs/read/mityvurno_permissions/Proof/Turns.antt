@@ -42,7 +42,7 @@ use denote.Signature.{plain}
 use Rattle.tables.specs.View.{view, Sized}
 use Rattle.readings.specs.declared.Permission.{Permission}
 use Rattle.readings.specs.declared.Found.{Found}
-use Rattle.readings.specs.Readings.{foundAt}
+use Rattle.readings.specs.Readings.{found_at}
 use Rattle.readings.specs.Listing.{link_at, run_at, run_length}
 use Rattle.readings.proofs.Asked.{FoundAt, found-said, to-found, goes-found}
 use Rattle.readings.proofs.Counted.{counted}
@@ -113,7 +113,7 @@ module _ {M : Type 1} {𝓤 : Ura M} (𝓛 : Logic 𝓤) (mem : Memory → SProp
     ys k = run_at (view t.now) pl.at xs k
 
     abbrev found : ℕ → Found
-    found k = foundAt (view t.now) (at k)
+    found k = found_at (view t.now) (at k)
 
     -- the reply is a field of the listing
     reply-is : Is P.the_row pl (LL.vals P.the_type P'.the_laws pl) → Is R.the_row pl.reply (LL.vals R.the_type R'.the_laws pl.reply)
@@ -124,17 +124,17 @@ module _ {M : Type 1} {𝓤 : Ura M} (𝓛 : Logic 𝓤) (mem : Memory → SProp
         → ent 𝓤 (⋆ 𝓛 (‵ (fobs γ ((coded_holeys T.the_row).code (heres T.the_row (ys m)))) ∷ ‵ (fbor κ'' (Held T.the_row (length (ys m)) b o γ)) ∷ ‵ (flft κ'' q'') ∷ ‵ (flft κ q) ∷ ‵ Own ∷ ‵ (flft κ' q') ∷ ‵ (finally u64 wγ w₂) ∷ [])) (Post (LL.val R.the_type R'.the_laws pl.reply))
     exits is dom-fits gen-fits room =
         qed 𝓛 (‵ (fobs γ ((coded_holeys T.the_row).code (heres T.the_row (ys m)))) ∷ ‵ (fbor κ'' (Held T.the_row (length (ys m)) b o γ)) ∷ ‵ (flft κ'' q'') ∷ ‵ (flft κ q) ∷ ‵ Own ∷ ‵ (flft κ' q') ∷ ‵ (finally u64 wγ w₂) ∷ []) ∵
-        suffices ! _ (ends_at 𝓛 permissions.ended stayed (permissions.clauses 𝓛 mem run) (((κ, (κ', (κ'', tt))), (q, (q', (q'', tt))), tt, a, vals), tt) (LL.val R.the_type R'.the_laws pl.reply) pl.reply (tt, (w₂, (tt, (tt, (ys m, tt))))) (tt, (w-same, (tt, (tt, (same_length, tt)))))) $
+        suffices ! _ (ends_at 𝓛 permissions.ended stayed (permissions.clauses 𝓛 mem run) (((κ, (κ', (κ'', tt))), (q, (q', (q'', tt))), tt, a, vals), tt) (LL.val R.the_type R'.the_laws pl.reply) pl.reply (tt, (w₂, (tt, (tt, (ys m, tt))))) (tt, (w-same, (tt, (tt, (same_length_lem, tt)))))) $
         says ! (plans.lists xs refl, (dom-fits, gen-fits), (plans.lists xs refl, refl)) $
         nothing ! $ move ! (3 ∷ 0 ∷ []) $ join ! $ move ! (5 ∷ 0 ∷ []) $ join ! $ move ! (3 ∷ 0 ∷ []) $ join ! $ frame ! $
         -- [obs; the borrow; what t owns; w's last list]
-        fjoin ! $ pure_i ! (mut_slice_at T.the_row (x (ys m)) (s ∷ [])) (tt, (tt, tt)) (ap (λ (l : ℕ). slice_val (b, o) l ∷ []) (sym same_length), subst (Room T.the_row) (sym same_length) room) $ fjoin ! $
+        fjoin ! $ pure_i ! (mut_slice_at T.the_row (x (ys m)) (s ∷ [])) (tt, (tt, tt)) (ap (λ (l : ℕ). slice_val (b, o) l ∷ []) (sym same_length_lem), subst (Room T.the_row) (sym same_length_lem) room) $ fjoin ! $
         nothing ! $ move ! (1 ∷ 0 ∷ []) $ fjoin ! $ owned ! u64 (Is u64) (uint_Makes 𝓛 w64) gen _ (refl, gen-fits) $ fjoin ! $ owned ! u64 (Is u64) (uint_Makes 𝓛 w64) dom _ (refl, dom-fits) $ fjoin ! $
         move ! (2 ∷ 0 ∷ []) $ fjoin ! $ move ! (1 ∷ 0 ∷ []) $ fjoin ! $
         owned ! R.the_row (Is R.the_row) (LL.makes R.the_type R'.the_plain 𝓛) pl.reply _ (reply-is is) $ move ! (1 ∷ 0 ∷ []) $ done !
       where
-        same_length : length (ys m) ≡ length xs
-        same_length = run_length (view t.now) pl.at xs m
+        same_length_lem : length (ys m) ≡ length xs
+        same_length_lem = run_length (view t.now) pl.at xs m
 
     module _ (𝓣 : Tables 𝓤 H) (fm : FmC 𝓤 H 𝓛.laws 𝓣.C) (known-found : Triple 𝓤 (𝓣.C #found-at) (FoundAt 𝓛 mem run)) (is-plan : Is P.the_row pl (LL.vals P.the_type P'.the_laws pl)) (dom-fits : dom < 2 ^ 64) (gen-fits : gen < 2 ^ 64) (room : Room T.the_row (length xs))
         (l₀ l₁ l₂ l₃ l₄ l₅ l₆ l₇ l₈ l₉ l₁₀ l₁₁ l₁₂ l₁₃ l₁₄ l₁₅ : ℕ) where

@@ -1,9 +1,9 @@
 -- Two halves of four bytes.
-use Rattle.bytes.specs.Numbers.{number-eight}
+use Rattle.byte_numbers.specs.Numbers.{number-eight}
 use borrow.Author.Rules.{rules}
 use native.Mathlib.Omega.{arith}
-use Rattle.bytes.proofs.eight.Statement.{statement}
-use Rattle.bytes.proofs.eight.Tie as tie
+use Rattle.byte_numbers.proofs.eight.Statement.{statement}
+use Rattle.byte_numbers.proofs.eight.Tie as tie
 
 four-requires : tie.Need-four-requires
 four-requires c κs = search rules

@@ -1,9 +1,9 @@
 -- The number of two bytes is taken apart.
-use Rattle.bytes.specs.Numbers.{number-two}
+use Rattle.byte_numbers.specs.Numbers.{number-two}
 use borrow.Author.Rules.{rules}
 use native.Mathlib.Omega.{arith}
-use Rattle.bytes.proofs.two.Statement.{statement}
-use Rattle.bytes.proofs.two.Tie as tie
+use Rattle.byte_numbers.proofs.two.Statement.{statement}
+use Rattle.byte_numbers.proofs.two.Tie as tie
 
 byte-requires : tie.Need-byte-requires
 byte-requires c κs = search rules

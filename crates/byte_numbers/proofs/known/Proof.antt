@@ -1,7 +1,7 @@
 -- The type of a lent slice says it of every element.
 use borrow.Author.Rules.{rules}
-use Rattle.bytes.proofs.known.Statement.{statement}
-use Rattle.bytes.proofs.known.Tie as tie
+use Rattle.byte_numbers.proofs.known.Statement.{statement}
+use Rattle.byte_numbers.proofs.known.Tie as tie
 
 byte-requires : tie.Need-byte-requires
 byte-requires c κs = search rules

@@ -2,7 +2,7 @@
 use Rattle.std.specs.Prelude.{◌≡◌, refl, ℕ, zero, suc, ◌+◌, ◌*◌, ◌/◌, ◌%◌, ◌<◌, ◌^◌, List, [], ◌∷◌, ◌++◌}
 use Rattle.std.proofs.Common.{ap, subst, ◌∙◌, mod-lt, div-lt_iff_lt-mul, zero-lt-suc, pow-suc, arith}
 use Rattle.std.proofs.Math.Nat.{mod-add-div}
-use Rattle.bytes.specs.Numbers.{number, Bytes}
+use Rattle.byte_numbers.specs.Numbers.{number, Bytes}
 
 -- n bytes of x
 abbrev pub bytes_of : ℕ → ℕ → List ℕ

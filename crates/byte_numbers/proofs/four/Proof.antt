@@ -1,9 +1,9 @@
 -- Two halves of two bytes.
-use Rattle.bytes.specs.Numbers.{number-four}
+use Rattle.byte_numbers.specs.Numbers.{number-four}
 use borrow.Author.Rules.{rules}
 use native.Mathlib.Omega.{arith}
-use Rattle.bytes.proofs.four.Statement.{statement}
-use Rattle.bytes.proofs.four.Tie as tie
+use Rattle.byte_numbers.proofs.four.Statement.{statement}
+use Rattle.byte_numbers.proofs.four.Tie as tie
 
 two-requires : tie.Need-two-requires
 two-requires c κs = search rules

@@ -1,6 +1,6 @@
 // Numbers of several bytes, the lowest byte first.
 ghost use Rattle.std.specs.Prelude.{◌≡◌, ◌+◌, ◌*◌, ◌<◌, ◌^◌, get_or, take, drop};
-ghost use Rattle.bytes.specs.Numbers.{number, Bytes};
+ghost use Rattle.byte_numbers.specs.Numbers.{number, Bytes};
 
 fn wide(x: u8) -> u64
     ensures { result ≡ x }

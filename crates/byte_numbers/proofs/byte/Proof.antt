@@ -3,8 +3,8 @@ use borrow.Author.Rules.{rules}
 use lib.ListN.{get_or-eq_default}
 use mathlib.Core.Path.{sym}
 use native.Mathlib.Omega.{arith}
-use Rattle.bytes.proofs.byte.Statement.{statement}
-use Rattle.bytes.proofs.byte.Tie as tie
+use Rattle.byte_numbers.proofs.byte.Statement.{statement}
+use Rattle.byte_numbers.proofs.byte.Tie as tie
 
 shared-slice-read-wide : tie.Need-shared-slice-read-wide
 shared-slice-read-wide c = search rules
