@@ -1,4 +1,7 @@
 // What the steps and calls answer (document 01, "Memory and who can be refused").
+
+#![tactic(auto)]
+
 use refusals::Refusal;
 
 // A value, 0 where there is none; or a refusal. It stands for `Result` of the source.

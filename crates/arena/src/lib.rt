@@ -1,5 +1,8 @@
 // `FreeList` and `GenArena` over a length n, in 2 + 2n words: head, count, n links, n generations (document 01, "Arenas").
 // A link is 0 where the slot is in use, and k + 1 where it is free and slot k comes after it. What allocates and frees is crate `free_list`'s.
+
+#![tactic(auto)]
+
 ghost use Rattle.std.specs.Prelude.{◌≡◌, length, get_or};
 ghost use Rattle.tables.specs.View.{arena_of};
 ghost use Rattle.sizes.specs.Sizes.{pool_width};

@@ -1,1 +1,3 @@
 // No code: plain mathematics that several crates use, in specs/.
+
+#![tactic(auto)]

@@ -1,4 +1,7 @@
 // Numbers of several bytes, the lowest byte first.
+
+#![tactic(auto)]
+
 ghost use Rattle.std.specs.Prelude.{◌≡◌, ◌+◌, ◌*◌, ◌<◌, ◌^◌, get_or, take, drop};
 ghost use Rattle.byte_numbers.specs.Numbers.{number, Bytes};
 

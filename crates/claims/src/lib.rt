@@ -1,5 +1,8 @@
 // Claims: each item of a walk claims a number, or nothing, which is 0. The marks are words: one for each number that may be
 // claimed.
+
+#![tactic(auto)]
+
 ghost use Rattle.std.specs.Prelude.{◌≡◌, ◌-◌};
 ghost use Rattle.base.specs.Cases.{pick};
 ghost use Rattle.claims.specs.Marks.{takes, marked, left_by};

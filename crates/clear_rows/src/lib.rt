@@ -1,4 +1,7 @@
 // Rows of the tables by value: whether all words of one are 0, and whether a slot of a list in use is as its kind says.
+
+#![tactic(auto)]
+
 ghost use Rattle.std.specs.Prelude.{◌≡◌};
 ghost use Rattle.clear_rows.specs.Clear.{head_clear, slot_clear, slot_well_formed, slot_fits, region_clear, record_clear};
 

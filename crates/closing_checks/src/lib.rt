@@ -1,5 +1,8 @@
 // What is asked before a domain is closed (document 02, request 5): 22 where a domain to be closed holds a root, 23 where one
 // has a core map. A free row is all zero, so that it is neither a root nor has one.
+
+#![tactic(auto)]
+
 ghost use Rattle.std.specs.Prelude.{◌≡◌};
 ghost use Rattle.tables.specs.View.{view, Sized};
 ghost use Rattle.closing_checks.specs.Closes.{closes_with_b, root_to_close_b, closes_root_b, running_to_close_b, closes_running_b};

@@ -1,5 +1,8 @@
 // The six counts of a tracker's record, by value (region.rs; document 01, **Tracker**). Numbers that no sound tables
 // hold stay within 64 bits.
+
+#![tactic(auto)]
+
 ghost use Rattle.std.specs.Prelude.{◌≡◌, ltb};
 ghost use Rattle.base.specs.Cases.{pick};
 ghost use Rattle.counts.specs.Counts.{up, down, raised, lowered, crosses_b, mark_if, crossings_of, mergeable_b, made};

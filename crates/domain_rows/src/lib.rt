@@ -1,4 +1,7 @@
 // Domains: the five words before the slots, loaded and stored; a slot, loaded by itself; all words of one, cleared.
+
+#![tactic(auto)]
+
 ghost use Rattle.std.specs.Prelude.{◌≡◌, length};
 ghost use Rattle.sizes.specs.Sizes.{head_width, slot_width};
 ghost use Rattle.tables.specs.Tables.{head_at, slot_at, with_head, without_domain};

@@ -1,5 +1,8 @@
 // The free list of a pool (free_list.rs, gen_arena.rs; document 01, "Arenas"): the slot at its head is given, a freed one comes to its front with the
 // next generation. The words by their meaning are crate `arena`'s.
+
+#![tactic(auto)]
+
 ghost use Rattle.std.specs.Prelude.{◌≡◌, length};
 ghost use Rattle.tables.specs.View.{arena_of};
 ghost use Rattle.sizes.specs.Sizes.{pool_width};

@@ -1,4 +1,7 @@
 // The hashes of regions.
+
+#![tactic(auto)]
+
 ghost use Rattle.std.specs.Prelude.{◌≡◌, length};
 ghost use Rattle.sizes.specs.Sizes.{hash_width};
 ghost use Rattle.tables.specs.Tables.{hash_at, with_hash};

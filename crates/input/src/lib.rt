@@ -1,4 +1,7 @@
 // Standard input through a fixed run of bytes.
+
+#![tactic(auto)]
+
 ghost use Rattle.std.specs.Prelude.{◌≡◌, ℕ, ◌+◌, ◌-◌, ◌<◌, ◌≤◌, length, get_or};
 ghost use Rattle.libc.specs.Io.{Moved};
 ghost use Rattle.input.specs.Buffered.{Within, Keeps, Grows, Whole, behind};

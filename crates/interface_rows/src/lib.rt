@@ -1,4 +1,7 @@
 // The interfaces of domains.
+
+#![tactic(auto)]
+
 ghost use Rattle.std.specs.Prelude.{◌≡◌, length};
 ghost use Rattle.sizes.specs.Sizes.{interface_width};
 ghost use Rattle.tables.specs.Tables.{interface_at, with_interface};

@@ -19,7 +19,7 @@ use Rattle.model.specs.Readings.{permissions, get_refcount, core_map}
 use Rattle.model.specs.Perform.{Step, Open, Channel, SetCoreMap, SetInterface, FreezeInterface, Root, Alias, Carve, Send, Revoke, CreateRevokeCapa, Reading, Permissions, Refcount, CoreMap, Holders, Call, Make, Do, Pop, Read, perform_step, read_tables, perform}
 use Rattle.laws.specs.Answers.{gives, gives-checked, refusal}
 use Rattle.laws.specs.Keep.Refusals.{activate-stops}
-use Rattle.laws.specs.StepRefusals.{Within, ◌andThen◌, late, domain-within, caller-within, slot-within, held-within, capacity-within, room_within, insert-within, new-within, opened-within, revoked-within, alias-within, carve-within, send-within}
+use Rattle.laws.specs.StepRefusals.{Within, ◌and_then◌, late, domain-within, caller-within, slot-within, held-within, capacity-within, room_within, insert-within, new-within, opened-within, revoked-within, alias-within, carve-within, send-within}
 
 -- The documents' refusals for each call, in the order of checks, those of the steps afterwards last. Bad memory (1) is refused before
 -- `perform`, save for a making with another length.

@@ -33,6 +33,9 @@ made-coded (ok s) h = tt
 made-coded (refuse r) h = h r refl
 
 pub after-coded : (t w t' w' : List ℕ) (c : Call) (y : Answer) → After t w c y t' w' → Coded y
-after-coded t w t' w' c y (made z) = made-coded (make_in (length t) (length w) z) (making-above _ _ z)
-after-coded t w t' w' c y (not_sound d q n) = omega arith
-after-coded t w t' w' c y (performed d s q l) = step-coded s d
+after-coded t w t' w' c y a = go c y t' w' a
+  where
+    go : (c : Call) (y : Answer) (u v : List ℕ) → After t w c y u v → Coded y
+    go c y u v (made z) = made-coded (make_in (length t) (length w) z) (making-above _ _ z)
+    go c y u v (not_sound d q n) = omega arith
+    go c y u v (performed d s q l) = step-coded s d

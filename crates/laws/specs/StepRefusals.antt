@@ -21,8 +21,8 @@ abbrev pub Within : {A : Type 0} → (Refusal → Type 0) → Outcome A → Type
 Within R m = Gives (λ a. Unit {0}) R m
 
 -- one step, and then another
-infixl 20 ◌andThen◌
-pub ◌andThen◌ : {A B : Type 0} {R : Refusal → Type 0} {m : Outcome A} {f : A → Outcome B} → Within R m → ((a : A) → Within R (f a)) → Within R (m >>= f)
+infixl 20 ◌and_then◌
+pub ◌and_then◌ : {A B : Type 0} {R : Refusal → Type 0} {m : Outcome A} {f : A → Outcome B} → Within R m → ((a : A) → Within R (f a)) → Within R (m >>= f)
 h and_then k = gives_then h (λ a u. k a)
 
 -- an outcome with one refusal only, and one that is refused with 13, 16 or 14

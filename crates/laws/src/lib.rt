@@ -1,1 +1,3 @@
 // No code: theorems about the definitions of crate model, in specs/.
+
+#![tactic(auto)]

@@ -1,4 +1,7 @@
 // The ring lent (document 01, "The update ring is handed to the steps and changed there").
+
+#![tactic(auto)]
+
 ghost use Rattle.std.specs.Prelude.{◌≡◌};
 ghost use Rattle.ring.specs.Ring.{push_of, pop_of};
 ghost use Rattle.ring_search.specs.Queueing.{queue_of};

@@ -1,4 +1,7 @@
 // Marks for numbered slots as bits of 64-bit words: slot i is bit i % 64 of word i / 64 of a work area. Past its end nothing is marked.
+
+#![tactic(auto)]
+
 ghost use Rattle.std.specs.Prelude.{◌≡◌};
 ghost use Rattle.marks.specs.Marks.{marked, with_mark, unmarked};
 

@@ -1,1 +1,3 @@
 // No code: the definitions that contracts cite are in specs/.
+
+#![tactic(auto)]

@@ -1,4 +1,7 @@
 // Tracker records.
+
+#![tactic(auto)]
+
 ghost use Rattle.std.specs.Prelude.{◌≡◌, length};
 ghost use Rattle.sizes.specs.Sizes.{record_width};
 ghost use Rattle.tables.specs.Tables.{record_at, with_record};

@@ -1,4 +1,7 @@
 // The refusals (document 01, "Memory and who can be refused"): each is its number, under document 01's name.
+
+#![tactic(auto)]
+
 ghost use Rattle.std.specs.Prelude.{◌≡◌};
 ghost use Rattle.refusals.specs.Refusals.{all};
 

@@ -1,4 +1,7 @@
 // Regions.
+
+#![tactic(auto)]
+
 ghost use Rattle.std.specs.Prelude.{◌≡◌, length};
 ghost use Rattle.sizes.specs.Sizes.{region_width};
 ghost use Rattle.tables.specs.Tables.{region_at, with_region};

@@ -1,4 +1,7 @@
 // The rights word (document 01, "The call, from the entry down"): eight flags in eight bits, and their tests.
+
+#![tactic(auto)]
+
 ghost use Rattle.std.specs.Prelude.{◌≡◌};
 ghost use Rattle.rights.specs.Rights.{union, contains, allowed};
 ghost use Rattle.rights.specs.Counters.{intersects, one_if, counters_of};

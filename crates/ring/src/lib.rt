@@ -1,4 +1,7 @@
 // The update ring (document 01, "Update ring"), by value: each function gives the ring that it leaves. What goes by a search is crate `ring_search`'s.
+
+#![tactic(auto)]
+
 ghost use Rattle.std.specs.Prelude.{◌≡◌};
 ghost use Rattle.ring.specs.Ring.{no_entry, permission_of, cleanup_of, after_of, push_of, pop_of};
 

@@ -1,4 +1,7 @@
 // The update ring: its places, their marks, and the two that the header names.
+
+#![tactic(auto)]
+
 ghost use Rattle.std.specs.Prelude.{◌≡◌, length};
 ghost use Rattle.sizes.specs.Sizes.{update_width};
 ghost use Rattle.tables.specs.Tables.{update_at, mark_at, with_update, with_mark, with_places};

@@ -1,4 +1,7 @@
 // The search for a domain in the update ring (document 01, "Update ring"), and a domain queued: one that is there already gathers marks, another is pushed.
+
+#![tactic(auto)]
+
 ghost use Rattle.std.specs.Prelude.{◌≡◌};
 ghost use Rattle.ring_search.specs.Queueing.{names_of, place_of, queue_of};
 

@@ -1,4 +1,7 @@
 // Records of a script, read from the bytes at hand (document 01, "The script program").
+
+#![tactic(auto)]
+
 ghost use Rattle.std.specs.Prelude.{◌≡◌};
 ghost use Rattle.script_records.specs.Parsed.{size_of, record_in, rights_in, judged, parsed};
 

@@ -1,4 +1,7 @@
 // The sizes that the tables' header holds, and where the sections start.
+
+#![tactic(auto)]
+
 ghost use Rattle.std.specs.Prelude.{◌≡◌};
 ghost use Rattle.words.specs.Cuts.{offset};
 ghost use Rattle.sizes.specs.Limits.{Limits, within_b, limits_b};

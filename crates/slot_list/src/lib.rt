@@ -1,4 +1,7 @@
 // A domain's slot list by value (free_list.rs). Free slots form a stack by their handles' slots; 0 stands behind the last (`FreeList`).
+
+#![tactic(auto)]
+
 ghost use Rattle.std.specs.Prelude.{◌≡◌, ◌-◌};
 ghost use Rattle.slot_list.specs.Lists.{free_slot, is_free_b, slot_in, put_in, empty_slot, give_slot, take_slot};
 

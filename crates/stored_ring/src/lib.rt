@@ -1,4 +1,7 @@
 // The ring in the tables: loaded with its marks, and a place of it stored.
+
+#![tactic(auto)]
+
 ghost use Rattle.std.specs.Prelude.{◌≡◌, ◌+◌, ◌*◌, ◌≤◌, length};
 ghost use Rattle.words.specs.Runs.{part};
 ghost use Rattle.sizes.specs.Sizes.{update_width, mark_width};

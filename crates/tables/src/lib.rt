@@ -1,5 +1,8 @@
 // The engine's tables in lent words: the records, which crates of their own load and store by their numbers.
 // docs/TABLES.md has the layout; a record that is not there is all zero, and is not stored.
+
+#![tactic(auto)]
+
 ghost use Rattle.std.specs.Prelude.{◌≡◌};
 ghost use Rattle.tables.specs.Tables.{no_head, no_slot, no_region, no_record, no_update, no_hash, no_interface};
 

@@ -1,4 +1,7 @@
 // Where a walk over a tracker's records is (region.rs; document 01, **Tracker**), and where it goes on. A link is a record's slot + 1, or 0 for none.
+
+#![tactic(auto)]
+
 ghost use Rattle.std.specs.Prelude.{◌≡◌};
 ghost use Rattle.walk_cursors.specs.declared.Progress.TheVariants.{Going};
 ghost use Rattle.walk_cursors.specs.Cursors.{next_of, dropped_of};

@@ -1,4 +1,7 @@
 // What a freed slot has in the sections, made 0.
+
+#![tactic(auto)]
+
 ghost use Rattle.tables.specs.Tables.{no_region, no_record, no_hash, no_interface, with_region, with_record, with_hash, with_interface, without_domain};
 ghost use Rattle.tables.specs.View.{view, Sized, Left};
 

@@ -1,4 +1,7 @@
 // Words of a lent slice. Every function is total: outside the slice nothing is read or written.
+
+#![tactic(auto)]
+
 ghost use Rattle.std.specs.Prelude.{◌≡◌, length, get_or, set, replicate};
 ghost use Rattle.base.specs.Tests.{both as both_b};
 ghost use Rattle.words.specs.Runs.{fetched, stored};

@@ -29,8 +29,8 @@ walk-stops (ok w) h = gives tt
 walk-stops (refuse r) h = elim (h r refl) [ inl e ↦ refuses (inl e) | inr e ↦ refuses (inr (inl e)) ]
 
 -- one step, and then another
-infixl 20 ◌andThen◌
-◌andThen◌ : {A B : Type 0} {m : Outcome A} {f : A → Outcome B} → MayStop m → ((a : A) → MayStop (f a)) → MayStop (m >>= f)
+infixl 20 ◌and_then◌
+◌and_then◌ : {A B : Type 0} {m : Outcome A} {f : A → Outcome B} → MayStop m → ((a : A) → MayStop (f a)) → MayStop (m >>= f)
 h and_then k = gives_then h (λ a u. k a)
 
 -- ---- the ring

@@ -1,5 +1,5 @@
 -- Marks (document 02, request 4): a number below 32 is a set of fields. What the marks of a test are, what a union adds, and that a walk's marks are such a number.
-use Rattle.std.specs.Prelude.{◌≡◌, refl, ℕ, ◌/◌, ◌%◌, ◌≤◌, ◌<◌, Bool, true, false, ◌||◌, List, [], ◌∷◌, eqb}
+use Rattle.std.specs.Prelude.{max, ◌≡◌, refl, ℕ, ◌/◌, ◌%◌, ◌≤◌, ◌<◌, Bool, true, false, ◌||◌, List, [], ◌∷◌, eqb}
 use Rattle.std.proofs.Common.{arith, eq-eqb}
 use Rattle.std.proofs.lemmas.Nat.{or_lt}
 use Rattle.base.specs.Tests.{true-false}
@@ -85,7 +85,7 @@ add-to-small r s e q p = branch (meets s e q) (bind-any _ (λ x. bind-any _ (λ 
 add_small : (r s e : ℕ) (l : List Record) (p : Pool) → All Small (add_region r s e l p)
 unfolding add_region
 add_small r s e [] p = bind-any _ (λ x. accepted (fill-small r x.0))
-add_small r s e (q ∷ l) p = bind-any _ (λ x. bind (add-to-small r s e q x.1) (λ w h. bind (add_small r _ e l w.pool) (λ v k. accepted (union-small _ _ (union-small _ _ (fill-small r x.0) h) k))))
+add_small r s e (q ∷ l) p = bind-any _ (λ x. bind (add-to-small r s e q x.1) (λ w h. bind (add_small r (max s q.end) e l w.pool) (λ v k. accepted (union-small _ _ (union-small _ _ (fill-small r x.0) h) k))))
 
 remove-from-small : (r s e : ℕ) (q : Record) (p : Pool) → All Small (remove_from r s e q p)
 unfolding remove_from

@@ -1,6 +1,6 @@
 -- Record slots in a gain and a loss. Invariant: what leaves the free stack is in the list, and what leaves the list is on the stack, and a refusal
 -- says that no slot is free or that a generation is spent. No form of the list is needed.
-use Rattle.std.specs.Prelude.{◌≡◌, refl, ◌⊎◌, ℕ, List, [], ◌∷◌, ◌++◌, eqb, ltb}
+use Rattle.std.specs.Prelude.{max, ◌≡◌, refl, ◌⊎◌, ℕ, List, [], ◌∷◌, ◌++◌, eqb, ltb}
 use Rattle.std.proofs.Common.{arith}
 use Rattle.model.specs.Outcome.{Outcome, refuse}
 use Rattle.refusals.specs.declared.Refusal.{Refusal}
@@ -53,7 +53,7 @@ add-moves r s e [] p = gives_then (gap-moves r s e p) (λ x h. gives h)
 add-moves r s e (q ∷ l) p =
     gives_then (gap-moves _ _ _ p) (λ x h.
     gives_then (add-to-moves _ _ _ q x.1) (λ w k.
-    gives_then (add-moves _ _ _ l w.pool) (λ v j.
+    gives_then (add-moves _ (max s q.end) _ l w.pool) (λ v j.
     gives (moved_then (moved_then {l₂ = q ∷ []} {m₂ = x.0 ++ w.records} h k (λ i. omega (arith, uses-append i x.0 w.records))) j (λ i. omega (arith, uses-append i (x.0 ++ w.records) v.records))))))
 
 remove-from-moves : (r s e : ℕ) (q : Record) (p : Pool) → Gives (Walks p (q ∷ [])) NoRecord (remove_from r s e q p)

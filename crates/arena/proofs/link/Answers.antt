@@ -1,0 +1,11 @@
+-- The link of slot i is word 2 + i.
+use Prim.Native.Nat.{◌-◌}
+use Rattle.arena.specs.Words.{link_at, no-link}
+use borrow.Author.Rules.{rules}
+use Rattle.arena.proofs.link.Goals as goal
+
+pub returns-then-i-n : goal.returns-then-i-n
+returns-then-i-n c = link_at _ _ c.requires _ c.if-i-n.true
+
+pub returns-else-i-n : goal.returns-else-i-n
+returns-else-i-n c = no-link _ _ c.requires _ c.if-i-n.false

@@ -1,0 +1,7 @@
+-- The words stored are those of the interface.
+use Rattle.tables.specs.Accessors.{interface-stored}
+use borrow.Author.Rules.{rules}
+use Rattle.interface_rows.proofs.store_interface.Goals as goal
+
+pub returns : goal.returns
+returns c = interface-stored _ c.requires _ _ _ _ c.interface_at-a.ensures c.store.ensures

@@ -1,0 +1,7 @@
+-- The words stored are those of the record.
+use Rattle.tables.specs.Accessors.{record-stored}
+use borrow.Author.Rules.{rules}
+use Rattle.record_rows.proofs.store_record.Goals as goal
+
+pub returns : goal.returns
+returns c = record-stored _ c.requires _ _ _ _ c.record_at-a.ensures c.store.ensures

@@ -1,0 +1,8 @@
+-- Word 5 of the header.
+use Rattle.tables.specs.Header.{read_is}
+use borrow.Author.Rules.{rules}
+use mathlib.Core.Path.{sym, ◌∙◌}
+use Rattle.ring_rows.proofs.read_place.Goals as goal
+
+pub returns : goal.returns
+returns c = c.word.ensures ∙ sym (read_is _)
