@@ -77,24 +77,30 @@ noted-book b t z (refuse r) h k = k
 
 -- THEOREM: an accepted making begins it
 pub book-of-made : (t w t₁ w₁ : List ℕ) (z : Sizes) (y : Answer) → y ≡ Answer.yes Value.done → After t w (Call.Make z) y t₁ w₁ → BookOf (blank z) t₁
-book-of-made t w t₁ w₁ z y e (made v) = made-book t v _ (begins _ _ v) e
-book-of-made t w t₁ w₁ z y e (not_sound d q n) = absurd q
-book-of-made t w t₁ w₁ z y e (performed d s q l) = absurd q
+book-of-made t w t₁ w₁ z y e a = go z y t₁ w₁ e a
+  where
+    go : (z : Sizes) (y : Answer) (u v : List ℕ) → y ≡ Answer.yes Value.done → After t w (Call.Make z) y u v → BookOf (blank z) u
+    go z y u v e (made x) = made-book t x _ (begins _ _ x) e
+    go z y u v e (not_sound d q n) = absurd q
+    go z y u v e (performed d s q l) = absurd q
 
 -- THEOREM: any call keeps it
 pub book-of-call : (b : Book) (t w t₁ w₁ : List ℕ) (c : Call) (y : Answer) → CallWords c → BookOf b t → After t w c y t₁ w₁ → BookOf (note b c y) t₁
 unfolding note accept
-book-of-call b t w t₁ w₁ c y u h (made z) = noted-book b t z _ (begins _ _ z) h
-book-of-call b t w t₁ w₁ c y u h (not_sound d p n) = h
-book-of-call b t w t₁ w₁ c y u h (performed d s p l) =
-    let q = matches-step b s d u l.sound (book-of-state b t w s h l) in
-    record { state = (step s d).1; tables = refl; sound = q.1; matches = q.0 }
+book-of-call b t w t₁ w₁ c y u h a = go c y t₁ w₁ u a
+  where
+    go : (c : Call) (y : Answer) (v x : List ℕ) → CallWords c → After t w c y v x → BookOf (note b c y) v
+    go c y v x u (made z) = noted-book b t z _ (begins _ _ z) h
+    go c y v x u (not_sound d p n) = h
+    go c y v x u (performed d s p l) =
+        let q = matches-step b s d u l.sound (book-of-state b t w s h l) in
+        record { state = (step s d).1; tables = refl; sound = q.1; matches = q.0 }
 
 -- THEOREM: any chain of calls keeps it
 pub book-of-chain : (b : Book) (t t₂ : List ℕ) (cs : List Call) (ys : List Answer) → Each CallWords cs → BookOf b t → Chain t cs ys t₂ → BookOf (note_all b cs ys) t₂
 unfolding note_all
 book-of-chain b t t₂ cs ys u h Chain.start = h
-book-of-chain b t t₂ cs ys u h (Chain.next x r) = book-of-chain _ _ t₂ _ _ u.1 (book-of-call b t _ _ _ _ _ u.0 h x) r
+book-of-chain b t t₂ cs ys u h (Chain.next {c = c} {y = y} x r) = book-of-chain (note b c y) _ t₂ _ _ u.1 (book-of-call b t _ _ _ _ _ u.0 h x) r
 
 -- THEOREM: where it holds, all claims hold
 pub book-of-claims : (b : Book) (t : List ℕ) → BookOf b t → ClaimsOf b t

@@ -59,7 +59,7 @@ matches-step b s c w sound m = after-match b s c _ (both (perform-match b s c so
 pub matches-run : (b : Book) (s : State) (cs : List Call) → Each CallWords cs → Sound s → Matches b s → Matches (note_all b cs (run s cs).0) (run s cs).1 × Sound (run s cs).1
 unfolding run note_all
 matches-run b s [] w sound m = (m, sound)
-matches-run b s (c ∷ cs) w sound m = let q = matches-step b s c w.0 sound m in matches-run _ _ cs w.1 q.1 q.0
+matches-run b s (c ∷ cs) w sound m = let q = matches-step b s c w.0 sound m in matches-run (note b c (step s c).0) _ cs w.1 q.1 q.0
 
 -- ---- the claims
 

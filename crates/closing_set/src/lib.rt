@@ -1,5 +1,8 @@
 // The domains whose closing has begun and is not over (document 02, request 5), as bits of one word: domain d is bit d % 64.
 // There are no more than 64 domains.
+
+#![tactic(auto)]
+
 ghost use Rattle.std.specs.Prelude.{◌≡◌};
 ghost use Rattle.closing_set.specs.Closing.{closing_b, with_closing};
 

@@ -1,6 +1,6 @@
 -- The slot after a slot in a list, and the free link of a slot, by where it stands: first, further down, or not at all.
 use Rattle.std.specs.Prelude.{◌≡◌, refl, ◌≢◌, ℕ, zero, suc, ◌+◌, ◌≤◌, ◌<◌, List, [], ◌∷◌, ◌++◌, eqb}
-use Rattle.std.proofs.Common.{sym, ap, ◌∙◌, arith, eq-eqb, ne_eqb}
+use Rattle.std.proofs.Common.{sym, ap, ◌∙◌, arith, eq-eqb, ne_eqb, subst}
 use Rattle.std.proofs.Math.Option.{none}
 use Rattle.std.proofs.Math.Decide.{ℕ_discrete}
 use Rattle.base.specs.Cases.{lt, ge, cmp, holds, fails, test}
@@ -46,7 +46,7 @@ up-link i k zero h j = absurd (omega arith)
 up-link i k (suc zero) h j = absurd (omega arith)
 up-link i k (suc (suc n)) h j = elim (cmp k i) [
   | lt l ↦ link-under k i (count_up (suc k) (suc n)) (λ e. omega arith) ∙ up-link i (suc k) (suc n) l (omega arith)
-  | ge l ↦ let e : i ≡ k = omega arith in rw e (link-top k (count_up (suc k) (suc n)))
+  | ge l ↦ let e : i ≡ k = omega arith in subst (λ (z : ℕ). free_link (count_up k (suc (suc n))) z ≡ suc (suc z)) (sym e) (link-top k (count_up (suc k) (suc n)))
 ]
 
 pub up-last : (i k n : ℕ) → k ≤ i → suc i ≡ k + n → free_link (count_up k n) i ≡ 1

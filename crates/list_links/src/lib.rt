@@ -1,5 +1,8 @@
 // What is read of a list in lent tables: free stacks and trackers by their links. The words that a list stands in are
 // taken once; a slot is read from them by its number.
+
+#![tactic(auto)]
+
 ghost use Rattle.std.specs.Prelude.{◌≡◌};
 ghost use Rattle.tables.specs.View.{view, Sized};
 ghost use Rattle.list_links.specs.Walk.{link_to, mark};

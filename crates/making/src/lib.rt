@@ -1,4 +1,7 @@
 // Making empty tables (document 01, "The call, from the entry down": make empty tables of given sizes).
+
+#![tactic(auto)]
+
 ghost use Rattle.std.specs.Prelude.{◌≡◌, length};
 ghost use Rattle.sizes.specs.Limits.{Limits};
 ghost use Rattle.sizes.specs.Sizes.{total};

@@ -1,4 +1,7 @@
 // The managers of domains, read from the section of domains: a manager's link is the first word of its domain.
+
+#![tactic(auto)]
+
 ghost use Rattle.std.specs.Prelude.{◌≡◌};
 ghost use Rattle.tables.specs.View.{view, Sized};
 ghost use Rattle.sizes.specs.Limits.{Limits};

@@ -1,5 +1,8 @@
 // A new domain (`Domain::new`): an empty list and an empty tracker, and an interface with all three bits (document 02,
 // request 2).
+
+#![tactic(auto)]
+
 ghost use Rattle.std.specs.Prelude.{◌≡◌};
 ghost use Rattle.tables.specs.View.{view, Sized, Left};
 ghost use Rattle.new_domain.specs.Opened.{fresh_list, new_domain};

@@ -1,4 +1,7 @@
 // The three pools of the tables: each is the arena in its section.
+
+#![tactic(auto)]
+
 ghost use Rattle.std.specs.Prelude.{◌≡◌, get_or};
 ghost use Rattle.words.specs.Cuts.{offset};
 ghost use Rattle.tables.specs.Tables.{with_domain_pool, with_region_pool, with_record_pool};

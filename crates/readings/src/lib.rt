@@ -1,4 +1,7 @@
 // The readings (document 01, **Reading**). Each follows as many links as there are records at most.
+
+#![tactic(auto)]
+
 ghost use Rattle.std.specs.Prelude.{◌≡◌, ◌+◌, max, length};
 ghost use Rattle.base.specs.Cases.{pick};
 ghost use Rattle.tables.specs.View.{view, Sized};

@@ -1,6 +1,6 @@
 -- The numbers of a parsed call: its fields are eight bytes each, so words, and its rights were tested. And how many bytes it takes.
 use Rattle.std.specs.Prelude.{◌≡◌, ℕ, zero, suc, ◌+◌, ◌-◌, ◌≤◌, ◌<◌, ◌^◌, List, [], ◌∷◌, eqb, ltb, length, take, drop}
-use Rattle.std.proofs.Common.{subst, arith}
+use Rattle.std.proofs.Common.{get_or, subst, arith}
 use Rattle.std.proofs.Math.Option.{Option, none, some}
 use borrow.Author.Tests.{ltb-false, eqb-true, lt-ltb, le-ltb}
 use Rattle.base.specs.Cases.{lt, ge, cmp, holds, fails, test}
@@ -24,7 +24,7 @@ bytes_drop (suc n) (x ∷ l) h = bytes_drop n l (λ i. h (suc i))
 bytes_take : (n : ℕ) (l : List ℕ) → Bytes l → Bytes (take n l)
 bytes_take zero l h = λ i. omega arith
 bytes_take (suc n) [] h = h
-bytes_take (suc n) (x ∷ l) h = λ i. elim i [ zero ↦ h 0 | suc j ↦ bytes_take n l (λ k. h (suc k)) j ]
+bytes_take (suc n) (x ∷ l) h = λ i. elim i as (λ (k : ℕ). get_or (take (suc n) (x ∷ l)) k 0 < 256) [ zero ↦ h 0 | suc j ↦ bytes_take n l (λ k. h (suc k)) j ]
 
 -- ---- words
 

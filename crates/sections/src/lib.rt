@@ -1,5 +1,8 @@
 // Sections of the tables lent as slices of their own: a place is worked out once, not at each access. A row is read from its section by its
 // number; one that is not there is all zero.
+
+#![tactic(auto)]
+
 ghost use Rattle.std.specs.Prelude.{◌≡◌};
 ghost use Rattle.tables.specs.Tables.{slot_at, region_at, record_at, hash_at, interface_at};
 ghost use Rattle.tables.specs.View.{view, Sized};

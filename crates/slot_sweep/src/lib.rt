@@ -1,4 +1,7 @@
 // **Sweep** (domain.rs; document 01) of a domain's slot list: slots that hold None or a dead handle are freed in rising order.
+
+#![tactic(auto)]
+
 ghost use Rattle.std.specs.Prelude.{◌≡◌};
 ghost use Rattle.tables.specs.View.{view, Sized};
 ghost use Rattle.slot_sweep.specs.Sweep.{is_invalid_b, swept};

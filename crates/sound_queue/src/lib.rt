@@ -1,4 +1,7 @@
 // The test of lent tables, its part about the ring of updates (document 01, **Sound**). Updates are numbered from the read place on, going round.
+
+#![tactic(auto)]
+
 ghost use Rattle.std.specs.Prelude.{◌≡◌, ◌+◌, ◌<◌, ◌≤◌};
 ghost use Rattle.tables.specs.View.{view, Sized};
 ghost use Rattle.sound_queue.specs.Ring.{numbered, mark_numbered, numbers_hold, none_same, singly, queue_holds};

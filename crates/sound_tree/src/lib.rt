@@ -1,4 +1,7 @@
 // The test of the region tree in lent tables: rows, child lists, ways to a root. Any words may stand in the tables.
+
+#![tactic(auto)]
+
 ghost use Rattle.std.specs.Prelude.{◌≡◌, length, replicate};
 ghost use Rattle.tables.specs.View.{view, Sized};
 ghost use Rattle.sound_tree.specs.Tree.{tree_holds};

@@ -1,5 +1,8 @@
 // The test of one update of the ring and of the marks beside it, and whether two updates are of the same domain. The
 // ring itself is tested by crate `sound_queue`.
+
+#![tactic(auto)]
+
 ghost use Rattle.std.specs.Prelude.{◌≡◌};
 ghost use Rattle.tables.specs.View.{view, Sized};
 ghost use Rattle.sound_updates.specs.Updates.{clear_b, well_formed_b, fits_in, update_fits, marks_fit, same_domain};

@@ -1,6 +1,6 @@
 -- A record that is in a tracker has the words that are read from it, where the walk along the tracker ends.
 use Rattle.std.specs.Prelude.{◌≡◌, refl, ℕ, zero, suc, ◌≤◌, ◌<◌, List, [], ◌∷◌, map, length}
-use Rattle.std.proofs.Common.{sym, ap, ◌∙◌, arith, ne_eqb}
+use Rattle.std.proofs.Common.{sym, ap, ◌∙◌, arith, ne_eqb, subst}
 use Rattle.std.proofs.Math.Option.{Option, none, some}
 use Rattle.std.proofs.Math.Decide.{ℕ_discrete}
 use Rattle.base.specs.Cases.{lt, ge, cmp}
@@ -41,7 +41,7 @@ stored-ends f (suc n) (q ∷ l) b h = ap (λ (r : Region). chain_end (λ i. (f i
 stored_row : (f : ℕ → Region) (l : List Record) → Stored f l → (i : ℕ) (r : Region) → 0 < uses i l → in_tracker_for i l r ≡ f i
 stored_row f [] h i r o = absurd (omega arith)
 stored_row f (q ∷ l) h i r o = elim (ℕ_discrete i q.slot) [
-  | yes e ↦ rw e (row_first q l r ∙ sym h.0)
+  | yes e ↦ subst (λ (z : ℕ). in_tracker_for z (q ∷ l) r ≡ f z) (sym e) (row_first q l r ∙ sym h.0)
   | no ne ↦ row-later i q l r ne ∙ stored_row f l h.1 i r (omega (arith, ap one_if (ne_eqb i q.slot ne)))
 ]
 

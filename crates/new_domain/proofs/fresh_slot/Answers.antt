@@ -1,0 +1,18 @@
+-- By the two tests.
+use mathlib.Core.Path.{◌∙◌}
+use borrow.Author.Tests.{lt-ltb, le-ltb}
+use Rattle.new_domain.specs.Fresh.{fresh_slot}
+use borrow.Author.Rules.{rules}
+use Rattle.new_domain.proofs.fresh_slot.Goals as goal
+
+pub returns-then-k-n : goal.returns-then-k-n
+unfolding fresh_slot
+returns-then-k-n c = c.free_slot.ensures ∙ rw (lt-ltb _ _ c.if-i-n.true, lt-ltb _ _ c.if-k-n.true)
+
+pub returns-then-i-n : goal.returns-then-i-n
+unfolding fresh_slot
+returns-then-i-n c = c.free_slot-then-i-n.ensures ∙ rw (lt-ltb _ _ c.if-i-n.true, le-ltb _ _ c.if-k-n.false)
+
+pub returns : goal.returns
+unfolding fresh_slot
+returns c = c.no_slot.ensures ∙ rw (le-ltb _ _ c.if-i-n.false)
