@@ -1,5 +1,8 @@
 // What a slot and the head of a domain claim, by what is lent of the tables: the links `rl` and generations `rg` of regions, their rows `r`; those of
 // domains `dl`, `dg`, and the section of domains `p`.
+
+#![tactic(auto)]
+
 ghost use Rattle.std.specs.Prelude.{◌≡◌, ◌+◌, ◌≤◌};
 ghost use Rattle.sizes.specs.Limits.{Limits};
 ghost use Rattle.arena.specs.Arena.{live_b};

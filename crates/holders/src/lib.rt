@@ -1,4 +1,7 @@
 // The holders of an address (document 01, **Reading**): the domains with reach above 0 there, domain slot rising, each once (document 02, request 6).
+
+#![tactic(auto)]
+
 ghost use Rattle.std.specs.Prelude.{◌≡◌, length};
 ghost use Rattle.tables.specs.View.{view, Sized};
 ghost use Rattle.readings.specs.Readings.{fill_run};

@@ -1,4 +1,7 @@
 // The lines that follow a script's calls (document 01, "The script program"), as numbers.
+
+#![tactic(auto)]
+
 ghost use Rattle.std.specs.Prelude.{◌≡◌, ◌<◌, length};
 ghost use Rattle.words.specs.Rows.{flat};
 ghost use Rattle.tables.specs.View.{view, Sized};

@@ -1,5 +1,8 @@
 // Lines of decimal numbers, gathered in a lent run of bytes and written when the next line might not fit. In each function the first n bytes
 // of the run are there already, and the answer is how many there are then; which bytes a line has is said in specs/Text.antt.
+
+#![tactic(auto)]
+
 ghost use Rattle.std.specs.Prelude.{◌≡◌, ◌+◌, ◌≤◌, ◌<◌, true, false, [], ◌∷◌, length};
 ghost use Rattle.output.specs.Text.{Puts, ended, call_line, domain_line, queue_line, numbers_at};
 ghost use Rattle.output.specs.Text.{decimal as Text·decimal};

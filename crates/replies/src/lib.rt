@@ -1,5 +1,8 @@
 // What the exported calls return: document 01's number of the refusal, 0 where the call was accepted, and the values of its answer,
 // 0 where there is none.
+
+#![tactic(auto)]
+
 ghost use Rattle.std.specs.Prelude.{◌≡◌};
 ghost use Rattle.answers.specs.declared.Answer.TheVariants.{Refused};
 ghost use Rattle.replies.specs.ReplyFor.{reply_for};

@@ -1,5 +1,8 @@
 // How far a script is: the bytes that are passed and the calls that were run, and the reply where a bad record ends it (document 01, "The script
 // program").
+
+#![tactic(auto)]
+
 ghost use Rattle.std.specs.Prelude.{◌≡◌, ◌+◌, ◌<◌, ◌^◌};
 ghost use Rattle.refusals.specs.Refusals.{number, bad_record};
 

@@ -1,5 +1,8 @@
 // The test of lent tables, its part about capabilities (document 01, **Sound**).
 // A walk over all slots lets each claim what it names: a mark in the work area for each thing that may be named once.
+
+#![tactic(auto)]
+
 ghost use Rattle.std.specs.Prelude.{◌≡◌, ◌+◌, ◌*◌, length, replicate};
 ghost use Rattle.tables.specs.View.{view, Sized};
 ghost use Rattle.claims.specs.Claims.{claims_hold};

@@ -1,4 +1,7 @@
 // The test of the rows of pools in lent tables: what is free is all zero, and a domain in use has a list that holds.
+
+#![tactic(auto)]
+
 ghost use Rattle.std.specs.Prelude.{◌≡◌};
 ghost use Rattle.tables.specs.View.{view, Sized};
 ghost use Rattle.sound_lists.specs.Marks.{Clean};

@@ -1,4 +1,7 @@
 // The steps on the ring in the tables: it is loaded, lent to the step, and the place that the step can change stored.
+
+#![tactic(auto)]
+
 ghost use Rattle.std.specs.Prelude.{◌≡◌};
 ghost use Rattle.tables.specs.View.{view, Sized, Left};
 ghost use Rattle.ring.specs.Ring.{cleanup_of, push_of, pop_of};

@@ -6,7 +6,7 @@ use native.Mathlib.Omega.{arith}
 use Rattle.managers.proofs.climb.Given as goal
 
 abbrev pub invariant-loop-i : goal.invariant-loop-i
-invariant-loop-i l = (l.i ≤ l.l.n) × (climbed (manager_in l.l.z l.l.p) l.l.n l.l ≡ climbed (manager_in l.l.z l.l.p) (l.l.n - l.i) l.l.at)
+invariant-loop-i l = (l.i ≤ l.n) × (climbed (manager_in l.z l.p) l.n l.l ≡ climbed (manager_in l.z l.p) (l.n - l.i) l.at)
 
 abbrev pub decreases-loop-i : goal.decreases-loop-i
-decreases-loop-i l = l.l.n - l.i
+decreases-loop-i l = l.n - l.i

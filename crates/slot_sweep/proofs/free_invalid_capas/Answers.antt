@@ -12,6 +12,7 @@ use mathlib.Core.Logic.{⊎_elim}
 use mathlib.Core.Path.{◌≡◌, refl, sym, ◌∙◌}
 use native.Mathlib.Omega.{arith}
 use Rattle.slot_sweep.proofs.free_invalid_capas.Goals as goal
+use Rattle.slot_sweep.proofs.free_invalid_capas.Goals.{then-both, else-both}
 
 pub loop-i-init : goal.loop-i-init
 loop-i-init c = (omega arith, refl)
@@ -45,10 +46,10 @@ loop-i-preserved c =
     let l : SlotList = record { slots = k.slots; head = k.head; count = k.count; size = a.list.size } in
     let m : SlotList = record { slots = c.if-both.slots; head = c.if-both.head; count = c.if-both.count; size = a.list.size } in
     let e : m ≡ sweep_slot bad l k.i =
-    ⊎_elim
-    (λ w. rw (w.3, w.4, w.5, w.1.ensures, w.2.ensures) (sweep-freed bad l k.i _ _ _ refl c.is_invalid.ensures c.both.ensures w.0.taken))
-    (λ w. rw (w.1, w.2, w.3) (sweep-left bad l k.i _ _ _ refl c.is_invalid.ensures c.both.ensures w.0.left))
-    c.if-both.branch in
+    elim c.if-both.branch [
+      | then-both w ↦ rw (w.slots-is, w.head-is, w.count-is, w.free_slot.ensures, w.less_one-count.ensures) (sweep-freed bad l k.i _ _ _ refl c.is_invalid.ensures c.both.ensures w.if-both.true)
+      | else-both w ↦ rw (w.slots-is, w.head-is, w.count-is) (sweep-left bad l k.i _ _ _ refl c.is_invalid.ensures c.both.ensures w.if-both.false)
+    ] in
     (omega arith, sweep-turn bad l k.i m c.loop-i-test.true e ∙ k.invariant.1)
 
 pub returns : goal.returns

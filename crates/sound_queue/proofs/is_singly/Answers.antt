@@ -13,7 +13,7 @@ pub loop-j-init : goal.loop-j-init
 loop-j-init c = refl
 
 pub update_numbered-u-requires : goal.update_numbered-u-requires
-update_numbered-u-requires c = let h = (c.requires.sized, (c.requires.n_nonzero.0, omega (arith, c.requires.n_nonzero.1))) in record { sized = h.0; n_nonzero = h.1; j_bound = h.2 }
+update_numbered-u-requires c = record { sized = c.requires.sized; n_nonzero = c.requires.n_nonzero; j_bound = omega (arith, c.requires.m_bound) }
 
 pub overflow_add-j : goal.overflow_add-j
 overflow_add-j c = omega arith

@@ -14,7 +14,7 @@ pub loop-i-init : goal.loop-i-init
 loop-i-init c = refl
 
 pub update_numbered-x-requires : goal.update_numbered-x-requires
-update_numbered-x-requires c = let h = (c.requires.sized, (c.requires.n_nonzero.0, omega (arith, c.requires.n_nonzero.1))) in record { sized = h.0; n_nonzero = h.1; j_bound = h.2 }
+update_numbered-x-requires c = record { sized = c.requires.sized; n_nonzero = c.requires.n_nonzero; j_bound = omega (arith, c.requires.m_bound) }
 
 pub returns-then-same : goal.returns-then-same
 unfolding none_same

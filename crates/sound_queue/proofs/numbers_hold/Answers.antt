@@ -13,10 +13,10 @@ pub loop-j-init : goal.loop-j-init
 loop-j-init c = refl
 
 pub update_numbered-u-requires : goal.update_numbered-u-requires
-update_numbered-u-requires c = let h = (c.requires.sized, (omega arith, omega (arith, c.requires.n_bound))) in record { sized = h.0; n_nonzero = h.1; j_bound = h.2 }
+update_numbered-u-requires c = record { sized = c.requires.sized; n_nonzero = omega arith; j_bound = omega (arith, c.requires.n_bound) }
 
 pub marks_numbered-marks-requires : goal.marks_numbered-marks-requires
-marks_numbered-marks-requires c = let h = (c.requires.sized, (omega arith, omega (arith, c.requires.n_bound))) in record { sized = h.0; n_nonzero = h.1; j_bound = h.2 }
+marks_numbered-marks-requires c = record { sized = c.requires.sized; n_nonzero = omega arith; j_bound = omega (arith, c.requires.n_bound) }
 
 pub update_fits-fits-requires : goal.update_fits-fits-requires
 update_fits-fits-requires c = c.requires.sized

@@ -22,10 +22,10 @@ pub lists_hold-requires : goal.lists_hold-requires
 lists_hold-requires c = (regions-few _ _ c.requires.sized c.size-n.ensures, children-few _ _ c.requires.sized c.size-n.ensures _ c.regions_of-p.ensures _ c.links_of-links.ensures _ c.count_children-many.ensures c.if-many-gt0.true)
 
 pub clear_first-requires : goal.clear_first-requires
-clear_first-requires c = omega (arith, regions-fit _ _ c.requires.sized c.size-n.ensures, c.requires.w_len.0, c.roots_hold-rooted.auto.w.0)
+clear_first-requires c = omega (arith, regions-fit _ _ c.requires.sized c.size-n.ensures, c.requires.w_len, c.roots_hold-rooted.auto.w)
 
 pub returns-then-lists_hold : goal.returns-then-lists_hold
-returns-then-lists_hold c = record { value = all_tested _ _ c.requires.sized c.size-n.ensures _ c.regions_of-p.ensures _ c.links_of-links.ensures _ c.count_children-many.ensures _ c.if-many-gt0.true c.lists_hold.ensures _ c.requires.w_len.0 c.requires.w_len.1 _ c.if-lists_hold.true c.roots_hold-rooted.ensures.value; w_unchanged = all-cleared _ _ _ _ (omega (arith, regions-fit _ _ c.requires.sized c.size-n.ensures, c.requires.w_len.0)) c.requires.w_len.1 (marks-inside _ _ c.requires.sized c.size-n.ensures _ c.regions_of-p.ensures _ _ c.roots_hold-rooted.ensures.w_after) c.clear_first.ensures }
+returns-then-lists_hold c = record { value = all_tested _ _ c.requires.sized c.size-n.ensures _ c.regions_of-p.ensures _ c.links_of-links.ensures _ c.count_children-many.ensures _ c.if-many-gt0.true c.lists_hold.ensures _ c.requires.w_len c.requires.w_value _ c.if-lists_hold.true c.roots_hold-rooted.ensures.value; w_unchanged = all-cleared _ _ _ _ (omega (arith, regions-fit _ _ c.requires.sized c.size-n.ensures, c.requires.w_len)) c.requires.w_value (marks-inside _ _ c.requires.sized c.size-n.ensures _ c.regions_of-p.ensures _ _ c.roots_hold-rooted.ensures.w_after) c.clear_first.ensures }
 
 pub returns-else-lists_hold : goal.returns-else-lists_hold
 returns-else-lists_hold c = record { value = lists-fail _ _ c.requires.sized c.size-n.ensures _ c.regions_of-p.ensures _ c.links_of-links.ensures _ c.count_children-many.ensures _ c.if-many-gt0.true c.lists_hold.ensures c.if-lists_hold.false; w_unchanged = refl }

@@ -11,7 +11,7 @@ use Rattle.sound_lists.specs.Loops.{Going, going_start, more-to-follow, follow-g
 use Rattle.sound_lists.proofs.walks.follow.Given as goal
 
 abbrev pub invariant-loop-p : goal.invariant-loop-p
-invariant-loop-p l = (length l.w ≡ length l.l.initial.w) × Going (view l.l.t) l.l.s l.l.e l.l.most l.l.initial.l l.l.initial.w l.l.followed l.l.l' l.w
+invariant-loop-p l = (length l.w ≡ length l.initial.w) × Going (view l.t) l.s l.e l.most l.initial.l l.initial.w l.followed l.l l.w
 
 abbrev pub decreases-loop-p : goal.decreases-loop-p
-decreases-loop-p l = l.l.most - l.l.followed
+decreases-loop-p l = l.most - l.followed

@@ -5,6 +5,7 @@ use native.Mathlib.Omega.{arith}
 use borrow.Author.Tests.{not-true, not-false}
 use Prim.Native.Nat.{◌<◌, ◌≤◌}
 use Rattle.sections.specs.Rows.{region_in}
+use Rattle.std.proofs.Common.{◌+◌}
 use Rattle.sound_tree.specs.Tree.{walk_from, walked}
 use Rattle.sound_tree.specs.Turns.{walk_turn, walk-stop, walk-full, walk_end}
 use Rattle.sound_tree.proofs.lists.walk.Goals as goal
@@ -17,7 +18,7 @@ unfolding walked
 loop-link-init c = (omega arith, rw (← c.region_in-first.ensures))
 
 pub returns-then-n-eq0 : goal.returns-then-n-eq0
-returns-then-n-eq0 c = let z : c.loop-link.n ≡ 0 = omega arith in walk-full _ _ _ _ c.loop-link-test.true ∙ rw z at c.loop-link.invariant.1
+returns-then-n-eq0 c = let z : c.loop-link.n ≡ 0 = omega arith in walk-full (region_in c.args.p.now) (c.args.k + 1) c.loop-link.link c.loop-link.s c.loop-link-test.true ∙ rw z at c.loop-link.invariant.1
 
 pub overflow_sub-link : goal.overflow_sub-link
 overflow_sub-link c = omega arith

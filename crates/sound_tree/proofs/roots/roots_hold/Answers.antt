@@ -23,7 +23,7 @@ pub loop-i-smaller : goal.loop-i-smaller
 loop-i-smaller c = omega arith
 
 pub loop-i-preserved : goal.loop-i-preserved
-loop-i-preserved c = (omega arith, c.mark.auto.w.0 ∙ c.loop-i.invariant.1, roots-turn _ _ _ _ _ c.loop-i-test.true c.climb.ensures _ (c.if-not-climb.false) c.mark.ensures ∙ c.loop-i.invariant.2, marks-turn _ _ _ _ _ c.loop-i-test.true c.climb.ensures _ (c.if-not-climb.false) c.mark.ensures ∙ c.loop-i.invariant.3)
+loop-i-preserved c = (omega arith, c.mark.auto.w ∙ c.loop-i.invariant.1, roots-turn _ _ _ _ _ c.loop-i-test.true c.climb.ensures _ (c.if-not-climb.false) c.mark.ensures ∙ c.loop-i.invariant.2, marks-turn _ _ _ _ _ c.loop-i-test.true c.climb.ensures _ (c.if-not-climb.false) c.mark.ensures ∙ c.loop-i.invariant.3)
 
 pub returns : goal.returns
 returns c = record { value = roots-end _ _ _ _ c.loop-i-test.false ∙ c.loop-i.invariant.2; w_after = marks-end _ _ _ _ c.loop-i-test.false ∙ c.loop-i.invariant.3 }
