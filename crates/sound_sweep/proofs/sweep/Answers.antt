@@ -20,7 +20,7 @@ pub holds-b-requires : goal.holds-b-requires
 holds-b-requires c = record { low = c.loop-x.invariant.starts; low_2 = c.loop-x.invariant.ends }
 
 pub returns-then-not-b : goal.returns-then-not-b
-returns-then-not-b c = sweep-fails _ _ _ _ _ _ _ _ _ c.loop-x.invariant (sym c.both.ensures ∙ c.loop-x-test.true) _ _ c.record_in-x.ensures c.holds-b.ensures (c.if-not-b.true)
+returns-then-not-b c = sweep-fails _ _ _ _ _ _ _ _ _ c.loop-x.invariant (sym c.both.ensures ∙ c.loop-x-test.true) _ _ c.record_in-x.ensures c.holds-b.ensures (not-true _ c.if-not-b.true)
 
 pub overflow_sub-left : goal.overflow_sub-left
 overflow_sub-left c = omega (arith, more c.loop-x.left c.loop-x.link (sym c.both.ensures ∙ c.loop-x-test.true))
@@ -29,7 +29,7 @@ pub loop-x-smaller : goal.loop-x-smaller
 loop-x-smaller c = omega (arith, more c.loop-x.left c.loop-x.link (sym c.both.ensures ∙ c.loop-x-test.true))
 
 pub loop-x-preserved : goal.loop-x-preserved
-loop-x-preserved c = sweep-goes _ _ _ _ _ _ _ _ _ c.loop-x.invariant (sym c.both.ensures ∙ c.loop-x-test.true) _ _ c.record_in-x.ensures c.holds-b.ensures (c.if-not-b.false)
+loop-x-preserved c = sweep-goes _ _ _ _ _ _ _ _ _ c.loop-x.invariant (sym c.both.ensures ∙ c.loop-x-test.true) _ _ c.record_in-x.ensures c.holds-b.ensures (not-false _ c.if-not-b.false)
 
 pub ends-requires : goal.ends-requires
 ends-requires c = c.loop-x.invariant.ends
