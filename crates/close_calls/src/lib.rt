@@ -1,5 +1,8 @@
 // A Management capability revoked (document 02, request 5): its domain is closed, after what is asked of all domains that
 // would be closed with it.
+
+#![tactic(auto)]
+
 ghost use Rattle.std.specs.Prelude.{◌≡◌};
 ghost use Rattle.tables.specs.View.{view, Sized, Left};
 ghost use Rattle.close_calls.specs.Calls.{close_unless_held, close_managed};

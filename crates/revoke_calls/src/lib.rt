@@ -1,4 +1,7 @@
 // Capabilities revoked, and a capability to revoke.
+
+#![tactic(auto)]
+
 ghost use Rattle.std.specs.Prelude.{◌≡◌};
 ghost use Rattle.tables.specs.View.{view, Sized, Left};
 ghost use Rattle.revoke_calls.specs.Calls.{revoke_unless_root, revoke_capa, revoke_local, create_revoke_capa};
