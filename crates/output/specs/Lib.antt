@@ -1,5 +1,4 @@
 pub mod Bounds
-pub mod Digits
 pub mod Examples
 pub mod Lines
 pub mod Printed

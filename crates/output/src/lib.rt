@@ -7,8 +7,8 @@ ghost use Rattle.std.specs.Prelude.{◌≡◌, ◌+◌, ◌≤◌, ◌<◌, true
 ghost use Rattle.output.specs.Text.{Puts, ended, call_line, domain_line, queue_line, numbers_at};
 ghost use Rattle.output.specs.Text.{decimal as Text·decimal};
 
-use libc::{STDERR_FILENO, STDOUT_FILENO};
 use replies::{Reply, UpdateReply};
+use std::io::Write;
 
 // ---- Parts of a line
 
@@ -120,17 +120,30 @@ pub struct Pending {
     pub failed: bool,
 }
 
+// Writes these bytes and answers true, or stops at the first write that takes none or fails and answers false.
+fn write_all<W: Write>(out: &mut W, text: &[u8]) -> bool {
+    let mut done = 0;
+    while done < text.len() {
+        let n = out.write(&text[done..]).unwrap_or(0);
+        if n == 0 {
+            return false;
+        }
+        done += n;
+    }
+    true
+}
+
 // Hands these bytes over. None may follow a write that failed: they would stand behind a line that was cut.
-fn hand_over(text: &[u8], p: Pending) -> bool
+fn hand_over<W: Write>(out: &mut W, text: &[u8], p: Pending) -> bool
     requires n_in_bounds { p.n ≤ length text.now }
     requires failed_value { p.failed ≡ false }
 {
     let n = p.n;
-    io::write_all(STDOUT_FILENO, &text[..n])
+    write_all(out, &text[..n])
 }
 
 // Writes these bytes, unless a write failed before.
-pub fn write(text: &[u8], p: Pending) -> Pending
+pub fn write<W: Write>(out: &mut W, text: &[u8], p: Pending) -> Pending
     requires { p.n ≤ length text.now }
     ensures n_value { result.n ≡ 0 }
     ensures failed_value { p.failed ≡ true → result.failed ≡ true }
@@ -140,12 +153,12 @@ pub fn write(text: &[u8], p: Pending) -> Pending
     }
     Pending {
         n: 0,
-        failed: !hand_over(text, p),
+        failed: !hand_over(out, text, p),
     }
 }
 
 // Writes the bytes that are there unless a line fits behind them.
-pub fn room(text: &[u8], p: Pending) -> Pending
+pub fn room<W: Write>(out: &mut W, text: &[u8], p: Pending) -> Pending
     requires n_in_bounds { p.n ≤ length text.now }
     requires in_bounds { 128 ≤ length text.now }
     ensures n_in_bounds_2 { result.n + 128 ≤ length text.now }
@@ -156,10 +169,10 @@ pub fn room(text: &[u8], p: Pending) -> Pending
     if 128 <= text.len() - p.n {
         return p;
     }
-    write(text, p)
+    write(out, text, p)
 }
 
 // A line on standard error. Where that fails, nobody can be told.
-pub fn error_line(line: &[u8]) {
-    io::write_all(STDERR_FILENO, line);
+pub fn error_line<W: Write>(err: &mut W, line: &[u8]) {
+    write_all(err, line);
 }
