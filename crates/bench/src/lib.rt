@@ -1,5 +1,8 @@
 // Steps of the engine on lent tables, exported so that they can be timed (bench/README.md). They test no soundness and put nothing back: what
 // document 01 demands of calls is not promised of them. Each tests the length first; where it is wrong the answer is `NOTHING` and no word changes.
+
+#![tactic(auto)]
+
 ghost use Rattle.std.specs.Prelude.{◌≡◌, length, replicate};
 ghost use Rattle.words.specs.Copies.{copied};
 ghost use Rattle.sizes.specs.Limits.{limits_b};

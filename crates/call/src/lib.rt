@@ -1,4 +1,7 @@
 // The calls that are one step on the tables (lib.rs), as one type.
+
+#![tactic(auto)]
+
 use region::AccessRights;
 use send_options::SendOptions;
 use tables::Handle;

@@ -1,4 +1,7 @@
 // The calls about capabilities, built of the plain arguments that an exported function takes.
+
+#![tactic(auto)]
+
 ghost use Rattle.std.specs.Prelude.{◌≡◌};
 ghost use Rattle.model.specs.State.{no_options};
 ghost use Rattle.model.specs.Perform.{Step};

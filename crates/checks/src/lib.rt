@@ -1,4 +1,7 @@
 // Checks that several calls share, the refusal's number beside each.
+
+#![tactic(auto)]
+
 ghost use Rattle.std.specs.Prelude.{◌≡◌};
 ghost use Rattle.tables.specs.View.{view, Sized, Left};
 ghost use Rattle.rights.specs.Rights.{has};

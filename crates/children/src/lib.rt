@@ -1,5 +1,8 @@
 // Child lists (document 01, **Child lists**): a region's children, linked in the order of their starts; the checks of
 // alias and carve. A link is a region's slot + 1, or 0 for none.
+
+#![tactic(auto)]
+
 ghost use Rattle.std.specs.Prelude.{◌≡◌, true, false, ◌%◌};
 ghost use Rattle.tables.specs.View.{view, Sized, Left};
 ghost use Rattle.children.specs.Children.{overlaps_b, ends_b, find, link_child, insert_child, remove_child, fits_b, check_child};

@@ -1,4 +1,7 @@
 // The words of this delivery's tables built from former ones, without marks (document 02, request 2), for the converter.
+
+#![tactic(auto)]
+
 ghost use Rattle.std.specs.Prelude.{◌≡◌, true};
 ghost use Rattle.tables.specs.View.{view, Sized, Left};
 ghost use Rattle.converted.specs.Former.{rebuilt};

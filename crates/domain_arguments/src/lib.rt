@@ -1,4 +1,7 @@
 // The calls about domains, built of the plain arguments that an exported function takes.
+
+#![tactic(auto)]
+
 ghost use Rattle.std.specs.Prelude.{◌≡◌};
 ghost use Rattle.std.proofs.Math.Option.{none, some};
 ghost use Rattle.model.specs.Perform.{Step};

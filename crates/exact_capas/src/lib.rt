@@ -1,1 +1,3 @@
 // Mathematics only: the tests of sound_capas are exact.
+
+#![tactic(auto)]

@@ -1,1 +1,3 @@
 // No code: that the test of the regions' hashes is exact (specs/).
+
+#![tactic(auto)]

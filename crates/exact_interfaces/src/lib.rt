@@ -1,1 +1,3 @@
 // No code: that the test of the domains' interfaces is exact (specs/).
+
+#![tactic(auto)]

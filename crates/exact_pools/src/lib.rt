@@ -1,1 +1,3 @@
 // The test of pools and slot lists is exact: mathematics only.
+
+#![tactic(auto)]

@@ -1,1 +1,3 @@
 // Mathematics only: the test of the ring is exact.
+
+#![tactic(auto)]

@@ -1,4 +1,7 @@
 // Turns of a walk that adds a range (document 01, **Tracker**): a gap becomes a record, a record in the range gains.
+
+#![tactic(auto)]
+
 ghost use Rattle.std.specs.Prelude.{◌≡◌};
 ghost use Rattle.tables.specs.View.{view, Sized, Left};
 ghost use Rattle.gain_turns.specs.Turns.{fill_turn, raise_turn};

@@ -1,4 +1,7 @@
 // The turn of a walk that removes a range (document 01, **Tracker**), where a record lies in the range.
+
+#![tactic(auto)]
+
 ghost use Rattle.std.specs.Prelude.{◌≡◌};
 ghost use Rattle.tables.specs.View.{view, Sized, Left};
 ghost use Rattle.loss_turns.specs.Turns.{lower_turn};

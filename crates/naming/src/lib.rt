@@ -1,4 +1,7 @@
 // The call that a script's record names (document 01, "The script program"), as crate call has it.
+
+#![tactic(auto)]
+
 ghost use Rattle.std.specs.Prelude.{◌≡◌, ◌<◌};
 ghost use Rattle.model.specs.Perform.{Step};
 ghost use Rattle.model.specs.CallWords.{StepWords};

@@ -73,9 +73,12 @@ module _ (h : Handle) (a : ℕ) (b : Book) (closed : is_open b h ≡ false) wher
 
   after-clear : (t w t₁ w₁ : List ℕ) (c : Call) (y : Answer) → CallWords c → BookOf b t → After t w c y t₁ w₁ → Opens (note b c y)
   unfolding note
-  after-clear t w t₁ w₁ c y u k (made z) o = made-clear z (make_in (length t) (length w) z) o
-  after-clear t w t₁ w₁ c y u k (not_sound d q n) o = unchanged o
-  after-clear t w t₁ w₁ c y u k (performed d s q l) o = step_clear s d q u t w l (book-of-state b t w s k l) o
+  after-clear t w t₁ w₁ c y u k m o = go c y t₁ w₁ u m o
+    where
+      go : (c : Call) (y : Answer) (v x : List ℕ) → CallWords c → After t w c y v x → Opens (note b c y)
+      go c y v x u (made z) o = made-clear z (make_in (length t) (length w) z) o
+      go c y v x u (not_sound d q n) o = unchanged o
+      go c y v x u (performed d s q l) o = step_clear s d q u t w l (book-of-state b t w s k l) o
 
 -- ---- any calls
 

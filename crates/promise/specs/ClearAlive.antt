@@ -266,10 +266,16 @@ accepted-has s f m k (refused {r}) e = absurd (omega arith)
 
 pub alias-has : (b : Book) (t w t₁ w₁ : List ℕ) (h : Handle) (l : ℕ) (x : Access) (y : Answer) → BookOf b t → code y ≡ 0 → After t w (Call.Do (Step.Alias h l x)) y t₁ w₁ → Inside b h.slot l x
 unfolding step perform perform_step
-alias-has b t w t₁ w₁ h l x y k e (not_sound d q n) = absurd (omega arith)
-alias-has b t w t₁ w₁ h l x y k e (performed d s m q) = accepted-has s model.Value.local (alias_region h l x s) (step-coded s (Call.Do (Step.Alias h l x))) (alias-inside b s h l x q.sound (book-of-state b t w s k q)) e
+alias-has b t w t₁ w₁ h l x y k e a = go h l x y t₁ w₁ e a
+  where
+    go : (h : Handle) (l : ℕ) (x : Access) (y : Answer) (u v : List ℕ) → code y ≡ 0 → After t w (Call.Do (Step.Alias h l x)) y u v → Inside b h.slot l x
+    go h l x y u v e (not_sound d q n) = absurd (omega arith)
+    go h l x y u v e (performed d s m q) = accepted-has s model.Value.local (alias_region h l x s) (step-coded s (Call.Do (Step.Alias h l x))) (alias-inside b s h l x q.sound (book-of-state b t w s k q)) e
 
 pub carve-has : (b : Book) (t w t₁ w₁ : List ℕ) (h : Handle) (l : ℕ) (x : Access) (y : Answer) → BookOf b t → code y ≡ 0 → After t w (Call.Do (Step.Carve h l x)) y t₁ w₁ → Inside b h.slot l x
 unfolding step perform perform_step
-carve-has b t w t₁ w₁ h l x y k e (not_sound d q n) = absurd (omega arith)
-carve-has b t w t₁ w₁ h l x y k e (performed d s m q) = accepted-has s model.Value.local (carve_region h l x s) (step-coded s (Call.Do (Step.Carve h l x))) (carve-inside b s h l x q.sound (book-of-state b t w s k q)) e
+carve-has b t w t₁ w₁ h l x y k e a = go h l x y t₁ w₁ e a
+  where
+    go : (h : Handle) (l : ℕ) (x : Access) (y : Answer) (u v : List ℕ) → code y ≡ 0 → After t w (Call.Do (Step.Carve h l x)) y u v → Inside b h.slot l x
+    go h l x y u v e (not_sound d q n) = absurd (omega arith)
+    go h l x y u v e (performed d s m q) = accepted-has s model.Value.local (carve_region h l x s) (step-coded s (Call.Do (Step.Carve h l x))) (carve-inside b s h l x q.sound (book-of-state b t w s k q)) e

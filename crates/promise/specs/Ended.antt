@@ -26,20 +26,23 @@ revoke-sound s k h l = bind (revoke-call-sound h l s k) (λ t p. accepted p)
 
 ended : (t w t' w' : List ℕ) (h : Handle) (l : ℕ) (y : Answer) → code y ≡ 0 → After t w (Call.Do (Step.Revoke h l)) y t' w' → Ended t h l t'
 unfolding step
-ended t w t' w' h l y e (not_sound c q n) = absurd (omega arith)
-ended t w t' w' h l y e (performed c s q k) =
-    let m = perform s (Call.Do (Step.Revoke h l)) in
-    let (v, f) = was-accepted s m (step-coded s (Call.Do (Step.Revoke h l))) e in
-    record {
-      before = s;
-      tables = k.tables;
-      sound = k.sound;
-      after = (after s m).1;
-      left = refl;
-      left_sound = all-ok (λ y. Sound y.1) m (v, (after s m).1) (revoke-sound s k.sound h l) f;
-      ends = λ d i. contract-ends s h l d v (after s m).1 k.sound i f;
-      takes_back = λ d u i. region-returns s h l d v (after s m).1 k.sound u i f;
-    }
+ended t w t' w' h l y e a = go h l y t' w' e a
+  where
+    go : (h : Handle) (l : ℕ) (y : Answer) (u v : List ℕ) → code y ≡ 0 → After t w (Call.Do (Step.Revoke h l)) y u v → Ended t h l u
+    go h l y u v e (not_sound c q n) = absurd (omega arith)
+    go h l y u v e (performed c s q k) =
+        let m = perform s (Call.Do (Step.Revoke h l)) in
+        let (v, f) = was-accepted s m (step-coded s (Call.Do (Step.Revoke h l))) e in
+        record {
+          before = s;
+          tables = k.tables;
+          sound = k.sound;
+          after = (after s m).1;
+          left = refl;
+          left_sound = all-ok (λ y. Sound y.1) m (v, (after s m).1) (revoke-sound s k.sound h l) f;
+          ends = λ d i. contract-ends s h l d v (after s m).1 k.sound i f;
+          takes_back = λ d u i. region-returns s h l d v (after s m).1 k.sound u i f;
+        }
 
 -- THEOREM
 pub contract-ended : ContractEnded

@@ -1,4 +1,7 @@
 // The calls that make regions, built of the plain arguments that an exported function takes.
+
+#![tactic(auto)]
+
 ghost use Rattle.std.specs.Prelude.{◌≡◌};
 ghost use Rattle.model.specs.Perform.{Step};
 ghost use Rattle.model.specs.CallWords.{StepWords};

@@ -1,4 +1,7 @@
 // Regions made, freed and sent (segment.rs; document 01, **Alias** to **Revoke**).
+
+#![tactic(auto)]
+
 pub mod regions;
 pub mod send;
 

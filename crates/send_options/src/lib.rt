@@ -1,4 +1,7 @@
 // What a send says besides (document 02, request 1): its checks, and how it joins the region that was sent.
+
+#![tactic(auto)]
+
 pub mod joining;
 
 ghost use Rattle.std.specs.Prelude.{◌≡◌};

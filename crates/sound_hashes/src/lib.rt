@@ -1,4 +1,7 @@
 // The test of the regions' hashes in lent tables (document 02, request 1). Any words may stand in the tables.
+
+#![tactic(auto)]
+
 ghost use Rattle.std.specs.Prelude.{◌≡◌};
 ghost use Rattle.tables.specs.View.{view, Sized};
 ghost use Rattle.sections.specs.Rows.{hash_in};

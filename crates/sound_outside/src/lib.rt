@@ -1,4 +1,7 @@
 // The test of lent tables outside the trackers and the ring (document 01, **Sound**).
+
+#![tactic(auto)]
+
 ghost use Rattle.std.specs.Prelude.{◌≡◌, length, replicate};
 ghost use Rattle.tables.specs.View.{view, Sized};
 ghost use Rattle.sound_outside.specs.Test.{outside_holds};

@@ -1,4 +1,7 @@
 // The pieces of a domain's regions, laid down in a work area: in its first half where they start, in its second where they end.
+
+#![tactic(auto)]
+
 ghost use Rattle.std.specs.Prelude.{◌≡◌};
 ghost use Rattle.sections.specs.Rows.{slot_in, region_in};
 ghost use Rattle.sound_pieces.specs.Pieces.{piece, region_pieces, names_b, slots_pieces};

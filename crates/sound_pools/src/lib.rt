@@ -1,5 +1,8 @@
 // The test of pools and slot lists in lent tables: every slot is in use or free once, each tracker record is on one list,
 // and what is free is all zero. The work area holds a bit for each slot that was met, and is zero again afterwards.
+
+#![tactic(auto)]
+
 ghost use Rattle.std.specs.Prelude.{◌≡◌, length, replicate};
 ghost use Rattle.tables.specs.View.{view, Sized};
 ghost use Rattle.sound_pools.specs.Hold.{outside_pools_hold, record_pool_holds};

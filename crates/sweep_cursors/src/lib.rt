@@ -1,4 +1,7 @@
 // What the sweep of a tracker's records goes by: sums of what pieces count for, and a cursor in a run of sorted events.
+
+#![tactic(auto)]
+
 pub mod counts;
 pub mod events;
 

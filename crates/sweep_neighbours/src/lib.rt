@@ -1,4 +1,7 @@
 // Neighbours in the sweep of a tracker's records (crate `sweep`): whether a record may stand behind the one before it.
+
+#![tactic(auto)]
+
 ghost use Rattle.std.specs.Prelude.{◌≡◌};
 ghost use Rattle.sweep.specs.Sweep.{formed, gap};
 ghost use Rattle.sweep_cursors.specs.Sums.{counts_of};

@@ -1,5 +1,8 @@
 // The tracker of a domain (`RegionTracker`; document 01, **Tracker**): a range gained or lost by walks over records.
 // Where a walk is, is crate `walk_cursors`'; its definitions, and what a turn does to one record, are crate `region`'s.
+
+#![tactic(auto)]
+
 pub mod turns;
 
 ghost use Rattle.std.specs.Prelude.{◌≡◌};

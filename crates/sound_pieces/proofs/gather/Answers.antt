@@ -1,0 +1,28 @@
+-- The pieces of the slots that are left are all from the first slot on.
+use native.Mathlib.Omega.{arith}
+use native.Mathlib.Nat.{sub-zero}
+use Prim.Native.Nat.{◌≤◌, ◌-◌}
+use borrow.Author.Rules.{rules}
+use mathlib.Core.Path.{◌≡◌, refl, ap, ◌∙◌}
+use mathlib.Core.Logic.{⊎_elim}
+use lib.ListN.{length}
+use Rattle.sections.specs.Rows.{slot_in, region_in}
+use Rattle.sound_pieces.specs.Pieces.{slots_pieces}
+use Rattle.sound_pieces.specs.Laid.{filled, places, placed}
+use Rattle.sound_pieces.specs.Walks.{pool, slots_end, slot-named, slot-passed}
+use Rattle.sound_pieces.proofs.gather.Goals as goal
+
+pub loop-j-init : goal.loop-j-init
+loop-j-init c = (refl, omega arith, rw (sub-zero c.args.slots))
+
+pub overflow_add-j : goal.overflow_add-j
+overflow_add-j c = omega arith
+
+pub loop-j-smaller : goal.loop-j-smaller
+loop-j-smaller c = omega arith
+
+pub loop-j-preserved : goal.loop-j-preserved
+loop-j-preserved c = (⊎_elim (λ u. omega (arith, ap length u.5)) (λ u. rw u.1 c.loop-j.invariant.0) c.if-names.branch, omega arith, ⊎_elim (λ u. rw (u.5, u.6) (slot-named _ _ _ _ _ _ _ c.loop-j-test.true _ c.slot_in-x.ensures _ c.names.ensures _ u.2.ensures u.0.taken ∙ c.loop-j.invariant.2)) (λ u. rw (u.1, u.2) (slot-passed _ _ _ _ _ _ _ c.loop-j-test.true _ c.slot_in-x.ensures _ c.names.ensures u.0.left ∙ c.loop-j.invariant.2)) c.if-names.branch)
+
+pub returns : goal.returns
+returns c = slots_end _ _ _ _ _ _ _ c.loop-j-test.false ∙ c.loop-j.invariant.2 ∙ placed _ _
