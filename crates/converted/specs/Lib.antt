@@ -2,9 +2,5 @@
 -- (`Theorem`); the calls of a delivery without marks are this delivery's but for a close, as marks influence nothing else (`MarksAlone`).
 pub mod Marked
 pub mod Former
-pub mod Unique
 pub mod Theorem
-pub mod Alike
-pub mod AlikeRevoke
-pub mod AlikeCalls
 pub mod MarksAlone

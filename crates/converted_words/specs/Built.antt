@@ -27,7 +27,8 @@ use Rattle.tables.specs.Sections.{section}
 use Rattle.tables.specs.Layout.{layout-view, words_are}
 use Rattle.decoded.specs.Rows.{map-up-length, get_or-up, each-any, flat-map, flat-length}
 use Rattle.decoded.specs.Canonical.Words.{view-shaped}
-use Rattle.converted.specs.Former.{sizes_in, ring_at, marked_row, marked_rows, rebuilt, flat-same}
+use Rattle.converted.specs.Former.{sizes_in, ring_at, marked_row, marked_rows, rebuilt}
+use Rattle.converted.proofs.Former.{flat-same}
 
 -- ---- what the code stores
 

@@ -17,7 +17,7 @@ use Rattle.replies.specs.Replies.{reply_of, Converts}
 use Rattle.frame.specs.Finish.{copy-back}
 use Rattle.replies.specs.ReplyFor.{reply_for}
 use Rattle.converted.specs.Former.{rebuilt}
-use Rattle.converted.specs.Unique.{convertible-words, converted-unique}
+use Rattle.converted.proofs.Unique.{convertible-words, converted-unique}
 use Rattle.converting.specs.Exact.{converts_b, test-convertible, convertible-test}
 
 -- THEOREM: what it returns and leaves is settled

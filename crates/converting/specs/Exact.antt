@@ -26,8 +26,9 @@ use Rattle.decoded.specs.Words.{words-sized}
 use Rattle.exact.specs.Law.{words-sound}
 use Rattle.frame.specs.Finish.{admitted}
 use Rattle.frame.specs.Law.{lent}
-use Rattle.converted.specs.Former.{sizes_in, ring_at, marked_row, marked_rows, rebuilt, former-length, rebuilt-marked}
-use Rattle.converted.specs.Unique.{convertible-words}
+use Rattle.converted.specs.Former.{sizes_in, ring_at, marked_row, marked_rows, rebuilt}
+use Rattle.converted.proofs.Former.{former-length, rebuilt-marked}
+use Rattle.converted.proofs.Unique.{convertible-words}
 use Rattle.converted_words.specs.Built.{fits_b, updates-are, front_at}
 use Rattle.converted_words.specs.Fits.{Fitted, fits-true, stored-front, stored-long}
 

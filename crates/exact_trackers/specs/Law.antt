@@ -21,9 +21,9 @@ use Rattle.decoded.specs.Canonical.WellFormed.{domain_row, record_row}
 use Rattle.sweep.specs.Events.{starts, ends}
 use Rattle.sweep.specs.Sweep.{sweep}
 use Rattle.sweep.specs.Sort.{sort}
-use Rattle.sweep.specs.Slots.{listed, OneSlot}
-use Rattle.sweep.specs.Room.{listed-room}
-use Rattle.sweep.specs.Tracker.{tracker-exact}
+use Rattle.sweep.proofs.Slots.{listed, OneSlot}
+use Rattle.sweep.proofs.Room.{listed-room}
+use Rattle.sweep.proofs.Tracker.{tracker-exact}
 use Rattle.sound_events.specs.Events.{gaps}
 use Rattle.sound_sweep.specs.Records.{chained}
 use Rattle.sound_trackers.specs.Trackers.{room, kept, tracker, domain_holds, all_hold, trackers_hold}

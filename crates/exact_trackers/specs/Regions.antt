@@ -21,7 +21,7 @@ use Rattle.tables.specs.Tables.{Tables, region_at}
 use Rattle.decoded.specs.Decode.Read.{kind_from, children_from, region_read, regions_from}
 use Rattle.decoded.specs.Canonical.Pools.{table-in}
 use Rattle.sweep.specs.Events.{Piece}
-use Rattle.sweep.specs.Gather.{as_piece, with_rights, pieces_of}
+use Rattle.sweep.proofs.Gather.{as_piece, with_rights, pieces_of}
 use Rattle.sound_pieces.specs.Pieces.{piece, between, region_pieces}
 
 -- ---- one piece, and one child

@@ -28,8 +28,8 @@ use Rattle.decoded.specs.Shape.{Shaped}
 use Rattle.decoded.specs.Decode.Read.{taken, pool_from, handle_from, capa_from, held_in, domain_read, domains_from, region_read, regions_from}
 use Rattle.decoded.specs.Canonical.Pools.{table-in, table-slot, table-used, regions-many}
 use Rattle.decoded.specs.Canonical.Law.{each_at}
-use Rattle.sweep.specs.Slots as sweep
-use Rattle.sweep.specs.Slots.{listed}
+use Rattle.sweep.proofs.Slots as sweep
+use Rattle.sweep.proofs.Slots.{listed}
 use Rattle.sound_pieces.specs.Pieces.{region_pieces, names_b, slot_pieces, slots_pieces, domain_pieces}
 use Rattle.exact_trackers.specs.Regions.{pieces_are}
 

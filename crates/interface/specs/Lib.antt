@@ -3,15 +3,3 @@
 pub mod Fewer
 pub mod FewerTables
 pub mod Frozen
-pub mod Outcomes
-pub mod NoBits
-pub mod Regions
-pub mod Closing
-pub mod Calls
-pub mod Bits
-pub mod Example
-pub mod Freeze
-pub mod Reword
-pub mod Places
-pub mod Reworded
-pub mod Lent

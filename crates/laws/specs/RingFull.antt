@@ -4,9 +4,9 @@ use Rattle.std.proofs.Math.Option.{none}
 use Rattle.model.specs.State.{Sizes}
 use Rattle.model.specs.Making.{empty_tables}
 use Rattle.model.specs.Perform.{Step, Call, Answer, code, run}
-use Rattle.model.specs.Checked.Compute.{computing}
-use Rattle.model.specs.Checked.Script.{dom, access}
-use Rattle.model.specs.Checked.Edges.{alias}
+use Rattle.model.proofs.Checked.Compute.{computing}
+use Rattle.model.proofs.Checked.Script.{dom, access}
+use Rattle.model.proofs.Checked.Edges.{alias}
 
 abbrev full_sizes : Sizes
 full_sizes = record { domains = 32; slots = 128; regions = 1024; records = 1024; updates = 128 }

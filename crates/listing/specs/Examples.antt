@@ -3,8 +3,8 @@ use Rattle.std.specs.Prelude.{◌≡◌, refl, [], ◌∷◌}
 use Rattle.model.specs.State.{State}
 use Rattle.model.specs.Making.{empty_tables, script_sizes}
 use Rattle.model.specs.Perform.{run}
-use Rattle.model.specs.Checked.Compute.{computing}
-use Rattle.model.specs.Checked.Script.{example}
+use Rattle.model.proofs.Checked.Compute.{computing}
+use Rattle.model.proofs.Checked.Script.{example}
 use Rattle.listing.specs.Lines.{domain_lines}
 
 abbrev after : State

@@ -63,4 +63,3 @@ pub mod CallWords
 pub mod Sound
 pub mod Memory
 pub mod Converting
-pub mod Checked

@@ -15,7 +15,7 @@ use Rattle.laws.specs.Making.{make-lengths, make-made}
 use Rattle.laws.specs.Accepted.{all-ok}
 use Rattle.laws.specs.Empty.{empty-sound}
 use Rattle.laws.specs.Words.Length.{words-length}
-use Rattle.book.specs.Lent.{demand3-lent}
+use Rattle.book.proofs.Lent.{demand3-lent}
 use Rattle.decoded.specs.Sizes.{and_both}
 use Rattle.script_records.specs.Script.{script_calls}
 use Rattle.replies.specs.declared.Reply.{Reply}

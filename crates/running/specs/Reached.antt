@@ -13,7 +13,8 @@ use Rattle.decoded.specs.Words.{words-sized}
 use Rattle.book.specs.Book.{blank}
 use Rattle.replies.specs.declared.Reply.{Reply}
 use Rattle.replies.specs.Replies.{reply_of, Returns}
-use Rattle.promise.specs.Reached.{Leads, Reached, reached-claims, reached-made, leads-none, step-leads, pop-leads}
+use Rattle.promise.specs.Reached.{Leads, Reached}
+use Rattle.promise.proofs.Reached.{reached-claims, reached-made, leads-none, step-leads, pop-leads}
 use Rattle.script_records.specs.declared.Record.{Record}
 use Rattle.script_records.specs.declared.Parsed.{Parsed}
 use Rattle.script_records.specs.declared.Parsed.TheVariants as found

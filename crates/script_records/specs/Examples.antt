@@ -2,7 +2,7 @@
 use Rattle.std.specs.Prelude.{◌≡◌, refl, ℕ, true, false, List, [], ◌∷◌, ◌++◌}
 use Rattle.std.proofs.Math.Option.{none}
 use Rattle.model.specs.Perform.{Step, Call}
-use Rattle.model.specs.Checked.Script.{dom, access, example}
+use Rattle.model.proofs.Checked.Script.{dom, access, example}
 use Rattle.script_records.specs.Script.{kind_of, front_of, calls_from, script_calls}
 use Rattle.byte_numbers.specs.Numbers.{number}
 

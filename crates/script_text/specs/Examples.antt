@@ -1,7 +1,7 @@
 -- Document 01's worked example ("The script program"), as its lines stand there. That its bytes are these calls is an example of crate script_records.
 use Rattle.std.specs.Prelude.{◌≡◌, refl, true, false, []}
-use Rattle.model.specs.Checked.Compute.{computing}
-use Rattle.model.specs.Checked.Script.{example}
+use Rattle.model.proofs.Checked.Compute.{computing}
+use Rattle.model.proofs.Checked.Script.{example}
 use Rattle.listing.specs.Lines.{domain_lines}
 use Rattle.output.specs.Text.{ascii, decimal_in, decimal, ended, call_line, domain_line, queue_line}
 use Rattle.script_text.specs.ScriptText.{call_lines, bad_line, domain_text, queue_text, text_of}

@@ -5,8 +5,8 @@ use Rattle.base.specs.Tests.{both, both_true}
 use Rattle.tables.specs.declared.Region.{Region}
 use Rattle.sweep.specs.Sweep as sweep
 use Rattle.sweep.specs.Sweep.{upto, next, next_of, agrees, inside}
-use Rattle.sweep.specs.Cursor.{left, round-shorter}
-use Rattle.sweep.specs.Loops.{inside-go, inside-stop, inside-fail}
+use Rattle.sweep.proofs.Cursor.{left, round-shorter}
+use Rattle.sweep.proofs.Loops.{inside-go, inside-stop, inside-fail}
 use Rattle.sound_events.specs.Events.{events_in}
 use Rattle.sweep_cursors.specs.declared.Cursor.{Cursor}
 use Rattle.sweep_cursors.specs.Sums.{counts_of, counts_from, Low}

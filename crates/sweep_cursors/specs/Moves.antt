@@ -4,7 +4,7 @@ use Rattle.std.proofs.Math.Path.{refl}
 use Rattle.std.proofs.Common.{sym, ap, ◌∙◌, arith}
 use Rattle.model.specs.Tracker.{no_counts, raise}
 use Rattle.sweep.specs.Sweep.{pass, upto, next}
-use Rattle.sweep.specs.Loops.{place-go, place-stop, place_end, place-next, place_none}
+use Rattle.sweep.proofs.Loops.{place-go, place-stop, place_end, place-next, place_none}
 use Rattle.sound_events.specs.Events.{events_in}
 use Rattle.sound_events.specs.Words.{length-events, address-in, rights-in}
 use Rattle.sweep_cursors.specs.declared.Sums.{Sums}

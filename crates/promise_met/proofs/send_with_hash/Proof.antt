@@ -1,6 +1,6 @@
 -- The words of a hash are words, since its bytes are bytes.
 use borrow.Author.Rules.{rules}
-use Rattle.promise.specs.Hashes.{hash-fits}
+use Rattle.promise.proofs.Hashes.{hash-fits}
 use Rattle.promise_met.proofs.send_with_hash.Statement.{statement}
 use Rattle.promise_met.proofs.send_with_hash.Tie as tie
 

@@ -7,7 +7,7 @@ use Rattle.model.specs.Making.{script_sizes}
 use Rattle.model.specs.Memory.{Lent}
 use Rattle.output.specs.Printing.{prints-next}
 use Rattle.script_text.specs.Queue.{Left, left-all, left-none, left_one, left_end}
-use Rattle.promise.specs.Reached.{reached_then, pop-leads}
+use Rattle.promise.proofs.Reached.{reached_then, pop-leads}
 use Rattle.running.specs.RunScript.{ScriptTables}
 use borrow.Author.Rules.{rules}
 use Rattle.script.proofs.list_queue.Statement.{statement}

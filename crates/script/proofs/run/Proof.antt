@@ -1,6 +1,6 @@
 -- The lengths are right, so the making is accepted; what the records leave is reached, and the lists are of what they leave.
 use native.Mathlib.Omega.{arith}
-use Rattle.promise.specs.Reached.{reached_then}
+use Rattle.promise.proofs.Reached.{reached_then}
 use Rattle.running.specs.Reached.{made-reached}
 use Rattle.script_text.specs.Whole.{made-lent, ran-holds, ran-output}
 use borrow.Author.Rules.{rules}

@@ -9,7 +9,8 @@ use Rattle.model.specs.Memory.{Lent}
 use Rattle.output.specs.Printing.{prints-room}
 use Rattle.script_text.specs.Reading.{At, at_none, at_ready, at_more, at-bad, at-end, at-failed, at_last}
 use Rattle.input.specs.Buffered.{Within}
-use Rattle.promise.specs.Reached.{Leads, leads-none, leads-then}
+use Rattle.promise.specs.Reached.{Leads}
+use Rattle.promise.proofs.Reached.{leads-none, leads-then}
 use borrow.Author.Rules.{rules}
 use Rattle.script.proofs.run_records.Statement.{statement}
 use Rattle.script.proofs.run_records.Tie as tie

@@ -1,6 +1,6 @@
 -- By the difference, which is there where m is not above p.
 use borrow.Author.Tests.{le-leb, lt-leb}
-use Rattle.sweep.specs.Loops.{by_difference}
+use Rattle.sweep.proofs.Loops.{by_difference}
 use Rattle.sweep_cursors.proofs.counts.exceeds.Goals as goal
 
 pub returns-then-m-p : goal.returns-then-m-p

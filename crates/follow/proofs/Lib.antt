@@ -1,0 +1,12 @@
+pub mod Quiet
+pub mod Queue
+pub mod Steps
+pub mod Regions
+pub mod Calls
+pub mod Told
+pub mod Stays
+pub mod Close
+pub mod Revoke
+pub mod Perform
+pub mod Theorem
+pub mod Example

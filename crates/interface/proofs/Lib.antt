@@ -1,0 +1,12 @@
+pub mod Outcomes
+pub mod NoBits
+pub mod Regions
+pub mod Closing
+pub mod Calls
+pub mod Bits
+pub mod Example
+pub mod Freeze
+pub mod Reword
+pub mod Places
+pub mod Reworded
+pub mod Lent

@@ -1,0 +1,14 @@
+pub mod Same
+pub mod Everything
+pub mod Converted
+pub mod Clear
+pub mod Untouched
+pub mod ClearAlive
+pub mod UntouchedAlive
+pub mod Opening
+pub mod ByHandle
+pub mod Ended
+pub mod FewerExported
+pub mod Example
+pub mod Reached
+pub mod Hashes

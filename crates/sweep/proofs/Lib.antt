@@ -1,0 +1,14 @@
+pub mod Events
+pub mod Cursor
+pub mod Inside
+pub mod Gaps
+pub mod Exact
+pub mod Theorem
+pub mod Sort
+pub mod Sorts
+pub mod Gather
+pub mod Slots
+pub mod Room
+pub mod Tracker
+pub mod Loops
+pub mod Checked
