@@ -4,6 +4,7 @@
 
 ghost use Rattle.std.specs.Prelude.{◌≡◌, ℕ, ◌+◌, ◌-◌, ◌<◌, ◌≤◌, length, get_or};
 ghost use Rattle.input.specs.Buffered.{Within, Keeps, Grows, Whole, Moved, answer_of, behind};
+ghost use Rattle.input.specs.Brings.{Brings, Ended};
 
 use std::io;
 use std::io::Read;
@@ -55,6 +56,9 @@ fn read_behind<R: Read>(input: &mut R, b: &mut [u8], h: Buffered) -> Buffered
     ensures within { Within result (length b.old) }
     ensures keeps { Keeps h b.old result b.new }
     ensures grows { Grows h result }
+    ensures same_start { result.at ≡ h.at }
+    ensures brings { Brings (R.remaining input.old) h b.old (R.remaining input.new) result b.new }
+    ensures ended { h.end < length b.old → Ended result (R.remaining input.new) }
 {
     let end = h.end;
     let got = input.read(&mut b[end..]);
@@ -67,6 +71,8 @@ fn read_on<R: Read>(input: &mut R, b: &mut [u8], h: Buffered) -> Buffered
     ensures within { Within result (length b.old) }
     ensures keeps { Keeps h b.old result b.new }
     ensures whole { Whole result }
+    ensures brings { Brings (R.remaining input.old) h b.old (R.remaining input.new) result b.new }
+    ensures ended { h.at + 52 ≤ length b.old → Ended h (R.remaining input.old) → Ended result (R.remaining input.new) }
 {
     let mut r = h;
     while r.more {
@@ -84,6 +90,8 @@ pub fn ready<R: Read>(input: &mut R, b: &mut [u8], h: Buffered) -> Buffered
     ensures within { Within result (length b.old) }
     ensures keeps { Keeps h b.old result b.new }
     ensures whole { Whole result }
+    ensures brings { Brings (R.remaining input.old) h b.old (R.remaining input.new) result b.new }
+    ensures ended { 52 ≤ length b.old → Ended h (R.remaining input.old) → Ended result (R.remaining input.new) }
 {
     let n = h.end - h.at;
     if RECORD <= n {

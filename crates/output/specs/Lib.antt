@@ -4,4 +4,5 @@ pub mod Lines
 pub mod Printed
 pub mod Printing
 pub mod Puts
+pub mod Sent
 pub mod Text

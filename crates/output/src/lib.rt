@@ -3,7 +3,9 @@
 
 #![tactic(auto)]
 
-ghost use Rattle.std.specs.Prelude.{◌≡◌, ◌+◌, ◌≤◌, ◌<◌, true, false, [], ◌∷◌, length};
+ghost use Rattle.std.specs.Prelude.{◌≡◌, ◌+◌, ◌≤◌, ◌<◌, true, false, [], ◌∷◌, length, take};
+ghost use Rattle.std.specs.Io.KnownBytes.{Keeps};
+ghost use Rattle.output.specs.Sent.{Sent, Hands};
 ghost use Rattle.output.specs.Text.{Puts, ended, call_line, domain_line, queue_line, numbers_at};
 ghost use Rattle.output.specs.Text.{decimal as Text·decimal};
 
@@ -121,7 +123,9 @@ pub struct Pending {
 }
 
 // Writes these bytes and answers true, or stops at the first write that takes none or fails and answers false.
-fn write_all<W: Write>(out: &mut W, text: &[u8]) -> bool {
+fn write_all<W: Write>(out: &mut W, text: &[u8]) -> bool
+    ensures { Sent (W.contents out.old) text.now result (W.contents out.new) }
+{
     let mut done = 0;
     while done < text.len() {
         let n = out.write(&text[done..]).unwrap_or(0);
@@ -137,6 +141,7 @@ fn write_all<W: Write>(out: &mut W, text: &[u8]) -> bool {
 fn hand_over<W: Write>(out: &mut W, text: &[u8], p: Pending) -> bool
     requires n_in_bounds { p.n ≤ length text.now }
     requires failed_value { p.failed ≡ false }
+    ensures { Sent (W.contents out.old) (take p.n text.now) result (W.contents out.new) }
 {
     let n = p.n;
     write_all(out, &text[..n])
@@ -147,6 +152,7 @@ pub fn write<W: Write>(out: &mut W, text: &[u8], p: Pending) -> Pending
     requires { p.n ≤ length text.now }
     ensures n_value { result.n ≡ 0 }
     ensures failed_value { p.failed ≡ true → result.failed ≡ true }
+    ensures hands { Hands text.now p (W.contents out.old) result (W.contents out.new) }
 {
     if p.failed {
         return Pending { n: 0, failed: true };
@@ -165,6 +171,8 @@ pub fn room<W: Write>(out: &mut W, text: &[u8], p: Pending) -> Pending
     ensures value { p.n + 128 ≤ length text.now → result ≡ p }
     ensures n_value { length text.now < p.n + 128 → result.n ≡ 0 }
     ensures failed_value { p.failed ≡ true → result.failed ≡ true }
+    ensures stays { p.n + 128 ≤ length text.now → Keeps (W.contents out.old) (W.contents out.new) }
+    ensures hands { length text.now < p.n + 128 → Hands text.now p (W.contents out.old) result (W.contents out.new) }
 {
     if 128 <= text.len() - p.n {
         return p;
@@ -173,6 +181,8 @@ pub fn room<W: Write>(out: &mut W, text: &[u8], p: Pending) -> Pending
 }
 
 // A line on standard error. Where that fails, nobody can be told.
-pub fn error_line<W: Write>(err: &mut W, line: &[u8]) {
+pub fn error_line<W: Write>(err: &mut W, line: &[u8])
+    ensures { Sent (W.contents err.old) line.now false (W.contents err.new) }
+{
     write_all(err, line);
 }
