@@ -4,3 +4,4 @@ pub mod Tests
 pub mod Lists
 pub mod Options
 pub mod Rounds
+pub mod Clauses

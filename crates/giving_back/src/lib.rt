@@ -1,4 +1,7 @@
 // What a revoked carve held goes back (document 01, **Revoke**). `closing` has the domains that are closing (document 02, request 5): they queue nothing.
+
+#![tactic(auto)]
+
 ghost use Rattle.std.specs.Prelude.{◌≡◌};
 ghost use Rattle.tables.specs.View.{view, Sized, Left};
 ghost use Rattle.giving_back.specs.GiveBack.{give_back};

@@ -1,5 +1,8 @@
 // A region without children revoked (document 01, **Revoke**): it leaves its parent's list and its domain's tracker, what a carve held goes back, and
 // its slot is freed. `closing` has the domains that are closing (document 02, request 5): they queue nothing.
+
+#![tactic(auto)]
+
 ghost use Rattle.std.specs.Prelude.{◌≡◌};
 ghost use Rattle.tables.specs.View.{view, Sized, Left};
 ghost use Rattle.leaf_revocation.specs.Leaf.{leave_parent, cleanup_if, free_leaf, revoke_leaf};

@@ -1,4 +1,7 @@
 // Roots and aliases.
+
+#![tactic(auto)]
+
 ghost use Rattle.std.specs.Prelude.{◌≡◌};
 ghost use Rattle.tables.specs.View.{view, Sized, Left};
 ghost use Rattle.region_calls.specs.Calls.{held_region, create_root_region, add_child, alias_region};

@@ -11,6 +11,7 @@ use Rattle.sound_pieces.specs.Pieces.{slots_pieces}
 use Rattle.sound_pieces.specs.Laid.{filled, places, placed}
 use Rattle.sound_pieces.specs.Walks.{pool, slots_end, slot-named, slot-passed}
 use Rattle.sound_pieces.proofs.gather.Goals as goal
+use Rattle.sound_pieces.proofs.gather.Goals.{then-names, else-names}
 
 pub loop-j-init : goal.loop-j-init
 loop-j-init c = (refl, omega arith, rw (sub-zero c.args.slots))
@@ -22,7 +23,10 @@ pub loop-j-smaller : goal.loop-j-smaller
 loop-j-smaller c = omega arith
 
 pub loop-j-preserved : goal.loop-j-preserved
-loop-j-preserved c = (⊎_elim (λ u. omega (arith, ap length u.5)) (λ u. rw u.1 c.loop-j.invariant.0) c.if-names.branch, omega arith, ⊎_elim (λ u. rw (u.5, u.6) (slot-named _ _ _ _ _ _ _ c.loop-j-test.true _ c.slot_in-x.ensures _ c.names.ensures _ u.2.ensures u.0.taken ∙ c.loop-j.invariant.2)) (λ u. rw (u.1, u.2) (slot-passed _ _ _ _ _ _ _ c.loop-j-test.true _ c.slot_in-x.ensures _ c.names.ensures u.0.left ∙ c.loop-j.invariant.2)) c.if-names.branch)
+loop-j-preserved c = (omega arith, omega arith, elim c.if-names.branch [
+  | then-names w ↦ rw (w.w-is, w.count-is) (slot-named _ _ _ _ _ _ _ c.loop-j-test.true _ c.slot_in-x.ensures _ c.names.ensures _ w.lay_region-count.ensures w.if-names.true ∙ c.loop-j.invariant.2)
+  | else-names w ↦ rw (w.w-is, w.count-is) (slot-passed _ _ _ _ _ _ _ c.loop-j-test.true _ c.slot_in-x.ensures _ c.names.ensures w.if-names.false ∙ c.loop-j.invariant.2)
+])
 
 pub returns : goal.returns
 returns c = slots_end _ _ _ _ _ _ _ c.loop-j-test.false ∙ c.loop-j.invariant.2 ∙ placed _ _

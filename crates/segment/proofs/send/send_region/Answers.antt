@@ -13,4 +13,4 @@ overflow_add-limit c = omega (arith, c.size-limit.ensures, c.requires.limits.reg
 
 pub returns : goal.returns
 unfolding send_region
-returns c = rw (c.slot_to.ensures, add-one, c.size-limit.ensures, regions-read, c.store_region.ensures.seen, c.link_to.ensures, c.load_region-g.ensures) at (c.send_from.ensures.value, c.send_from.ensures.left)
+returns c = record { value = rw (c.slot_to.ensures, add-one, c.size-limit.ensures, regions-read, c.store_region.ensures.seen, c.link_to.ensures, c.load_region-g.ensures) at c.send_from.ensures.value; left = rw (c.slot_to.ensures, add-one, c.size-limit.ensures, regions-read, c.store_region.ensures.seen, c.link_to.ensures, c.load_region-g.ensures) at c.send_from.ensures.left }

@@ -1,0 +1,8 @@
+-- The region with its generation.
+use borrow.Author.Rules.{rules}
+use Rattle.region_calls.specs.Calls.{held_region}
+use Rattle.region_calls.proofs.hold.Goals as goal
+
+pub returns : goal.returns
+unfolding held_region
+returns c = rw c.region_generation.ensures at (c.insert.ensures.value, c.insert.ensures.left)
