@@ -162,12 +162,10 @@ fn run_permissions<W: Write>(out: &mut W, t: &[u64], d: usize)
     let p = readings::plan_of(t, d, 1024);
     output::number(out, p.answer);
     let mut at = p.at;
-    let mut left = p.turns;
-    while 0 < left {
+    for _ in 0..p.turns {
         let f = readings::found_at(t, at);
         output::permission(out, f.p);
         at = f.next;
-        left -= 1;
     }
 }
 
@@ -279,14 +277,12 @@ fn turn<W: Write>(out: &mut W, t: &mut [u64], w: &mut [u64], n: usize, c: Reques
 // Every call of the input, on tables of no words at first.
 fn run_all<R: Read, W: Write>(input: &mut R, out: &mut W, t: &mut [u64], w: &mut [u64]) {
     let mut n = 0;
-    let mut turns = u64::MAX;
-    while 0 < turns {
+    for _ in 0..u64::MAX {
         let c = input::next(input);
         if c.kind == END {
             return;
         }
         n = turn(out, t, w, n, c);
-        turns -= 1;
     }
 }
 

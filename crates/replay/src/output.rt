@@ -36,10 +36,8 @@ fn scaled(h: u64) -> u64 {
 // 64-bit FNV-1a, a word at a time.
 pub fn hash(t: &[u64]) -> u64 {
     let mut h = 14695981039346656037;
-    let mut i = 0;
-    while i < t.len() {
-        h = scaled(h ^ t[i]);
-        i += 1;
+    for x in t {
+        h = scaled(h ^ *x);
     }
     h
 }
@@ -51,11 +49,9 @@ pub fn permission<W: Write>(out: &mut W, p: Permission) {
 }
 
 pub fn slots<W: Write>(out: &mut W, run: &[u64], n: u64) {
-    let mut i = 0;
-    while i < run.len() {
+    for (i, x) in run.iter().enumerate() {
         if (i as u64) < n {
-            number(out, run[i]);
+            number(out, *x);
         }
-        i += 1;
     }
 }
