@@ -14,7 +14,6 @@ use Rattle.laws.specs.Tree.Sum.{sum_same}
 use Rattle.laws.specs.Tree.Slots.{count-sum}
 use Rattle.laws.specs.Tree.Total.{is_alias, covers_as}
 use Rattle.laws.specs.Tree.FromRoot.{RootAt}
-use Rattle.laws.specs.Tree.Stored.{stored}
 use Rattle.laws.specs.Lists.{one-true}
 use Rattle.book.specs.Book.{Book, Noted, noted, no_noted}
 use Rattle.book.specs.Demand3.{covers, carves_at, note_tally, is_root_over, is_alias_over, root_had, kind_by, SameRegion, OneForOne}

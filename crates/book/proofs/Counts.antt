@@ -10,7 +10,6 @@ use Rattle.model.specs.Counts.{holds, carves, counts_for, tally as region_tally}
 use Rattle.laws.specs.Tree.Sum.{sum, sum_same, sum-front}
 use Rattle.book.specs.Book.{Noted, noted}
 use Rattle.book.specs.Demand3.{covers, carves_at, counts, note_tally, kind_by, SameRegion}
-use Rattle.book.specs.Tests.{or_right}
 
 pub record FoundAt {A : Type 0} (p : A → Bool) (d : A) (l : List A) : Type 0 where
   pub at : ℕ

@@ -1,12 +1,11 @@
 -- Demand 3 of lent tables: what `After` leaves, call by call, is what the list of calls is about.
-use Rattle.std.specs.Prelude.{◌≡◌, refl, ℕ, List, [], ◌∷◌}
+use Rattle.std.specs.Prelude.{◌≡◌, refl, ℕ, List}
 use Rattle.std.proofs.Common.{sym, subst, ◌∙◌}
 use Rattle.model.specs.Lists.{Each}
 use Rattle.model.specs.Outcome.{Outcome, ok, refuse}
 use Rattle.refusals.specs.declared.Refusal.{Refusal}
 use Rattle.model.specs.State.{State, Sizes}
 use Rattle.model.specs.Making.{make_in}
-use Rattle.model.specs.Layout.{words}
 use Rattle.model.specs.Perform.{Call, Value, Answer, step}
 use Rattle.model.specs.CallWords.{CallWords}
 use Rattle.model.specs.Sound.{Sound}
@@ -15,7 +14,7 @@ use Rattle.laws.specs.Accepted.{All, accepted, both}
 use Rattle.laws.specs.Empty.{made-sound}
 use Rattle.laws.specs.Words.Unique.{words-unique}
 use Rattle.book.specs.Book.{Book, blank, accept, note}
-use Rattle.book.specs.Demand3.{note_all, Claims}
+use Rattle.book.specs.Demand3.{note_all}
 use Rattle.book.specs.Matches.{Matches}
 use Rattle.book.proofs.Make.{make-in-match}
 use Rattle.book.proofs.Theorem.{matches-step, matches-claims}

@@ -3,18 +3,17 @@ use Rattle.std.specs.Prelude.{◌≡◌, refl, ℕ, List, [], ◌∷◌, map}
 use Rattle.std.proofs.Math.Option.{none}
 use Rattle.std.proofs.Common.{arith}
 use Rattle.model.specs.Lists.{Each}
-use Rattle.model.specs.Outcome.{Outcome, ok, refuse}
-use Rattle.model.specs.State.{State, Sizes, Access, domain_at, put_domain, with_tracker, with_record_pool}
+use Rattle.model.specs.Outcome.{ok}
+use Rattle.model.specs.State.{State}
 use Rattle.model.specs.Fields.{Field, fields, get}
 use Rattle.model.specs.Counts.{stored_counts}
-use Rattle.model.specs.Regions.{activate}
 use Rattle.model.specs.Making.{make_tables, empty_tables}
-use Rattle.model.specs.Perform.{Step, Call, Answer, step, run}
+use Rattle.model.specs.Perform.{Step, Call, step, run}
 use Rattle.model.specs.CallWords.{CallWords}
 use Rattle.model.proofs.Checked.Compute.{computing}
 use Rattle.model.proofs.Checked.Script.{dom, access}
 use Rattle.book.specs.Book.{blank}
-use Rattle.book.specs.Demand3.{note_all, book_count, Claims}
+use Rattle.book.specs.Demand3.{note_all, book_count}
 use Rattle.book.proofs.Theorem.{demand3}
 use Rattle.book.proofs.Example.{noting, sizes}
 use Rattle.book.specs.ShutOut.{Engine, run_by, Demand3Of, leaves_tracker, invents_reach}

@@ -1,20 +1,13 @@
 -- Demand 3 of lent tables: what `After` leaves, call by call, is what the list of calls is about.
-use Rattle.std.specs.Prelude.{◌≡◌, refl, ℕ, List, [], ◌∷◌}
-use Rattle.std.proofs.Common.{sym, subst, ◌∙◌}
+use Rattle.std.specs.Prelude.{◌≡◌, ℕ, List, [], ◌∷◌}
 use Rattle.model.specs.Lists.{Each}
-use Rattle.model.specs.Outcome.{Outcome, ok, refuse}
-use Rattle.refusals.specs.declared.Refusal.{Refusal}
 use Rattle.model.specs.State.{State, Sizes}
-use Rattle.model.specs.Making.{make_in}
 use Rattle.model.specs.Layout.{words}
-use Rattle.model.specs.Perform.{Call, Value, Answer, step}
+use Rattle.model.specs.Perform.{Call, Value, Answer}
 use Rattle.model.specs.CallWords.{CallWords}
 use Rattle.model.specs.Sound.{Sound}
-use Rattle.model.specs.Memory.{Lent, made_answer, tables_left, After, made, not_sound, performed}
-use Rattle.laws.specs.Accepted.{All, accepted, both}
-use Rattle.laws.specs.Empty.{made-sound}
-use Rattle.laws.specs.Words.Unique.{words-unique}
-use Rattle.book.specs.Book.{Book, blank, accept, note}
+use Rattle.model.specs.Memory.{After}
+use Rattle.book.specs.Book.{Book, blank}
 use Rattle.book.specs.Demand3.{note_all, Claims}
 use Rattle.book.specs.Matches.{Matches}
 

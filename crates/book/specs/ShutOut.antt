@@ -1,22 +1,16 @@
 -- What demand 3 shuts out by itself (document 01, "Shut out": "3 also the first and the invented reach"): an engine whose carve with other rights
 -- "edits the tree and leaves the tracker", and one whose carve invents a reach. Demand 3 is stated for any engine; it holds for the model's and is
 -- refuted for these two, by a list of calls with a carve with other rights and a revoke of a region with another below it.
-use Rattle.std.specs.Prelude.{◌≡◌, refl, ℕ, List, [], ◌∷◌, map}
-use Rattle.std.proofs.Math.Option.{none}
-use Rattle.std.proofs.Common.{arith}
+use Rattle.std.specs.Prelude.{◌≡◌, ℕ, List, [], ◌∷◌}
 use Rattle.model.specs.Lists.{Each}
 use Rattle.model.specs.Outcome.{Outcome, ok, refuse}
 use Rattle.model.specs.State.{State, Sizes, Access, domain_at, put_domain, with_tracker, with_record_pool}
-use Rattle.model.specs.Fields.{Field, fields, get}
-use Rattle.model.specs.Counts.{stored_counts}
 use Rattle.model.specs.Regions.{activate}
-use Rattle.model.specs.Making.{make_tables, empty_tables}
-use Rattle.model.specs.Perform.{Step, Call, Answer, step, run}
+use Rattle.model.specs.Making.{make_tables}
+use Rattle.model.specs.Perform.{Step, Call, Answer, step}
 use Rattle.model.specs.CallWords.{CallWords}
-use Rattle.model.proofs.Checked.Compute.{computing}
-use Rattle.model.proofs.Checked.Script.{dom, access}
 use Rattle.book.specs.Book.{blank}
-use Rattle.book.specs.Demand3.{note_all, book_count, Claims}
+use Rattle.book.specs.Demand3.{note_all, Claims}
 
 -- ---- demand 3 of any engine
 

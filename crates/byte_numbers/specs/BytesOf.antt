@@ -1,5 +1,5 @@
 -- The bytes of a number, the lowest first; read back they are the number.
-use Rattle.std.specs.Prelude.{◌≡◌, refl, ℕ, zero, suc, ◌+◌, ◌*◌, ◌/◌, ◌%◌, ◌<◌, ◌^◌, List, [], ◌∷◌, ◌++◌}
+use Rattle.std.specs.Prelude.{◌≡◌, ℕ, zero, suc, ◌+◌, ◌*◌, ◌/◌, ◌%◌, ◌<◌, ◌^◌, List, [], ◌∷◌, ◌++◌}
 use Rattle.std.proofs.Common.{ap, subst, ◌∙◌, mod-lt, div-lt_iff_lt-mul, zero-lt-suc, pow-suc, arith}
 use Rattle.std.proofs.Math.Nat.{mod-add-div}
 use Rattle.byte_numbers.specs.Numbers.{number, Bytes}

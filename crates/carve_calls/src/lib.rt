@@ -1,4 +1,7 @@
 // Carves.
+
+#![tactic(auto)]
+
 ghost use Rattle.std.specs.Prelude.{◌≡◌};
 ghost use Rattle.tables.specs.View.{view, Sized, Left};
 ghost use Rattle.carve_calls.specs.Calls.{exchange_rights, carve_region};

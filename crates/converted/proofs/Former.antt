@@ -1,5 +1,5 @@
 -- The former words of a state are all but the marks. Where every queued domain has all five marks, they tell this delivery's words.
-use Rattle.std.specs.Prelude.{◌≡◌, refl, ℕ, zero, suc, ◌+◌, ◌*◌, ◌%◌, ◌≤◌, ◌<◌, eqb, take, drop}
+use Rattle.std.specs.Prelude.{◌≡◌, refl, ℕ, zero, suc, ◌+◌, ◌*◌, ◌%◌, ◌≤◌, ◌<◌, take, drop}
 use Rattle.std.proofs.Common.{sym, subst, ◌∙◌, arith, take_at, get_or-take}
 use Rattle.std.proofs.Math.Path.{ap}
 use Rattle.std.proofs.Math.Option.{Option, none, some}
@@ -7,10 +7,8 @@ use mathlib.Core.List.{List, [], ◌∷◌, ◌++◌, map, flat_map}
 use Rattle.std.proofs.Math.ListN.{length, get_or, get_elem?, length-append, get_or-append}
 use Rattle.std.proofs.lemmas.List.{length-map}
 use Rattle.std.proofs.Math.Seq.{get_or-append-add}
-use Rattle.base.specs.Cases.{pick}
 use Rattle.model.specs.Lists.{Each, count_up}
-use Rattle.model.specs.State.{Sizes, Update, permission, cleanup, State}
-use Rattle.model.specs.Fields.{all_marks}
+use Rattle.model.specs.State.{Update, permission, cleanup, State}
 use Rattle.model.specs.Layout.{header_words, update_words, at_place, place_words, mark_words, words}
 use Rattle.model.specs.Sound.{Sound}
 use Rattle.model.specs.Converting.{former_length, former_words, HasAllMarks, AllMarked}

@@ -4,8 +4,7 @@ use Rattle.std.proofs.Common.{◌∙◌, arith}
 use Rattle.std.proofs.Math.Option.{Option}
 use Rattle.std.proofs.lemmas.List.{length-map}
 use Rattle.model.specs.Lists.{count_if, Each}
-use Rattle.model.specs.State.{Handle, Pool, Domain, Update, permission, cleanup, Queue, State, with_queue}
-use Rattle.model.specs.Fields.{all_marks}
+use Rattle.model.specs.State.{Handle, Pool, Domain, Update, permission, cleanup, Queue, State}
 use Rattle.model.specs.Updates.{is_permission_of}
 use Rattle.model.specs.Sound.{QueuedFit, Singly, UpdateWords, QueueSound, Sound}
 use Rattle.model.specs.Converting.{HasAllMarks, AllMarked}

@@ -1,7 +1,7 @@
 -- Marks influence nothing else: from two states that are the same but for the marks of queued domains, any calls give the same answers but for a popped
 use Rattle.std.specs.Prelude.{◌≡◌, refl, ◌+◌, ◌%◌, List, [], ◌∷◌, map, length}
 use Rattle.std.proofs.Common.{sym, ap, ap₂, subst, ◌∙◌, arith}
-use Rattle.std.proofs.Math.Option.{Option, none, some}
+use Rattle.std.proofs.Math.Option.{Option, some}
 use Rattle.model.specs.Outcome.{Outcome, ok, ◌>>=◌}
 use Rattle.model.specs.State.{State, Update, Queue, with_queue}
 use Rattle.model.specs.Updates.{pop}
@@ -15,7 +15,7 @@ use Rattle.converted.specs.Marked.{mark_all, with_all_marks}
 use Rattle.converted.proofs.Former.{former-same}
 use Rattle.converted.proofs.Alike.{SameQueue, Alike, Alike₁, bind-alike, bind-alike₁}
 use Rattle.converted.proofs.AlikeCalls.{open-alike, channel-alike, cores-alike, interface-alike, freeze-alike, root_alike, alias-alike, carve-alike, send-alike, revoke-alike, make-revoke-alike}
-use Rattle.converted.specs.MarksAlone.{SameButMarks, mark_value, mark_answer, same_answer, same_answers}
+use Rattle.converted.specs.MarksAlone.{SameButMarks, mark_value, same_answer, same_answers}
 
 -- ---- the two forms of the relation
 

@@ -7,7 +7,7 @@ use Rattle.model.specs.Lists.{Each}
 use Rattle.model.specs.Outcome.{ok}
 use Rattle.model.specs.State.{State, Sizes}
 use Rattle.model.specs.Making.{make_tables}
-use Rattle.model.specs.Layout.{words, length_for}
+use Rattle.model.specs.Layout.{length_for}
 use Rattle.model.specs.Perform.{Call, Value, Answer, run}
 use Rattle.model.specs.CallWords.{CallWords}
 use Rattle.model.specs.Sound.{Sound}
@@ -16,7 +16,7 @@ use Rattle.book.specs.Book.{Book, blank}
 use Rattle.book.specs.Demand3.{note_all}
 use Rattle.book.specs.Matches.{Matches}
 use Rattle.book.proofs.Theorem.{matches-made, matches-run}
-use Rattle.book.specs.Lent.{Chain, ClaimsOf, BookOf}
+use Rattle.book.specs.Lent.{BookOf}
 use Rattle.book.proofs.Lent.{book-of-chain, book-of-claims}
 use Rattle.converted.specs.Marked.{with_all_marks}
 use Rattle.converted.proofs.Marked.{all-marked, sound-marked, matches-marked}

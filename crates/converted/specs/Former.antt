@@ -1,23 +1,14 @@
 -- The former words of a state are all but the marks. Where every queued domain has all five marks, they tell this delivery's words.
-use Rattle.std.specs.Prelude.{◌≡◌, refl, ℕ, zero, suc, ◌+◌, ◌*◌, ◌%◌, ◌≤◌, ◌<◌, eqb, take, drop}
-use Rattle.std.proofs.Common.{sym, subst, ◌∙◌, arith, take_at, get_or-take}
-use Rattle.std.proofs.Math.Path.{ap}
-use Rattle.std.proofs.Math.Option.{Option, none, some}
-use mathlib.Core.List.{List, [], ◌∷◌, ◌++◌, map, flat_map}
-use Rattle.std.proofs.Math.ListN.{length, get_or, get_elem?, length-append, get_or-append}
-use Rattle.std.proofs.lemmas.List.{length-map}
-use Rattle.std.proofs.Math.Seq.{get_or-append-add}
+use Rattle.std.specs.Prelude.{ℕ, ◌+◌, ◌*◌, eqb, take, drop}
+use mathlib.Core.List.{List, [], ◌∷◌, ◌++◌, flat_map}
+use Rattle.std.proofs.Math.ListN.{get_or}
 use Rattle.base.specs.Cases.{pick}
-use Rattle.model.specs.Lists.{Each, count_up}
-use Rattle.model.specs.State.{Sizes, Update, permission, cleanup, State}
+use Rattle.model.specs.Lists.{count_up}
+use Rattle.model.specs.State.{Sizes, State}
 use Rattle.model.specs.Fields.{all_marks}
-use Rattle.model.specs.Layout.{header_words, update_words, at_place, place_words, mark_words, words}
-use Rattle.model.specs.Sound.{Sound}
-use Rattle.model.specs.Converting.{former_length, former_words, HasAllMarks, AllMarked}
-use Rattle.laws.specs.Parts.{join, in_turn, in-turn, sum, join-length, cut, rows-length}
-use Rattle.laws.specs.Words.Length.{sections, words-join, words-length, section-lengths, place-width, mark-width}
-use Rattle.laws.specs.Words.Unique.{words-unique}
-use Rattle.converted.specs.Marked.{mark_all, with_all_marks}
+use Rattle.model.specs.Layout.{header_words, at_place, place_words, mark_words}
+use Rattle.laws.specs.Parts.{in_turn}
+use Rattle.laws.specs.Words.Length.{sections}
 
 -- the marks' section
 abbrev pub marks : State → List ℕ

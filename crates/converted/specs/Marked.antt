@@ -1,18 +1,8 @@
 -- A state where every queued domain has all five marks (document 02, request 4): what the converter makes of former tables, which have no marks.
 -- All else of the state is as it was, so that it is sound and matches the book as the state does.
-use Rattle.std.specs.Prelude.{◌≡◌, refl, ℕ, List, [], ◌∷◌, map}
-use Rattle.std.proofs.Common.{◌∙◌, arith}
-use Rattle.std.proofs.Math.Option.{Option}
-use Rattle.std.proofs.lemmas.List.{length-map}
-use Rattle.model.specs.Lists.{count_if, Each}
-use Rattle.model.specs.State.{Handle, Pool, Domain, Update, permission, cleanup, Queue, State, with_queue}
+use Rattle.std.specs.Prelude.{map}
+use Rattle.model.specs.State.{Update, permission, cleanup, State, with_queue}
 use Rattle.model.specs.Fields.{all_marks}
-use Rattle.model.specs.Updates.{is_permission_of}
-use Rattle.model.specs.Sound.{QueuedFit, Singly, UpdateWords, QueueSound, Sound}
-use Rattle.model.specs.Converting.{HasAllMarks, AllMarked}
-use Rattle.laws.specs.Lists.{each_map}
-use Rattle.book.specs.Book.{Book}
-use Rattle.book.specs.Matches.{Matches, matches}
 
 abbrev pub mark_all : Update → Update
 mark_all (permission h cores marks) = permission h cores all_marks

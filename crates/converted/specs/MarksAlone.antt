@@ -1,18 +1,10 @@
 -- Marks influence nothing else: from two states that are the same but for the marks of queued domains, any calls give the same answers but for a popped
 -- update's marks, and lead to two such states. So a delivery without marks has the same calls but for the close (document 02,
 -- request 5): it refused a revoke of a Management capability, which left its tables, so that its lists are those without such calls.
-use Rattle.std.specs.Prelude.{◌≡◌, refl, ◌+◌, ◌%◌, List, [], ◌∷◌, map, length}
-use Rattle.std.proofs.Common.{sym, ap, ap₂, subst, ◌∙◌, arith}
-use Rattle.std.proofs.Math.Option.{Option, none, some}
-use Rattle.model.specs.Outcome.{Outcome, ok, ◌>>=◌}
-use Rattle.model.specs.State.{State, Update, Queue, with_queue}
-use Rattle.model.specs.Updates.{pop}
-use Rattle.model.specs.Calls.{live_domain}
-use Rattle.model.specs.Readings.{permissions, get_refcount, core_map, holders}
-use Rattle.model.specs.Perform.{Step, Reading, Call, Value, Answer, perform_step, read_tables, perform, after, step, run}
-use Rattle.model.specs.Sound.{Sound}
-use Rattle.model.specs.Converting.{former_words}
-use Rattle.interface.proofs.Outcomes.{Both, accepted, refused, bind, bind-same}
+use Rattle.std.specs.Prelude.{◌≡◌, List, map}
+use Rattle.std.proofs.Math.Option.{none, some}
+use Rattle.model.specs.State.{State}
+use Rattle.model.specs.Perform.{Value, Answer}
 use Rattle.converted.specs.Marked.{mark_all, with_all_marks}
 
 -- ---- what is claimed

@@ -1,26 +1,18 @@
 -- "demand 3's list goes on through them" (document 02, request 2): from a making before request 4 on, through calls, the converter and any calls since,
 -- all claims hold of the tables by one book. The converter leaves the book as it is.
-use Rattle.std.specs.Prelude.{◌≡◌, refl, ℕ, List, length}
-use Rattle.std.proofs.Common.{sym, ap, subst, ◌∙◌}
-use Rattle.refusals.specs.declared.Refusal.{Refusal}
-use Rattle.refusals.specs.Refusals.{memory}
+use Rattle.std.specs.Prelude.{◌≡◌, ℕ, List}
 use Rattle.model.specs.Lists.{Each}
 use Rattle.model.specs.Outcome.{ok}
 use Rattle.model.specs.State.{State, Sizes}
 use Rattle.model.specs.Making.{make_tables}
-use Rattle.model.specs.Layout.{words, length_for}
 use Rattle.model.specs.Perform.{Call, Value, Answer, run}
 use Rattle.model.specs.CallWords.{CallWords}
 use Rattle.model.specs.Sound.{Sound}
-use Rattle.model.specs.Converting.{former_words, Convertible, Converted, not_convertible, converted}
+use Rattle.model.specs.Converting.{former_words, Converted}
 use Rattle.book.specs.Book.{Book, blank}
 use Rattle.book.specs.Demand3.{note_all}
 use Rattle.book.specs.Matches.{Matches}
-use Rattle.book.proofs.Theorem.{matches-made, matches-run}
-use Rattle.book.specs.Lent.{Chain, ClaimsOf, BookOf}
-use Rattle.book.proofs.Lent.{book-of-chain, book-of-claims}
-use Rattle.converted.specs.Marked.{with_all_marks}
-use Rattle.converted.specs.Former.{rebuilt}
+use Rattle.book.specs.Lent.{Chain, ClaimsOf}
 
 -- ---- what is claimed
 

@@ -1,4 +1,7 @@
 // Domains and channels.
+
+#![tactic(auto)]
+
 ghost use Rattle.std.specs.Prelude.{◌≡◌};
 ghost use Rattle.tables.specs.View.{view, Sized, Left};
 ghost use Rattle.domain_calls.specs.Calls.{open_domain, open_under, open_channel, set_core_map};

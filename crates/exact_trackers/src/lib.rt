@@ -1,1 +1,3 @@
 // That the test of the trackers is exact: mathematics only.
+
+#![tactic(auto)]

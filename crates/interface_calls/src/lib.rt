@@ -1,4 +1,7 @@
 // Interfaces of domains (document 02, request 2): the word set, and frozen.
+
+#![tactic(auto)]
+
 ghost use Rattle.std.specs.Prelude.{◌≡◌};
 ghost use Rattle.tables.specs.View.{view, Sized, Left};
 ghost use Rattle.interface_calls.specs.Calls.{set_interface, freeze_interface};

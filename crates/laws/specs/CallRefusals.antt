@@ -1,20 +1,16 @@
 -- Which refusals a call can meet, whatever the tables: those that the documents list for it (document 01, **Order of checks**). One rule for each step that
 -- says what it can be refused with; a call is its steps one after another.
 use Rattle.std.specs.Prelude.{◌≡◌, ℕ, ◌<◌, ◌&&◌, List, [], ◌∷◌, T, eqb, ltb}
-use Rattle.std.proofs.Common.{inl, inr, ltb→lt}
+use Rattle.std.proofs.Common.{ltb→lt}
 use Rattle.std.proofs.Math.Option.{Option, none, some}
 use Rattle.std.specs.Float.Ieee.Fits.{and_l, and_r}
 use Rattle.model.specs.Lists.{exists}
-use Rattle.model.specs.Outcome.{Outcome, refuse, ◌>>=◌, ◌>>◌, ok_or}
-use Rattle.rights.specs.Rights.{allowed}
+use Rattle.model.specs.Outcome.{refuse}
 use Rattle.refusals.specs.declared.Refusal.{Refusal}
 use Rattle.refusals.specs.Refusals.{number, memory, sizes, no_domain, no_slot, wrong_kind, stale, bad_range, beyond, is_root, not_carried, no_region, no_local, no_tracker, ring_full, no_domain_room, spent, bad_flag, no_hash, not_allowed, is_frozen, holds_root, running}
-use Rattle.model.specs.State.{State, Sizes, Handle, Access, Kind, SendOptions, Capa, no_capa, region, region_revoke, management, channel, domain_at}
-use Rattle.model.specs.Pool.{is_live}
-use Rattle.model.specs.Locals.{insert_local, insert_capa, has_capacity, capa_at}
-use Rattle.model.specs.Regions.{new_region}
+use Rattle.model.specs.State.{State, Sizes, Handle, Access}
 use Rattle.model.specs.Making.{make_tables, make_in}
-use Rattle.model.specs.Calls.{live_domain, caller_with, live_region, as_region, as_target, region_held, room_for_region, new_domain, open_domain, open_channel, set_core_map, set_interface, freeze_interface, create_root_region, add_child, alias_region, carve_region, send_capa, send, revoke_unless_root, revoke_capa, revoke, create_revoke_capa, check_options}
+use Rattle.model.specs.Calls.{open_domain, open_channel, set_core_map, set_interface, freeze_interface, create_root_region, revoke, create_revoke_capa}
 use Rattle.model.specs.Readings.{permissions, get_refcount, core_map}
 use Rattle.model.specs.Perform.{Step, Open, Channel, SetCoreMap, SetInterface, FreezeInterface, Root, Alias, Carve, Send, Revoke, CreateRevokeCapa, Reading, Permissions, Refcount, CoreMap, Holders, Call, Make, Do, Pop, Read, perform_step, read_tables, perform}
 use Rattle.laws.specs.Answers.{gives, gives-checked, refusal}

@@ -6,7 +6,7 @@ use Rattle.model.specs.Lists.{Each}
 use Rattle.model.specs.Outcome.{Outcome, ok, refuse}
 use Rattle.laws.specs.Accepted.{All, accepted, refused, bind, bind-any, and_then, branch}
 use Rattle.model.specs.State.{State, Handle, Capa, no_capa, region, region_revoke, management, channel, Kind, Root, Alias, Carve, Access, SendOptions, Update}
-use Rattle.model.specs.Pool.{free, is_live}
+use Rattle.model.specs.Pool.{is_live}
 use Rattle.model.specs.Updates.{pop}
 use Rattle.model.specs.Tree.{insert_child}
 use Rattle.model.specs.Calls.{room_for_region, new_domain, open_domain, open_channel, set_core_map, set_interface, freeze_interface, create_root_region, add_child, alias_region, exchange_rights, carve_region, send_capa, send, revoke_unless_root, close_managed, revoke_capa, revoke, create_revoke_capa}

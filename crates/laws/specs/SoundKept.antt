@@ -1,13 +1,12 @@
 -- Sound is kept: every accepted call takes sound tables to sound tables, and so does every list of calls, refused ones included.
-use Rattle.std.specs.Prelude.{ℕ, List, [], ◌∷◌}
+use Rattle.std.specs.Prelude.{List, [], ◌∷◌}
 use Rattle.model.specs.Lists.{Each}
 use Rattle.model.specs.State.{State}
 use Rattle.model.specs.Outcome.{Outcome, ok, refuse}
-use Rattle.model.specs.Perform.{Call, Value, Answer, perform, after, step, run}
+use Rattle.model.specs.Perform.{Call, Value, perform, after, step, run}
 use Rattle.model.specs.CallWords.{CallWords}
 use Rattle.model.specs.Sound.{Sound}
-use Rattle.laws.specs.Accepted.{All, accepted, refused, weaken}
-use Rattle.laws.specs.Capas.Held.{OthersSound}
+use Rattle.laws.specs.Accepted.{All, accepted, weaken}
 use Rattle.laws.specs.Capas.Perform.{perform-sound}
 use Rattle.laws.specs.Keep.Agreement.{counts-agree-tracker}
 use Rattle.laws.specs.Keep.Perform.{perform-keeps}

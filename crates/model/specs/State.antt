@@ -1,6 +1,6 @@
 -- What the tables hold (document 01, "Memory and who can be refused"), as plain lists.
 -- Owner, parent, manager and children are slot numbers; capabilities and queued updates hold handles.
-use Rattle.std.specs.Prelude.{ℕ, ◌+◌, ◌^◌, ◌<◌, Bool, true, false, List, [], set}
+use Rattle.std.specs.Prelude.{ℕ, ◌+◌, ◌^◌, ◌<◌, Bool, false, List, [], set}
 use Rattle.std.proofs.Math.Option.{Option, none, some, get_or}
 use Rattle.model.specs.Lists.{at_slot}
 

@@ -1,5 +1,8 @@
 // **Revoke** (document 01): a region goes after its children, the first child first. `closing` has the domains that are
 // closing (document 02, request 5): they queue nothing.
+
+#![tactic(auto)]
+
 ghost use Rattle.std.specs.Prelude.{◌≡◌};
 ghost use Rattle.tables.specs.View.{view, Sized, Left};
 ghost use Rattle.revocation.specs.Revoke.{revoke_region, revoke};

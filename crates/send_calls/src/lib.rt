@@ -1,4 +1,7 @@
 // Capabilities sent.
+
+#![tactic(auto)]
+
 ghost use Rattle.std.specs.Prelude.{◌≡◌};
 ghost use Rattle.tables.specs.View.{view, Sized, Left};
 ghost use Rattle.send_calls.specs.Calls.{send_held, send_capa, send};

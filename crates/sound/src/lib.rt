@@ -1,4 +1,7 @@
 // The test of lent tables (document 01, **Sound**): whether the words are those of a sound state.
+
+#![tactic(auto)]
+
 ghost use Rattle.std.specs.Prelude.{◌≡◌, length, replicate};
 ghost use Rattle.tables.specs.View.{view, Sized};
 ghost use Rattle.sound.specs.Test.{tracked_holds, is_sound};

@@ -1,5 +1,8 @@
 // The test of the trackers (document 01, **Sound**, from "each tracker record is on one list" on): the records of each domain in use are swept
 // against the pieces of its regions. Pools, slot lists, the region tree and the owners are tested elsewhere.
+
+#![tactic(auto)]
+
 ghost use Rattle.std.specs.Prelude.{◌≡◌, length, take, replicate};
 ghost use Rattle.tables.specs.View.{view, Sized};
 ghost use Rattle.sections.specs.Rows.{slot_in, region_in, record_in};

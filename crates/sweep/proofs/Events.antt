@@ -1,5 +1,5 @@
 -- Pieces of memory as events: each starts once and ends once. The pieces that started at or below an address, less those that ended at or
-use Rattle.std.specs.Prelude.{◌≡◌, refl, ℕ, ◌+◌, ◌≤◌, ◌<◌, Bool, true, false, not, ◌&&◌, List, [], ◌∷◌, map, T, eqb, leb}
+use Rattle.std.specs.Prelude.{◌≡◌, refl, ℕ, ◌+◌, ◌≤◌, ◌<◌, Bool, true, false, not, ◌&&◌, List, [], ◌∷◌, T, eqb, leb}
 use Rattle.std.proofs.Common.{ap, arith, eqb→eq, lt-ltb, le-ltb, eq-eqb, le-leb}
 use Rattle.std.proofs.lemmas.Bool.{lt-leb}
 use Rattle.base.specs.Cases.{below, inside, above, pos, Test, test}
@@ -8,7 +8,7 @@ use Rattle.model.specs.Lists.{if◌then◌else◌, one_if, count_if, Each}
 use Rattle.model.specs.Fields.{Field, passes}
 use Rattle.model.specs.Counts.{holds}
 use Rattle.laws.specs.Stack.{one_at_most}
-use Rattle.sweep.specs.Events.{Piece, Proper, Event, start_of, end_of, starts, ends, over, cover, up_to, Perm}
+use Rattle.sweep.specs.Events.{Piece, Proper, Event, starts, ends, cover, up_to, Perm}
 
 -- ---- tests
 

@@ -1,9 +1,7 @@
 -- There are as many links as slots.
-use Prim.Native.Nat.{◌-◌}
 use Rattle.arena.specs.Arena.{capacity_of}
 use Rattle.arena.specs.Words.{links-many}
 use Rattle.tables.specs.View.{arena_of}
-use borrow.Author.Rules.{rules}
 use native.Mathlib.Omega.{arith}
 use Rattle.arena.proofs.capacity.Goals as goal
 

@@ -1,7 +1,5 @@
 -- A free slot has a link.
-use Prim.Native.Nat.{◌-◌}
 use Rattle.arena.specs.Arena.{is_free_b}
-use borrow.Author.Rules.{rules}
 use Rattle.arena.proofs.is_free.Goals as goal
 
 pub returns : goal.returns

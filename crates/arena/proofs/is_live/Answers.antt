@@ -1,8 +1,6 @@
 -- Each test is what its definition says.
-use Prim.Native.Nat.{◌-◌}
 use Rattle.arena.specs.Arena.{live_b}
 use Rattle.arena.specs.Words.{links-many}
-use borrow.Author.Rules.{rules}
 use Rattle.arena.proofs.is_live.Goals as goal
 
 pub returns : goal.returns

@@ -1,7 +1,5 @@
 -- The generation of slot i is word 2 + n + i.
-use Prim.Native.Nat.{◌-◌}
 use Rattle.arena.specs.Words.{gen-set, no-gen-set}
-use borrow.Author.Rules.{rules}
 use Rattle.arena.proofs.set_generation.Goals as goal
 
 pub returns-then-i-n : goal.returns-then-i-n

@@ -1,7 +1,5 @@
 -- The link of slot i is word 2 + i.
-use Prim.Native.Nat.{◌-◌}
 use Rattle.arena.specs.Words.{link_set, no-link-set}
-use borrow.Author.Rules.{rules}
 use Rattle.arena.proofs.set_link.Goals as goal
 
 pub returns-then-i-n : goal.returns-then-i-n

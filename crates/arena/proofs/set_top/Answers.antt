@@ -1,7 +1,5 @@
 -- The head is word 0 and the count word 1.
-use Prim.Native.Nat.{◌-◌}
 use Rattle.arena.specs.Words.{top_set}
-use borrow.Author.Rules.{rules}
 use lib.ListN.{length-set}
 use native.Mathlib.Omega.{arith}
 use Rattle.arena.proofs.set_top.Goals as goal

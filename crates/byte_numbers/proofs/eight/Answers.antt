@@ -1,6 +1,5 @@
 -- Two halves of four bytes.
 use Rattle.byte_numbers.specs.Numbers.{number-eight}
-use borrow.Author.Rules.{rules}
 use native.Mathlib.Omega.{arith}
 use Rattle.byte_numbers.proofs.eight.Goals as goal
 

@@ -1,6 +1,5 @@
 -- Two halves of two bytes.
 use Rattle.byte_numbers.specs.Numbers.{number-four}
-use borrow.Author.Rules.{rules}
 use native.Mathlib.Omega.{arith}
 use Rattle.byte_numbers.proofs.four.Goals as goal
 

@@ -1,5 +1,4 @@
 -- The type of a lent slice says it of every element.
-use borrow.Author.Rules.{rules}
 use Rattle.byte_numbers.proofs.known.Goals as goal
 
 pub returns : goal.returns

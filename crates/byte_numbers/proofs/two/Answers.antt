@@ -1,6 +1,5 @@
 -- The number of two bytes is taken apart.
 use Rattle.byte_numbers.specs.Numbers.{number-two}
-use borrow.Author.Rules.{rules}
 use native.Mathlib.Omega.{arith}
 use Rattle.byte_numbers.proofs.two.Goals as goal
 

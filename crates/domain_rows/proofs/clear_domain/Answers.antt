@@ -1,7 +1,6 @@
 -- The row is lent and comes back as zeros.
 use Rattle.tables.specs.Domains.{domain-inside, domain-cleared, no-domain-cleared}
 use native.Mathlib.Omega.{arith}
-use borrow.Author.Rules.{rules}
 use Rattle.domain_rows.proofs.clear_domain.Goals as goal
 
 pub domain_width-w-requires : goal.domain_width-w-requires

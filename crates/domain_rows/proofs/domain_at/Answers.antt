@@ -1,7 +1,6 @@
 -- The place of row i, at the start and the width of its section.
 use Prim.Native.Nat.{ℕ, ◌*◌}
 use Rattle.tables.specs.Rows.{rows_inside}
-use borrow.Author.Rules.{rules}
 use mathlib.Core.Path.{sym, ap, ◌∙◌}
 use Rattle.domain_rows.proofs.domain_at.Goals as goal
 

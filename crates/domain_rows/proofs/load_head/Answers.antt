@@ -2,7 +2,6 @@
 use Rattle.tables.specs.Domains.{head-loaded}
 use Rattle.tables.specs.View.{head_of}
 use Rattle.words.specs.Runs.{none-fetched}
-use borrow.Author.Rules.{rules}
 use mathlib.Core.Path.{sym, ap, ◌∙◌}
 use Rattle.domain_rows.proofs.load_head.Goals as goal
 

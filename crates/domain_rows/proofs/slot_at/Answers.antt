@@ -1,7 +1,6 @@
 -- A place in domain i, or the end of the words.
 use Rattle.tables.specs.Domains.{domain-place-low, slot-place, no-slot-place}
 use Rattle.sizes.specs.Sizes.{sizes_of}
-use borrow.Author.Rules.{rules}
 use native.Mathlib.Omega.{arith}
 use Rattle.domain_rows.proofs.slot_at.Goals as goal
 

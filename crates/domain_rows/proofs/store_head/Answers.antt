@@ -1,6 +1,5 @@
 -- The words stored are those of the record.
 use Rattle.tables.specs.Domains.{head-stored}
-use borrow.Author.Rules.{rules}
 use Rattle.domain_rows.proofs.store_head.Goals as goal
 
 pub returns : goal.returns

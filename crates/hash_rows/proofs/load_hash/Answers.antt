@@ -2,7 +2,6 @@
 use Rattle.tables.specs.Accessors.{hash-loaded}
 use Rattle.tables.specs.View.{hash_of}
 use Rattle.words.specs.Runs.{none-fetched}
-use borrow.Author.Rules.{rules}
 use mathlib.Core.Path.{sym, ap, ◌∙◌}
 use Rattle.hash_rows.proofs.load_hash.Goals as goal
 

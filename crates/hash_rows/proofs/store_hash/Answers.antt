@@ -1,6 +1,5 @@
 -- The words stored are those of the hash.
 use Rattle.tables.specs.Accessors.{hash-stored}
-use borrow.Author.Rules.{rules}
 use Rattle.hash_rows.proofs.store_hash.Goals as goal
 
 pub returns : goal.returns

@@ -1,6 +1,5 @@
 -- The place of row i, at the start and the width of its section.
 use Rattle.tables.specs.Rows.{rows_inside}
-use borrow.Author.Rules.{rules}
 use mathlib.Core.Path.{refl, ◌∙◌}
 use Rattle.interface_rows.proofs.interface_at.Goals as goal
 

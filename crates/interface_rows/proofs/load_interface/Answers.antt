@@ -2,7 +2,6 @@
 use Rattle.tables.specs.Accessors.{interface-loaded}
 use Rattle.tables.specs.View.{interface_of}
 use Rattle.words.specs.Runs.{none-fetched}
-use borrow.Author.Rules.{rules}
 use mathlib.Core.Path.{sym, ap, ◌∙◌}
 use Rattle.interface_rows.proofs.load_interface.Goals as goal
 

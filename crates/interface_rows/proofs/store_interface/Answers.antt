@@ -1,6 +1,5 @@
 -- The words stored are those of the interface.
 use Rattle.tables.specs.Accessors.{interface-stored}
-use borrow.Author.Rules.{rules}
 use Rattle.interface_rows.proofs.store_interface.Goals as goal
 
 pub returns : goal.returns

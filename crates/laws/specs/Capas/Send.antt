@@ -22,7 +22,7 @@ use Rattle.laws.specs.Tree.Steps.{region-at, domain-at}
 use Rattle.laws.specs.Capas.Slots.{this, that, was, each-slot}
 use Rattle.laws.specs.Capas.Live.{handle-live, live-fits, fits-onward, handle-onward}
 use Rattle.laws.specs.Capas.Held.{Shares, Held, owned_by, managed_by, CapasSound}
-use Rattle.laws.specs.Capas.Domain.{SameManagers, same-managers-then, held-capas, same-held-capas, forth, back}
+use Rattle.laws.specs.Capas.Domain.{SameManagers, same-managers-then, held-capas, same-held-capas, forth}
 use Rattle.laws.specs.Capas.Change.{relist, relist-live, capacity, Plus, remove-held, insert-held}
 use Rattle.laws.specs.Capas.Checks.{live-domain, capa-at, live-region, held-owner}
 use Rattle.laws.specs.Capas.Listed.{remove-is, remove-listed, inserted-listed, plus_none}

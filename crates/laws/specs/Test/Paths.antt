@@ -3,14 +3,14 @@
 use Rattle.std.specs.Prelude.{◌≡◌, refl, ℕ, zero, suc, ◌≤◌, ◌<◌, List, [], ◌∷◌, T, eqb, length, Bool, true, false}
 use Rattle.std.proofs.Common.{sym, ap, subst, arith, eqb→eq, ne_eqb}
 use Rattle.std.proofs.Math.Option.{Option, none, some}
-use Rattle.base.specs.Cases.{lt, ge, cmp, holds, fails, test, Cmp}
+use Rattle.base.specs.Cases.{lt, ge, cmp, holds, fails, test}
 use Rattle.base.specs.Tests.{true-is}
 use Rattle.base.specs.Options.{none-some, some_same}
 use Rattle.model.specs.Lists.{one_if, count_if, at_slot, In}
 use Rattle.model.specs.State.{parent_of, Domain, Region}
 use Rattle.model.specs.Sound.{Rooted, Managed}
-use Rattle.laws.specs.Stack.{one, one_at_most, stack-length}
-use Rattle.laws.specs.Tree.Sum.{sum, sum-add, sum-at, sum-le, sum-zero, sum-each}
+use Rattle.laws.specs.Stack.{one_at_most, stack-length}
+use Rattle.laws.specs.Tree.Sum.{sum-le, sum-each}
 use Rattle.laws.specs.Tree.Slots.{in-length}
 
 -- ---- the tests: parents lead to a root, managers to an unmanaged domain, in fewer than n steps

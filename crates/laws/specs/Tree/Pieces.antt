@@ -7,7 +7,7 @@ use Rattle.model.specs.Lists.{if◌then◌else◌}
 use Rattle.model.specs.State.{Region}
 use Rattle.model.specs.Tree.{is_carve, Range, piece, effective_from}
 use Rattle.laws.specs.Tree.Shares.{clear, clear-0, clear-s, clear_zero}
-use Rattle.laws.specs.Within.{within, W, within-lo, within_in, within_same}
+use Rattle.laws.specs.Within.{within, W, within-lo, within_same}
 
 -- rising, disjoint and nonempty, from lo on, and none beyond hi
 abbrev pub Pieces : ℕ → ℕ → List Range → Type 0

@@ -1,12 +1,12 @@
 -- A table as a function of the slot number: what is counted by a walk over the table is a sum over its slots.
-use Rattle.std.specs.Prelude.{◌≡◌, refl, ℕ, ◌+◌, ◌<◌, Bool, List, [], ◌∷◌, T, eqb, ltb, length}
-use Rattle.std.proofs.Common.{sym, ap, ◌∙◌, arith, zero-add, eqb→eq, eq-eqb}
+use Rattle.std.specs.Prelude.{◌≡◌, refl, ℕ, ◌<◌, Bool, List, [], ◌∷◌, T, eqb, length}
+use Rattle.std.proofs.Common.{ap, arith, eqb→eq, eq-eqb}
 use Rattle.std.proofs.Math.Option.{Option, none, some}
 use Rattle.std.proofs.Math.ListN.{get_or-eq_default}
 use Rattle.base.specs.Cases.{lt, ge, cmp, holds, fails, test}
 use Rattle.base.specs.Tests.{true-is}
 use Rattle.base.specs.Options.{none-some}
-use Rattle.model.specs.Lists.{one_if, exists, count_if, Each, is_some, at_slot, In}
+use Rattle.model.specs.Lists.{one_if, count_if, Each, is_some, at_slot, In}
 use Rattle.laws.specs.Tree.Sum.{sum, sum-front}
 
 -- a slot in use lies in the table

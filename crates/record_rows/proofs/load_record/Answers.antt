@@ -2,7 +2,6 @@
 use Rattle.tables.specs.Accessors.{record-loaded}
 use Rattle.tables.specs.View.{record_of}
 use Rattle.words.specs.Runs.{none-fetched}
-use borrow.Author.Rules.{rules}
 use mathlib.Core.Path.{sym, ap, ◌∙◌}
 use Rattle.record_rows.proofs.load_record.Goals as goal
 

@@ -1,6 +1,5 @@
 -- The words stored are those of the record.
 use Rattle.tables.specs.Accessors.{record-stored}
-use borrow.Author.Rules.{rules}
 use Rattle.record_rows.proofs.store_record.Goals as goal
 
 pub returns : goal.returns

@@ -5,4 +5,4 @@ use Rattle.region_calls.proofs.hold.Goals as goal
 
 pub returns : goal.returns
 unfolding held_region
-returns c = rw c.region_generation.ensures at (c.insert.ensures.value, c.insert.ensures.left)
+returns c = record { value = rw c.region_generation.ensures at c.insert.ensures.value; left = rw c.region_generation.ensures at c.insert.ensures.left }

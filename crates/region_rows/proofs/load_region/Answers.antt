@@ -2,7 +2,6 @@
 use Rattle.tables.specs.Accessors.{region-loaded}
 use Rattle.tables.specs.View.{region_of}
 use Rattle.words.specs.Runs.{none-fetched}
-use borrow.Author.Rules.{rules}
 use mathlib.Core.Path.{sym, ap, ◌∙◌}
 use Rattle.region_rows.proofs.load_region.Goals as goal
 

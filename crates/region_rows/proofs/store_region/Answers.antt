@@ -1,6 +1,5 @@
 -- The words stored are those of the record.
 use Rattle.tables.specs.Accessors.{region-stored}
-use borrow.Author.Rules.{rules}
 use Rattle.region_rows.proofs.store_region.Goals as goal
 
 pub returns : goal.returns

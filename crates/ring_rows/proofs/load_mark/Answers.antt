@@ -1,6 +1,5 @@
 -- The word fetched is the place's mark, or 0 past the end.
 use Rattle.tables.specs.Accessors.{mark-loaded}
-use borrow.Author.Rules.{rules}
 use mathlib.Core.Path.{◌∙◌}
 use Rattle.ring_rows.proofs.load_mark.Goals as goal
 

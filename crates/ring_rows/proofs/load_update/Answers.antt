@@ -2,7 +2,6 @@
 use Rattle.tables.specs.Accessors.{update-loaded}
 use Rattle.tables.specs.View.{update_of}
 use Rattle.words.specs.Runs.{none-fetched}
-use borrow.Author.Rules.{rules}
 use mathlib.Core.Path.{sym, ap, ◌∙◌}
 use Rattle.ring_rows.proofs.load_update.Goals as goal
 

@@ -1,6 +1,5 @@
 -- Word 5 of the header.
 use Rattle.tables.specs.Header.{read_is}
-use borrow.Author.Rules.{rules}
 use mathlib.Core.Path.{sym, ◌∙◌}
 use Rattle.ring_rows.proofs.read_place.Goals as goal
 

@@ -1,6 +1,5 @@
 -- Words 5 and 6 of the header.
 use Rattle.tables.specs.Header.{places-stored}
-use borrow.Author.Rules.{rules}
 use Rattle.ring_rows.proofs.set_places.Goals as goal
 
 pub returns : goal.returns

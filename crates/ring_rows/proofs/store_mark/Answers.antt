@@ -1,6 +1,5 @@
 -- The word stored is the place's mark.
 use Rattle.tables.specs.Accessors.{mark-stored}
-use borrow.Author.Rules.{rules}
 use Rattle.ring_rows.proofs.store_mark.Goals as goal
 
 pub returns : goal.returns

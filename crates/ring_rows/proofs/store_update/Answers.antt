@@ -1,6 +1,5 @@
 -- The words stored are those of the record.
 use Rattle.tables.specs.Accessors.{update-stored}
-use borrow.Author.Rules.{rules}
 use Rattle.ring_rows.proofs.store_update.Goals as goal
 
 pub returns : goal.returns

@@ -1,7 +1,6 @@
 -- The place of row i, at the start and the width of its section.
 use Prim.Native.Nat.{◌+◌}
 use Rattle.tables.specs.Rows.{rows_inside}
-use borrow.Author.Rules.{rules}
 use mathlib.Core.Path.{refl, ◌∙◌}
 use native.Mathlib.Omega.{arith}
 use Rattle.ring_rows.proofs.update_at.Goals as goal

@@ -1,6 +1,5 @@
 -- Word 6 of the header.
 use Rattle.tables.specs.Header.{write-is}
-use borrow.Author.Rules.{rules}
 use mathlib.Core.Path.{sym, ◌∙◌}
 use Rattle.ring_rows.proofs.write_place.Goals as goal
 

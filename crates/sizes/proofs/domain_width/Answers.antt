@@ -1,5 +1,4 @@
 -- The head's words and the slots'.
-use borrow.Author.Rules.{rules}
 use mathlib.Core.Path.{refl}
 use Rattle.sizes.proofs.domain_width.Goals as goal
 

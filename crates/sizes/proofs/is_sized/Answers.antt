@@ -1,7 +1,6 @@
 -- The test of the limits, then of the length.
 use Rattle.sizes.specs.Limits.{limits-true}
 use Rattle.sizes.specs.Tests.{sized-then, sized-else}
-use borrow.Author.Rules.{rules}
 use mathlib.Core.Path.{sym, ◌∙◌}
 use Rattle.sizes.proofs.is_sized.Goals as goal
 

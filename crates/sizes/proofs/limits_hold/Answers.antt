@@ -1,6 +1,5 @@
 -- Each test is what its definition says.
 use Rattle.sizes.specs.Limits.{limits_b}
-use borrow.Author.Rules.{rules}
 use Rattle.sizes.proofs.limits_hold.Goals as goal
 
 pub returns : goal.returns

@@ -1,7 +1,6 @@
 -- The section starts where the one before it ends.
 use Rattle.sizes.specs.Tests.{domains-fit}
 use Rattle.words.specs.Cuts.{offset}
-use borrow.Author.Rules.{rules}
 use native.Mathlib.Omega.{arith}
 use Rattle.sizes.proofs.marks_at.Goals as goal
 

@@ -1,6 +1,5 @@
 -- Each field is the word that was read.
 use Rattle.sizes.specs.Sizes.{sizes_of}
-use borrow.Author.Rules.{rules}
 use Rattle.sizes.proofs.read_sizes.Goals as goal
 
 pub returns : goal.returns

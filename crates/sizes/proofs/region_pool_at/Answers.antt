@@ -1,6 +1,5 @@
 -- The widths of the sections before, summed.
 use Rattle.words.specs.Cuts.{offset}
-use borrow.Author.Rules.{rules}
 use native.Mathlib.Omega.{arith}
 use Rattle.sizes.proofs.region_pool_at.Goals as goal
 

@@ -2,7 +2,6 @@
 use Rattle.sizes.specs.Tests.{domains-fit}
 use Rattle.sizes.specs.Sizes.{total}
 use Rattle.words.specs.Cuts.{offset}
-use borrow.Author.Rules.{rules}
 use native.Mathlib.Omega.{arith}
 use Rattle.sizes.proofs.total_of.Goals as goal
 

@@ -1,15 +1,11 @@
 -- The pieces of the slots that are left are all from the first slot on.
-use native.Mathlib.Omega.{arith}
-use native.Mathlib.Nat.{sub-zero}
 use Prim.Native.Nat.{◌≤◌, ◌-◌}
-use borrow.Author.Rules.{rules}
-use mathlib.Core.Path.{◌≡◌, refl, ap, ◌∙◌}
-use mathlib.Core.Logic.{⊎_elim}
+use mathlib.Core.Path.{◌≡◌}
 use lib.ListN.{length}
 use Rattle.sections.specs.Rows.{slot_in, region_in}
 use Rattle.sound_pieces.specs.Pieces.{slots_pieces}
-use Rattle.sound_pieces.specs.Laid.{filled, places, placed}
-use Rattle.sound_pieces.specs.Walks.{pool, slots_end, slot-named, slot-passed}
+use Rattle.sound_pieces.specs.Laid.{filled, places}
+use Rattle.sound_pieces.specs.Walks.{pool}
 use Rattle.sound_pieces.proofs.gather.Given as goal
 
 abbrev pub invariant-loop-j : goal.invariant-loop-j

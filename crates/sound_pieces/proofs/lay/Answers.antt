@@ -2,7 +2,6 @@
 use native.Mathlib.Omega.{arith}
 use lib.ListN.{length-set}
 use Rattle.sound_pieces.specs.Walks.{piece-in, piece-out, piece-none}
-use borrow.Author.Rules.{rules}
 use Rattle.sound_pieces.proofs.lay.Goals as goal
 
 pub bounds-w-a-then-n-room : goal.bounds-w-a-then-n-room

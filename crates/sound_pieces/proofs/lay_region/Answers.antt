@@ -1,12 +1,8 @@
 -- The pieces that are left from here are all from the start.
 use native.Mathlib.Omega.{arith}
-use borrow.Author.Rules.{rules}
-use mathlib.Core.Path.{◌≡◌, refl, sym, ap, ◌∙◌}
-use mathlib.Core.Logic.{⊎_elim}
-use lib.ListN.{length}
-use Rattle.sections.specs.Rows.{region_in}
-use Rattle.sound_pieces.specs.Pieces.{between, region_pieces}
-use Rattle.sound_pieces.specs.Laid.{filled, places}
+use mathlib.Core.Path.{refl, sym, ap, ◌∙◌}
+use Rattle.sound_pieces.specs.Pieces.{region_pieces}
+use Rattle.sound_pieces.specs.Laid.{places}
 use Rattle.sound_pieces.specs.Walks.{goes, between-end, between-cut, between-skip}
 use Rattle.sound_pieces.proofs.lay_region.Goals as goal
 use Rattle.sound_pieces.proofs.lay_region.Goals.{then-c-ge-CARVE, else-c-ge-CARVE}

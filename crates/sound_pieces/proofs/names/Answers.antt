@@ -1,6 +1,5 @@
 -- The slot's kind, its region's place among the links, and the two words there.
 use Rattle.sound_pieces.specs.Walks.{names-live, names-far, names-other}
-use borrow.Author.Rules.{rules}
 use Rattle.sound_pieces.proofs.names.Goals as goal
 
 pub returns-then-i-links : goal.returns-then-i-links

@@ -1,9 +1,8 @@
 -- The first i words are 0.
-use Prim.Native.Nat.{◌-◌, ◌≤◌}
-use Prim.Native.Nat.{ℕ, ◌-◌, ◌≤◌}
-use Rattle.words.specs.Copies.{Begun, begun-none, begun_more, begun_all}
-use lib.ListN.{length, replicate, length-replicate, get_or-replicate}
-use mathlib.Core.Path.{sym, ◌∙◌}
+use Prim.Native.Nat.{ℕ}
+use Rattle.words.specs.Copies.{begun-none, begun_more, begun_all}
+use lib.ListN.{length, length-replicate, get_or-replicate}
+use mathlib.Core.Path.{sym}
 use native.Mathlib.Omega.{arith}
 use Rattle.words.proofs.clear.Goals as goal
 

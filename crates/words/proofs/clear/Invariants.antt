@@ -1,10 +1,8 @@
 -- The first i words are 0.
 use Prim.Native.Nat.{◌-◌, ◌≤◌}
-use Prim.Native.Nat.{ℕ, ◌-◌, ◌≤◌}
-use Rattle.words.specs.Copies.{Begun, begun-none, begun_more, begun_all}
-use lib.ListN.{length, replicate, length-replicate, get_or-replicate}
-use mathlib.Core.Path.{sym, ◌∙◌}
-use native.Mathlib.Omega.{arith}
+use Prim.Native.Nat.{◌-◌, ◌≤◌}
+use Rattle.words.specs.Copies.{Begun}
+use lib.ListN.{replicate}
 use Rattle.words.proofs.clear.Given as goal
 
 abbrev pub invariant-loop-i : goal.invariant-loop-i

@@ -1,9 +1,6 @@
 -- The first i words are those of `from`.
 use Prim.Native.Nat.{◌-◌, ◌≤◌}
-use Rattle.words.specs.Copies.{copied, Begun, begun-none, begun_more, begun_all}
-use borrow.Author.Tests.{eq-eqb, ne_eqb}
-use mathlib.Core.Path.{refl, sym, ◌∙◌}
-use native.Mathlib.Omega.{arith}
+use Rattle.words.specs.Copies.{Begun}
 use Rattle.words.proofs.copy.Given as goal
 
 abbrev pub invariant-loop-i : goal.invariant-loop-i

@@ -1,6 +1,4 @@
 -- Past the end `set` changes nothing.
-use Prim.Native.Nat.{◌-◌}
-use borrow.Author.Rules.{rules}
 use lib.Seq.{set_out}
 use mathlib.Core.Path.{sym}
 use Rattle.words.proofs.put.Goals as goal

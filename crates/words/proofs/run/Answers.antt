@@ -1,7 +1,6 @@
 -- Where the words lie in the slice they are the part that is lent.
 use Prim.Native.Nat.{◌+◌, ◌-◌}
 use Rattle.words.specs.Runs.{part, fetched-in, fetched-out}
-use borrow.Author.Rules.{rules}
 use mathlib.Core.Path.{◌≡◌, sym}
 use native.Mathlib.Omega.{arith}
 use Rattle.words.proofs.run.Goals as goal

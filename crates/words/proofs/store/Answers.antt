@@ -3,7 +3,6 @@ use Prim.Native.Nat.{◌+◌, ◌-◌}
 use Prim.Native.Nat.{◌-◌}
 use Rattle.words.specs.Copies.{copied-back}
 use Rattle.words.specs.Runs.{stored-out}
-use borrow.Author.Rules.{rules}
 use lib.ListN.{length}
 use mathlib.Core.Path.{sym}
 use native.Mathlib.Omega.{arith}

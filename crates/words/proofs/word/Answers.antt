@@ -1,6 +1,4 @@
 -- Past the end `get_or` gives its default.
-use Prim.Native.Nat.{◌-◌}
-use borrow.Author.Rules.{rules}
 use lib.ListN.{get_or-eq_default}
 use mathlib.Core.Path.{sym}
 use Rattle.words.proofs.word.Goals as goal

@@ -1,6 +1,5 @@
 -- `rights::Rights::allows` meets its contract: each call's result is put into the next. Assumes nothing.
 use mathlib.Core.Path.{◌∙◌}
-use borrow.Author.Rules.{rules}
 use Rattle.rights.proofs.Rights.allows.Goals as goal
 
 pub returns : goal.returns

@@ -1,6 +1,5 @@
 -- `rights::Rights::count` meets its contract. Each branch knows the test's value. Assumes nothing.
 use mathlib.Core.Path.{sym, ap, ◌∙◌}
-use borrow.Author.Rules.{rules}
 use Rattle.rights.specs.Counters.{one_if}
 use Rattle.rights.proofs.Rights.count.Goals as goal
 

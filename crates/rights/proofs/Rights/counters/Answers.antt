@@ -1,7 +1,6 @@
 -- `rights::Rights::counters` meets its contract: to contain a flag is to have its bit. Assumes nothing.
 use Prim.Native.Nat.{ℕ, ◌^◌}
 use mathlib.Core.Path.{◌≡◌, ap, ◌∙◌}
-use borrow.Author.Rules.{rules}
 use Rattle.rights.specs.Rights.{contains}
 use Rattle.rights.specs.Counters.{one_if}
 use Rattle.rights.specs.Bits.{bit}
