@@ -1,1 +1,3 @@
 // Mathematics only: the test of lent tables is exact.
+
+#![tactic(auto)]

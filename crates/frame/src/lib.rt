@@ -1,4 +1,7 @@
 // What every call does before and after its own work: test the lent memory, keep a copy of the tables, put it back, clear the work area.
+
+#![tactic(auto)]
+
 ghost use Rattle.std.specs.Prelude.{◌≡◌};
 ghost use Rattle.model.specs.Memory.{zeroed};
 ghost use Rattle.frame.specs.Finish.{admitted, kept, finished};
