@@ -1,10 +1,10 @@
 -- What a region of the book, and one of the tables, counts for; both agree where the regions do.
-use Rattle.std.specs.Prelude.{◌≡◌, refl, ℕ, zero, suc, ◌+◌, ◌<◌, Bool, true, false, not, ◌&&◌, ◌||◌, List, [], ◌∷◌, eqb, length, get_or}
+use Rattle.std.specs.Prelude.{◌≡◌, refl, ℕ, zero, suc, ◌+◌, ◌<◌, Bool, true, false, not, ◌&&◌, ◌||◌, List, [], ◌∷◌, eqb, length, get_or, if◌then◌else◌}
 use Rattle.std.proofs.Common.{sym, ap, ◌∙◌, arith}
 use Rattle.std.proofs.Math.Bool.{and-false, and_comm}
 use Rattle.std.proofs.Math.Option.{Option, none, some}
 use Rattle.base.specs.Tests.{true-is}
-use Rattle.model.specs.Lists.{if◌then◌else◌, one_if, is_some, exists, count_if}
+use Rattle.model.specs.Lists.{one_if, is_some, exists, count_if}
 use Rattle.model.specs.State.{Region, Kind, Root, Alias, Carve, parent_of}
 use Rattle.model.specs.Counts.{holds, carves, counts_for, tally as region_tally}
 use Rattle.laws.specs.Tree.Sum.{sum, sum_same, sum-front}

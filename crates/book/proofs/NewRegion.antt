@@ -1,5 +1,5 @@
 -- A region more: the book's next place, and a free slot of the tables. Root, alias and carve make one.
-use Rattle.std.specs.Prelude.{◌≡◌, refl, ◌≢◌, ℕ, zero, suc, ◌<◌, true, false, ◌&&◌, List, [], ◌∷◌, ◌++◌, eqb, length, get_or}
+use Rattle.std.specs.Prelude.{◌≡◌, refl, ◌≢◌, ℕ, zero, suc, ◌<◌, true, false, ◌&&◌, List, [], ◌∷◌, ◌++◌, eqb, length, get_or, if◌then◌else◌}
 use Rattle.std.proofs.Common.{sym, ap, ◌∙◌, arith, eqb→eq, get_or-set_same, get_or-set_other, eq-eqb, ne_eqb}
 use Rattle.std.proofs.Math.Bool.{and-false}
 use Rattle.std.proofs.Math.Option
@@ -7,7 +7,7 @@ use Rattle.std.proofs.Math.Option.{Option, none, some}
 use Rattle.std.proofs.Math.Seq.{get_or-append_seam}
 use Rattle.base.specs.Cases.{lt, ge, cmp, holds, fails, test}
 use Rattle.base.specs.Tests.{true-is, true-false}
-use Rattle.model.specs.Lists.{if◌then◌else◌, is_some, at_slot}
+use Rattle.model.specs.Lists.{is_some, at_slot}
 use Rattle.model.specs.State.{Pool, Handle, Region, Kind, Root, Alias, Carve, none_region, parent_of, State, region, Access}
 use Rattle.model.specs.Pool.{is_live, handle_of}
 use Rattle.model.specs.Locals.{insert_capa}

@@ -1,12 +1,12 @@
 -- A domain's slots on both sides: freed, swept, given.
-use Rattle.std.specs.Prelude.{◌≡◌, refl, ℕ, zero, suc, Bool, true, false, not, ◌&&◌, eqb, get_or, set}
+use Rattle.std.specs.Prelude.{◌≡◌, refl, ℕ, zero, suc, Bool, true, false, not, ◌&&◌, eqb, get_or, set, if◌then◌else◌}
 use Rattle.std.proofs.Math.Path.{sym, ap}
 use Rattle.std.proofs.Common.{ap₂, ◌∙◌, eq-eqb}
 use Rattle.std.proofs.Math.Option
 use Rattle.std.proofs.Math.Option.{Option, none, some}
 use mathlib.Core.List.{List, [], ◌∷◌}
 use Rattle.base.specs.Tests.{true-is}
-use Rattle.model.specs.Lists.{if◌then◌else◌, is_some, is_empty, at_slot}
+use Rattle.model.specs.Lists.{is_some, is_empty, at_slot}
 use Rattle.model.specs.State.{State, Handle, Capa, LocalList, Domain, domain_at, put_domain, none_domain}
 use Rattle.model.specs.Pool.{is_live}
 use Rattle.model.specs.Locals.{invalid_slots, free_local, free_locals, free_invalid_capas, insert_local, has_capacity, insert_capa}

@@ -1,9 +1,8 @@
 -- Sums: that of demand 3, and two whose terms above 0 are paired.
-use Rattle.std.specs.Prelude.{◌≡◌, refl, ◌≢◌, ℕ, zero, suc, ◌+◌, ◌<◌, eqb}
+use Rattle.std.specs.Prelude.{◌≡◌, refl, ◌≢◌, ℕ, zero, suc, ◌+◌, ◌<◌, eqb, if◌then◌else◌}
 use Rattle.std.proofs.Common.{sym, ap, ◌∙◌, arith, eq-eqb, ne_eqb}
 use Rattle.std.proofs.Math.Decide.{ℕ_discrete}
 use Rattle.base.specs.Cases.{lt, ge, cmp}
-use Rattle.model.specs.Lists.{if◌then◌else◌}
 use Rattle.laws.specs.Tree.Sum.{sum, sum_same, sum-at, sum-swap, sum-none}
 use Rattle.book.specs.Demand3.{sum_to}
 

@@ -1,8 +1,8 @@
 -- **Book** of demand 3 (document 01): what lives, and whose it is, "from calls and answers alone". Nothing here looks at the tables.
-use Rattle.std.specs.Prelude.{ℕ, zero, suc, Bool, true, false, not, ◌||◌, List, [], ◌∷◌, ◌++◌, eqb, length, get_or, set, replicate}
+use Rattle.std.specs.Prelude.{ℕ, zero, suc, Bool, true, false, not, ◌||◌, List, [], ◌∷◌, ◌++◌, eqb, length, get_or, set, replicate, if◌then◌else◌}
 use Rattle.std.proofs.Math.Option
 use Rattle.std.proofs.Math.Option.{Option, none, some}
-use Rattle.model.specs.Lists.{if◌then◌else◌, is_some, count_if, count_up, is_empty, at_slot}
+use Rattle.model.specs.Lists.{is_some, count_if, count_up, is_empty, at_slot}
 use Rattle.rights.specs.Rights.{union}
 use Rattle.model.specs.State.{Sizes, Handle, Access, SendOptions, Kind, Root, Alias, Carve, parent_of}
 use Rattle.model.specs.Perform.{Step, Call, Value, Answer}

@@ -1,5 +1,5 @@
 -- Who has gone and who is as it was, slot by slot, tells all that `RegionsAfter` and `DomainsAfter` say, once the caller's slot is emptied.
-use Rattle.std.specs.Prelude.{◌≡◌, refl, ◌≢◌, ℕ, Bool, true, false, not, List, [], T}
+use Rattle.std.specs.Prelude.{◌≡◌, refl, ◌≢◌, ℕ, Bool, true, false, not, List, [], T, if◌then◌else◌}
 use Rattle.std.proofs.Common.{sym, ◌∙◌, arith, eq-eqb, ne_eqb}
 use Rattle.std.proofs.Math.Path.{ap, subst}
 use Rattle.std.proofs.Math.Option.{Option, none, some, get_or}
@@ -9,7 +9,7 @@ use Rattle.std.proofs.Math.ListN.{set}
 use Rattle.std.proofs.Math.Seq.{get_or-set_same, get_or-set_other}
 use Rattle.base.specs.Options.{none-some}
 use Rattle.base.specs.Tests.{true-is, false-is}
-use Rattle.model.specs.Lists.{if◌then◌else◌, at_slot, In}
+use Rattle.model.specs.Lists.{at_slot, In}
 use Rattle.model.specs.State.{State, no_capa, Record, Domain, Region, none_domain, domain_at, with_locals, with_tracker, with_children}
 use Rattle.model.specs.Fields.{Field, get}
 use Rattle.model.specs.Pool.{handle_of}

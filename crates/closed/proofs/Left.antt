@@ -1,12 +1,12 @@
 -- The table of the regions that are left, slot by slot; tables that differ in lists of children alone count the same.
-use Rattle.std.specs.Prelude.{◌≡◌, Bool, true, false, length}
+use Rattle.std.specs.Prelude.{◌≡◌, Bool, true, false, length, if◌then◌else◌}
 use Rattle.std.proofs.Math.Path.{refl, ap}
 use Rattle.std.proofs.Common.{sym, ap₂, ◌∙◌}
 use Prim.Native.Nat.{ℕ, zero, suc, ◌+◌}
 use Rattle.std.proofs.Math.Option.{Option, none}
 use mathlib.Core.List.{List, [], ◌∷◌}
 use native.Mathlib.Omega.{arith}
-use Rattle.model.specs.Lists.{if◌then◌else◌, at_slot}
+use Rattle.model.specs.Lists.{at_slot}
 use Rattle.model.specs.State.{State, Region}
 use Rattle.model.specs.Fields.{Field}
 use Rattle.model.specs.Counts.{region_count}

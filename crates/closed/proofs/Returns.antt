@@ -1,5 +1,5 @@
 -- What a count loses and what returns to it: a region that is left counts wherever it counted, since no carve is new.
-use Rattle.std.specs.Prelude.{◌≡◌, ℕ, suc, ◌+◌, Bool, true, false, not, ◌&&◌, T}
+use Rattle.std.specs.Prelude.{◌≡◌, ℕ, suc, ◌+◌, Bool, true, false, not, ◌&&◌, T, if◌then◌else◌}
 use Rattle.std.proofs.Math.Path.{refl}
 use Rattle.std.proofs.Math.Option.{Option, none, some}
 use mathlib.Core.List.{List, [], ◌∷◌}
@@ -8,7 +8,7 @@ use Rattle.std.proofs.Math.Dec.{eqb, T_not, not_T}
 use Rattle.std.specs.Float.Ieee.Fits.{and_l, and_r, and_i}
 use Rattle.base.specs.Cases.{holds, fails, test}
 use Rattle.base.specs.Tests.{true-is, or_l, or_r}
-use Rattle.model.specs.Lists.{if◌then◌else◌, one_if, exists}
+use Rattle.model.specs.Lists.{one_if, exists}
 use Rattle.model.specs.State.{State, Region}
 use Rattle.model.specs.Fields.{Field, passes}
 use Rattle.model.specs.Counts.{holds as covers, carves, counts_for, tally, region_count}

@@ -1,9 +1,9 @@
 -- "When a contract ends its programs are gone" (README; document 02, request 5). An accepted revoke of a Management capability closes the domain that it
 -- names and every domain below it, and no other (`Ends`); one of a region takes that region back with all below it (`TakesBack`). What dies and what is left
 -- is computed from the tables before the call. Proofs: `contract-ends` and `region-returns` in Theorem. Of the exported function: crate promise, Statements.
-use Rattle.std.specs.Prelude.{◌≡◌, ◌⊎◌, ℕ, zero, suc, ◌+◌, ◌<◌, Bool, false, not, ◌&&◌, ◌||◌, List, [], ◌∷◌, T, eqb, get_or, set}
+use Rattle.std.specs.Prelude.{◌≡◌, ◌⊎◌, ℕ, zero, suc, ◌+◌, ◌<◌, Bool, false, not, ◌&&◌, ◌||◌, List, [], ◌∷◌, T, eqb, get_or, set, if◌then◌else◌}
 use Rattle.std.proofs.Math.Option.{Option, none, some}
-use Rattle.model.specs.Lists.{if◌then◌else◌, one_if, exists, count_up, at_slot, In}
+use Rattle.model.specs.Lists.{one_if, exists, count_up, at_slot, In}
 use Rattle.model.specs.Outcome.{ok}
 use Rattle.model.specs.State.{State, Handle, Capa, no_capa, region, region_revoke, management, channel, LocalList, Record, Domain, Region, parent_of, domain_at, region_at, with_locals, with_tracker, with_children}
 use Rattle.model.specs.Fields.{Field, get, passes}

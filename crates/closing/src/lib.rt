@@ -1,6 +1,9 @@
 // A domain is closed (document 02, request 5): what its slots hold is revoked in rising order, then its own slot is freed.
 // `close_domain` and `revoke_slot` call each other. `waiting` bounds how deep: it begins as the number of live domains, and is one less for each domain in
 // whose turn another's begins. It is not the number of live domains that are not closing, which also falls when a domain below has been closed.
+
+#![tactic(auto)]
+
 ghost use Rattle.std.specs.Prelude.{◌≡◌};
 ghost use Rattle.tables.specs.View.{view, Sized, Left};
 ghost use Rattle.closing.specs.Close.{revoke_live, freed_domain, revoke_slot, close_domain, close};

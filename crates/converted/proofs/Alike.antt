@@ -1,11 +1,11 @@
 -- Two states that are the same but for the marks of queued domains, and that the steps on lists, the ring, trackers and regions do the same there.
 -- The second state is the first with another queue, so that all but the queue is the same as it stands.
-use Rattle.std.specs.Prelude.{◌≡◌, refl, ℕ, suc, not, ◌||◌, List, [], ◌∷◌, ◌++◌, map, eqb, ltb, length}
+use Rattle.std.specs.Prelude.{◌≡◌, refl, ℕ, suc, not, ◌||◌, List, [], ◌∷◌, ◌++◌, map, eqb, ltb, length, if◌then◌else◌}
 use Rattle.std.proofs.Common.{sym, ap, subst, ◌∙◌}
 use Rattle.std.proofs.Math.Option.{Option, none, some}
 use Rattle.std.proofs.lemmas.List.{length-map}
 use Rattle.refusals.specs.Refusals.{no_local, ring_full}
-use Rattle.model.specs.Lists.{if◌then◌else◌, is_empty, exists}
+use Rattle.model.specs.Lists.{is_empty, exists}
 use Rattle.model.specs.Outcome.{Outcome, ok, ◌>>=◌, require}
 use Rattle.model.specs.State.{State, Handle, Capa, no_capa, region, region_revoke, management, channel, LocalList, Kind, Access, SendOptions, Update, permission, cleanup, Queue, with_queue, with_tracker, with_record_pool, with_owner, with_locals, domain_at, region_at, put_domain, put_region}
 use Rattle.model.specs.Pool.{handle_of}

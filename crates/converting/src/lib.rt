@@ -1,4 +1,7 @@
 // The converter (document 02, request 2): former tables, without marks, become this delivery's.
+
+#![tactic(auto)]
+
 ghost use Rattle.std.specs.Prelude.{◌≡◌, true};
 ghost use Rattle.converted.specs.Former.{rebuilt};
 ghost use Rattle.converting.specs.Exact.{converts_b};

@@ -1,8 +1,8 @@
 -- A state of the model written as structured tables: each field as the model's layout says, so that both have the same words.
-use Rattle.std.specs.Prelude.{ℕ, suc, ◌+◌, ◌-◌, ◌%◌, List, [], ◌∷◌, map, eqb, length, replicate}
+use Rattle.std.specs.Prelude.{ℕ, suc, ◌+◌, ◌-◌, ◌%◌, List, [], ◌∷◌, map, eqb, length, replicate, if◌then◌else◌}
 use Rattle.std.proofs.Math.Option.{Option, none, some}
 use Rattle.std.proofs.Math.ListN.{get_elem?}
-use Rattle.model.specs.Lists.{if◌then◌else◌, one_if, at_slot, count_up, first_of, after_in}
+use Rattle.model.specs.Lists.{one_if, at_slot, count_up, first_of, after_in}
 use Rattle.model.specs.State as state
 use Rattle.model.specs.State.{State, Capa, no_capa, region, region_revoke, management, channel, parent_of, permission, cleanup}
 use Rattle.model.specs.Layout.{link, slot_or0, free_link, kind_word, siblings, at_place, write_place}

@@ -1,5 +1,5 @@
 -- Tables with the clauses about capabilities: no slot and no head is wrong.
-use Rattle.std.specs.Prelude.{◌≡◌, ◌≢◌, ◌⊎◌, true, false, not, eqb, get_or}
+use Rattle.std.specs.Prelude.{◌≡◌, ◌≢◌, ◌⊎◌, true, false, not, eqb, get_or, if◌then◌else◌}
 use Rattle.std.proofs.Math.Path.{refl, sym, ap, subst}
 use Rattle.std.proofs.Common.{◌∙◌, inl, inr, arith, eqb-true}
 use Rattle.std.proofs.Math.Logic.{⊎_elim}
@@ -10,7 +10,7 @@ use Rattle.std.proofs.Math.Dec.{T}
 use Rattle.std.proofs.Math.ListN.{length}
 use Rattle.base.specs.Cases.{lt, ge, cmp, holds, fails, test}
 use Rattle.base.specs.Tests.{true-is}
-use Rattle.model.specs.Lists.{one_if, at_slot, In, if◌then◌else◌}
+use Rattle.model.specs.Lists.{one_if, at_slot, In}
 use Rattle.model.specs.State as state
 use Rattle.model.specs.Pool.{handle_of}
 use Rattle.model.specs.Tree.{is_root_kind}

@@ -1,12 +1,12 @@
 -- What the tests read of a pool and what the model says of its handles.
-use Rattle.std.specs.Prelude.{◌≡◌, ℕ, ◌≤◌, ◌<◌, true, false, eqb, ltb, length, get_or}
+use Rattle.std.specs.Prelude.{◌≡◌, ℕ, ◌≤◌, ◌<◌, true, false, eqb, ltb, length, get_or, if◌then◌else◌}
 use Rattle.std.proofs.Math.Option.{some, none}
 use Rattle.std.proofs.Common.{arith}
 use borrow.Author.Tests.{ltb-true, eqb-true, lt-ltb, le-ltb, eq-eqb}
 use Rattle.std.proofs.Math.ListN.{get_or-eq_default}
 use Rattle.base.specs.Cases.{lt, ge, cmp, holds, fails, test}
 use Rattle.base.specs.Tests.{both, both_true, is_true, true-is}
-use Rattle.model.specs.Lists.{at_slot, if◌then◌else◌}
+use Rattle.model.specs.Lists.{at_slot}
 use Rattle.model.specs.Pool.{is_live}
 use Rattle.model.specs.Sound.{LiveOrOlder}
 use Rattle.tables.specs.declared.Handle.{Handle}

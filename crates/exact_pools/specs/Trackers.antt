@@ -1,5 +1,5 @@
 -- The walk along all trackers, and how often each record is used: the test holds exactly where each record in use is on one tracker, once.
-use Rattle.std.specs.Prelude.{◌≡◌, ℕ, zero, suc, ◌+◌, ◌≤◌, ◌<◌, Bool, true, false, eqb, get_or}
+use Rattle.std.specs.Prelude.{◌≡◌, ℕ, zero, suc, ◌+◌, ◌≤◌, ◌<◌, Bool, true, false, eqb, get_or, if◌then◌else◌}
 use Rattle.std.proofs.Math.Path.{refl, ap}
 use Rattle.std.proofs.Common.{sym, ◌∙◌, arith}
 use Rattle.std.proofs.Math.Bool.{not}
@@ -9,7 +9,7 @@ use Rattle.std.proofs.Math.Decide.{ℕ_discrete}
 use Rattle.base.specs.Cases.{lt, ge, cmp, holds, fails, test}
 use Rattle.base.specs.Tests.{true-false}
 use Rattle.base.specs.Options.{none-some, some_same}
-use Rattle.model.specs.Lists.{one_if, count_if, count_up, if◌then◌else◌}
+use Rattle.model.specs.Lists.{one_if, count_if, count_up}
 use Rattle.model.specs.State as state
 use Rattle.model.specs.Sound.{record_uses}
 use Rattle.laws.specs.Stack.{one_at_most}

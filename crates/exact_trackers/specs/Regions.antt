@@ -1,6 +1,6 @@
 -- The pieces of a live region, walked along its children's links, are its effective ranges with its rights: the region that is read has these
 -- children, each as its row has it.
-use Rattle.std.specs.Prelude.{◌≡◌, refl, Bool, true, false, ltb, leb}
+use Rattle.std.specs.Prelude.{◌≡◌, refl, Bool, true, false, ltb, leb, if◌then◌else◌}
 use Rattle.std.proofs.Math.Path.{sym, ap}
 use Rattle.std.proofs.Common.{◌∙◌, arith, le-leb}
 use Prim.Native.Nat.{ℕ, zero, suc}
@@ -8,7 +8,7 @@ use Rattle.std.proofs.Math.Option.{Option, get_or}
 use mathlib.Core.List.{List, [], ◌∷◌, ◌++◌, map, map-append}
 use Rattle.std.proofs.Math.Dec.{T}
 use Rattle.base.specs.Cases.{holds, fails, test, pick}
-use Rattle.model.specs.Lists.{if◌then◌else◌, Each, is_some, at_slot, In}
+use Rattle.model.specs.Lists.{Each, is_some, at_slot, In}
 use Rattle.model.specs.State as state
 use Rattle.model.specs.State.{none_region, region_in}
 use Rattle.model.specs.Tree as tree

@@ -1,6 +1,6 @@
 -- The pieces gathered over a domain's slots are those that crate `sweep` lists over its capability list: a slot names a live region exactly where
 -- what is read from it does.
-use Rattle.std.specs.Prelude.{◌≡◌, Bool, ◌&&◌, ltb, get_or}
+use Rattle.std.specs.Prelude.{◌≡◌, Bool, ◌&&◌, ltb, get_or, if◌then◌else◌}
 use Rattle.std.proofs.Math.Path.{refl, sym, ap}
 use Rattle.std.proofs.Common.{◌∙◌}
 use Prim.Native.Nat.{ℕ, zero, suc, ◌+◌}
@@ -14,7 +14,7 @@ use Rattle.std.proofs.Math.ListN.{length, get_or-eq_default}
 use borrow.Author.Tests.{ltb-true, lt-ltb, le-ltb, eq-eqb, ne_eqb}
 use Rattle.base.specs.Cases.{lt, ge, cmp, holds, fails, test, pick}
 use Rattle.base.specs.Tests.{both, both_true}
-use Rattle.model.specs.Lists.{if◌then◌else◌, is_some, at_slot, In}
+use Rattle.model.specs.Lists.{is_some, at_slot, In}
 use Rattle.model.specs.State as state
 use Rattle.model.specs.State.{Pool}
 use Rattle.model.specs.Pool.{is_live}

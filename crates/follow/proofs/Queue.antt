@@ -1,10 +1,10 @@
 -- The marks of the updates in the queue: a push adds an update and leaves the others; what is gathered only adds marks.
-use Rattle.std.specs.Prelude.{ℕ, Bool, true, false, ◌&&◌, ◌||◌, List, [], ◌∷◌, ◌++◌, map, T, eqb}
+use Rattle.std.specs.Prelude.{ℕ, Bool, true, false, ◌&&◌, ◌||◌, List, [], ◌∷◌, ◌++◌, map, T, eqb, if◌then◌else◌}
 use Rattle.std.proofs.Math.Dec.{eqb_refl}
 use Rattle.std.specs.Float.Ieee.Fits.{and_l, and_r, and_i}
 use Rattle.base.specs.Tests.{or_l, or_r}
 use Rattle.rights.specs.Rights.{union}
-use Rattle.model.specs.Lists.{if◌then◌else◌, exists}
+use Rattle.model.specs.Lists.{exists}
 use Rattle.model.specs.State.{Handle, Update, permission, cleanup}
 use Rattle.model.specs.Fields.{Field, is_marked}
 use Rattle.model.specs.Pool.{same_handle}

@@ -1,6 +1,6 @@
 -- The steps on regions keep `Tracks`: regions come, go and change hands with proper ranges, the ranges of a send are not empty, and the trackers change by
 -- gains and losses alone.
-use Rattle.std.specs.Prelude.{◌≡◌, ltb}
+use Rattle.std.specs.Prelude.{◌≡◌, ltb, if◌then◌else◌}
 use Rattle.std.proofs.Math.Path.{refl}
 use Prim.Native.Nat.{ℕ, zero, suc, ◌<◌}
 use Rattle.std.proofs.Math.Option.{Option, none, some}
@@ -8,7 +8,7 @@ use mathlib.Core.List.{List, [], ◌∷◌, ◌++◌}
 use Rattle.std.proofs.Common.{arith, ltb→lt}
 use Rattle.base.specs.Cases.{holds, fails, test}
 use Rattle.base.specs.Tests.{true-is}
-use Rattle.model.specs.Lists.{if◌then◌else◌, Each}
+use Rattle.model.specs.Lists.{Each}
 use Rattle.rights.specs.Rights.{has, CLEANUP}
 use Rattle.model.specs.State.{State, Region, Kind, Root, Alias, Carve, Access, SendOptions, region_at}
 use Rattle.model.specs.Tree.{Range, is_carve, piece, effective_from, insert_child, remove_child, children_of}

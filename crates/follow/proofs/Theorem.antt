@@ -1,11 +1,11 @@
 -- A writer that follows the queue loses nothing: the theorem, from what every call keeps on sound tables.
-use Rattle.std.specs.Prelude.{◌≡◌, refl, ◌⊎◌, ℕ, ◌<◌, Bool, true, false, not, T, ltb}
+use Rattle.std.specs.Prelude.{◌≡◌, refl, ◌⊎◌, ℕ, ◌<◌, Bool, true, false, not, T, ltb, if◌then◌else◌}
 use Rattle.std.proofs.Common.{inl, inr, T_not, lt-ltb}
 use Rattle.std.proofs.Math.Option.{none, some}
 use mathlib.Core.List.{List, [], ◌∷◌, map}
 use Rattle.std.proofs.Math.Dec.{not_T}
 use Rattle.std.specs.Float.Ieee.Fits.{and_l}
-use Rattle.model.specs.Lists.{if◌then◌else◌, exists, Each, at_slot}
+use Rattle.model.specs.Lists.{exists, Each, at_slot}
 use Rattle.model.specs.Outcome.{Outcome, ok, refuse}
 use Rattle.model.specs.State.{State, Sizes, Handle, Record, Update, permission, cleanup, domain_at}
 use Rattle.model.specs.Fields.{Field, is_marked}

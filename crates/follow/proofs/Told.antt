@@ -1,6 +1,6 @@
 -- The calls that tell the writer something keep `Tracks` of what is seen after them: a making leaves nothing stored and nothing seen, an opening voids
 -- what was seen of a slot whose tracker is empty, and a pop takes an update out of the queue and reads the counts that it marks, if its domain is live.
-use Rattle.std.specs.Prelude.{◌≡◌, refl, ◌⊎◌, ◌≢◌, ℕ, zero, suc, ◌+◌, ◌%◌, Bool, true, false, not, ◌&&◌, ◌||◌, T, eqb, ltb, get_or, set, replicate}
+use Rattle.std.specs.Prelude.{◌≡◌, refl, ◌⊎◌, ◌≢◌, ℕ, zero, suc, ◌+◌, ◌%◌, Bool, true, false, not, ◌&&◌, ◌||◌, T, eqb, ltb, get_or, set, replicate, if◌then◌else◌}
 use Rattle.std.proofs.Common.{sym, subst, ◌∙◌, inl, inr, arith, eqb→eq, T_not, get_or-set_other, eq-eqb, ne_eqb}
 use Rattle.std.proofs.Math.Option
 use Rattle.std.proofs.Math.Option.{Option, none, some}
@@ -9,7 +9,7 @@ use Rattle.std.proofs.Math.Decide.{ℕ_discrete}
 use Rattle.std.specs.Float.Ieee.Fits.{and_l, and_r, and_i}
 use Rattle.base.specs.Cases.{holds, fails, test}
 use Rattle.base.specs.Tests.{true-is, false-is}
-use Rattle.model.specs.Lists.{if◌then◌else◌, is_some, exists, at_slot}
+use Rattle.model.specs.Lists.{is_some, exists, at_slot}
 use Rattle.refusals.specs.declared.Refusal.{Refusal}
 use Rattle.model.specs.State.{State, Sizes, Handle, Pool, Domain, LocalList, Record, Update, permission, cleanup, none_domain, none_region, domain_at, put_domain, with_locals, with_queue, with_domains}
 use Rattle.model.specs.Fields.{Field, is_marked}

@@ -1,12 +1,12 @@
 -- The revoke of a capability does the same without the bits of domains' words; so does the close of a domain, which reads lists, managers and core maps alone.
-use Rattle.std.specs.Prelude.{◌≡◌, ℕ, zero, suc, ◌+◌, Bool, false, not, ◌&&◌, ◌||◌, eqb, set}
+use Rattle.std.specs.Prelude.{◌≡◌, ℕ, zero, suc, ◌+◌, Bool, false, not, ◌&&◌, ◌||◌, eqb, set, if◌then◌else◌}
 use Rattle.std.proofs.Math.Path.{refl, subst}
 use Rattle.std.proofs.Common.{sym, ap, ◌∙◌}
 use Rattle.std.proofs.Math.Option.{Option, none, some}
 use mathlib.Core.List.{List, [], ◌∷◌, map}
 use Rattle.std.proofs.Math.ListN.{get_or-map}
 use Rattle.refusals.specs.Refusals.{no_domain, holds_root, running}
-use Rattle.model.specs.Lists.{if◌then◌else◌, is_some, exists, count_if, count_up, at_slot}
+use Rattle.model.specs.Lists.{is_some, exists, count_if, count_up, at_slot}
 use Rattle.model.specs.Outcome.{Outcome, ok, ◌>>◌, require}
 use Rattle.model.specs.State.{State, Handle, Capa, no_capa, region, region_revoke, management, channel, Domain, Region, domain_at, with_domains}
 use Rattle.model.specs.Pool.{is_live}

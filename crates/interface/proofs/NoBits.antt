@@ -1,12 +1,12 @@
 -- A state without the bits of its domains' words, and that the steps on lists, trackers and the ring do the same there. A free slot reads as a domain whose
 -- word is 0, so that this asks for no sound tables.
-use Rattle.std.specs.Prelude.{◌≡◌, refl, ℕ, zero, suc, not, ◌&&◌, ◌||◌, List, [], ◌∷◌, map, eqb, set, get_or}
+use Rattle.std.specs.Prelude.{◌≡◌, refl, ℕ, zero, suc, not, ◌&&◌, ◌||◌, List, [], ◌∷◌, map, eqb, set, get_or, if◌then◌else◌}
 use Rattle.std.proofs.Common.{sym, ap, subst, ◌∙◌}
 use Rattle.std.proofs.Math.Option
 use Rattle.std.proofs.Math.Option.{Option, none, some}
 use Rattle.std.proofs.Math.ListN.{get_or-map}
 use Rattle.refusals.specs.Refusals.{no_slot, no_local}
-use Rattle.model.specs.Lists.{if◌then◌else◌, is_some, is_empty, exists, at_slot}
+use Rattle.model.specs.Lists.{is_some, is_empty, exists, at_slot}
 use Rattle.model.specs.Outcome.{Outcome, require, ok_or}
 use Rattle.model.specs.State.{State, Handle, Capa, no_capa, region, region_revoke, management, channel, LocalList, Record, Domain, Update, permission, Access, none_domain, domain_at, put_domain, with_domains, with_interface, with_locals, with_tracker, with_record_pool}
 use Rattle.model.specs.Pool.{is_live, handle_of}

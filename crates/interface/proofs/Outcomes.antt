@@ -1,7 +1,6 @@
 -- Two outcomes side by side: both accepted, with related answers, or both refused alike. One rule for each form that the definitions use.
-use Rattle.std.specs.Prelude.{◌≡◌, Bool, true, false}
+use Rattle.std.specs.Prelude.{◌≡◌, Bool, true, false, if◌then◌else◌}
 use Rattle.std.proofs.Common.{sym, subst}
-use Rattle.model.specs.Lists.{if◌then◌else◌}
 use Rattle.model.specs.Outcome.{Outcome, ok, refuse, ◌>>=◌, ◌>>◌}
 use Rattle.refusals.specs.declared.Refusal.{Refusal}
 

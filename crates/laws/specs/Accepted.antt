@@ -1,7 +1,6 @@
 -- What holds of an outcome if it is accepted: one rule for each form that the definitions use. For the laws; no part of what a reader must believe.
-use Rattle.std.specs.Prelude.{◌≡◌, Bool, true, false, not, ℕ, T}
+use Rattle.std.specs.Prelude.{◌≡◌, Bool, true, false, not, ℕ, T, if◌then◌else◌}
 use Rattle.std.proofs.Common.{subst, arith}
-use Rattle.model.specs.Lists.{if◌then◌else◌}
 use Rattle.model.specs.Outcome.{Outcome, ok, refuse, ◌>>=◌, ◌>>◌, require}
 use Rattle.refusals.specs.declared.Refusal.{Refusal}
 

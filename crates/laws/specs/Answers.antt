@@ -1,7 +1,6 @@
 -- What holds of an outcome, whether it is accepted or refused: P of the answer, or R of the refusal. One rule for each form that the definitions use.
-use Rattle.std.specs.Prelude.{◌≡◌, ℕ, Bool, true, false, T}
+use Rattle.std.specs.Prelude.{◌≡◌, ℕ, Bool, true, false, T, if◌then◌else◌}
 use Rattle.std.proofs.Common.{arith}
-use Rattle.model.specs.Lists.{if◌then◌else◌}
 use Rattle.model.specs.Outcome.{Outcome, ok, refuse, ◌>>=◌, ◌>>◌, require}
 use Rattle.refusals.specs.declared.Refusal.{Refusal}
 use Rattle.laws.specs.Accepted.{All, accepted, refused}

@@ -1,12 +1,12 @@
 -- A law of the queue (document 02, request 4): a queued domain gathers marks, by union, and "Domain, core map and place in the queue are as before".
 -- So gathering keeps the queue sound: the same domains are queued, in the same order, and five bits stay five bits.
-use Rattle.std.specs.Prelude.{◌≡◌, refl, ℕ, ◌<◌, Bool, true, false, ◌&&◌, ◌||◌, List, [], ◌∷◌, map, length}
+use Rattle.std.specs.Prelude.{◌≡◌, refl, ℕ, ◌<◌, Bool, true, false, ◌&&◌, ◌||◌, List, [], ◌∷◌, map, length, if◌then◌else◌}
 use Rattle.std.proofs.Common.{sym, ap, ap₂, ◌∙◌, arith}
 use Rattle.std.proofs.Math.Bool.{or-false}
 use Rattle.std.proofs.Math.Option.{Option}
 use Rattle.std.proofs.lemmas.List.{length-map}
 use Rattle.rights.specs.Rights.{union}
-use Rattle.model.specs.Lists.{if◌then◌else◌, one_if, exists, count_if}
+use Rattle.model.specs.Lists.{one_if, exists, count_if}
 use Rattle.model.specs.State.{Handle, Pool, Domain, Update, permission, cleanup, Queue}
 use Rattle.model.specs.Fields.{Field, is_marked}
 use Rattle.model.specs.Pool.{same_handle}

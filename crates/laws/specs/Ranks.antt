@@ -1,12 +1,12 @@
 -- A table whose elements may name a parent, as regions do and domains their managers. Where the parents lead from each element to one that has none,
 -- each has a rank: how many stand above it. An element and those above it have different ranks, so a rank lies below the number of elements.
-use Rattle.std.specs.Prelude.{◌≡◌, List, T, eqb, length}
+use Rattle.std.specs.Prelude.{◌≡◌, List, T, eqb, length, if◌then◌else◌}
 use Rattle.std.proofs.Math.Path.{refl, ap}
 use Rattle.std.proofs.Common.{sym, ◌∙◌, arith, eq-eqb}
 use Prim.Native.Nat.{ℕ, zero, suc, ◌+◌, ◌-◌, ◌<◌}
 use Rattle.std.proofs.Math.Option.{Option, none, some}
 use Rattle.base.specs.Options.{none-some, some_same}
-use Rattle.model.specs.Lists.{if◌then◌else◌, one_if, is_some, count_if, at_slot, In}
+use Rattle.model.specs.Lists.{one_if, is_some, count_if, at_slot, In}
 use Rattle.laws.specs.Tree.Sum.{sum, sum-le, sum-get, sum-swap, sum-pick-le, sum_ones}
 use Rattle.laws.specs.Tree.Slots.{in-length, count-sum, live-is}
 

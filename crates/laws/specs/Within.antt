@@ -1,13 +1,12 @@
 -- A value that is one thing inside a range of numbers, and another outside.
-use Rattle.std.specs.Prelude.{◌≡◌, ℕ, ◌≤◌, ◌<◌, ltb}
+use Rattle.std.specs.Prelude.{◌≡◌, ℕ, ◌≤◌, ◌<◌, ltb, cond}
 use Rattle.std.proofs.Common.{◌∙◌}
-use Rattle.model.specs.Lists.{if◌then◌else◌}
 use borrow.Author.Tests.{lt-ltb, le-ltb}
 use Rattle.base.specs.Cases.{cmp, pos, lt, ge, below, inside, above}
 
 -- x where s ≤ a < e, else y
 unfoldable pub within {ℓ} : {A : Type ℓ} → ℕ → ℕ → ℕ → A → A → A
-within s e a x y = if ltb a s then y else (if ltb a e then x else y)
+within s e a x y = cond (ltb a s) y (cond (ltb a e) x y)
 
 module _ {ℓ} {A : Type ℓ} (s e a : ℕ) (x y : A) where
   pub within-lo : a < s → within s e a x y ≡ y

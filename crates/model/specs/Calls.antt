@@ -1,9 +1,9 @@
 -- The calls (document 01, **Order of checks**; `CapaEngine`). Each `do` block has the checks in that order, the refusal's number beside each.
 -- Where room was found first (`room_for_region`, `has_capacity`), `new_region` and `insert_capa` find it too, so that no 11 or 12 stands beside them.
 -- 13, 14, 16 are what may come, not an order: a gain or loss gives 13 or 16 where it meets them, and 14 when it is done; a close or a revoke has several.
-use Rattle.std.specs.Prelude.{ℕ, true, false, not, ◌||◌, [], eqb, ltb, set}
+use Rattle.std.specs.Prelude.{ℕ, true, false, not, ◌||◌, [], eqb, ltb, set, if◌then◌else◌}
 use Rattle.std.proofs.Math.Option.{Option, none, some}
-use Rattle.model.specs.Lists.{if◌then◌else◌, is_some, is_empty}
+use Rattle.model.specs.Lists.{is_some, is_empty}
 use Rattle.model.specs.Outcome.{Outcome, ok, refuse, ◌>>=◌, ◌>>◌, require}
 use Rattle.refusals.specs.Refusals.{no_domain, wrong_kind, stale, bad_range, beyond, is_root, not_carried, no_region, no_domain_room, bad_flag, no_hash, not_allowed, is_frozen, holds_root, running}
 use Rattle.rights.specs.Rights.{has, allowed, HASH}

@@ -1,9 +1,9 @@
 -- **Closing a domain** (document 02, request 5): "Revoking a Management capability closes that domain: its slots in rising order, regions with all below
 -- them, a RegionRevoke's region likewise if alive, and a Management slot closes that domain in turn, which may hold further ones."
 -- "A domain is closing from its own turn on": `closing` has the slots of the domains whose turn has begun and is not over.
-use Rattle.std.specs.Prelude.{ℕ, zero, suc, Bool, false, not, ◌&&◌, ◌||◌, List, [], ◌∷◌, eqb, set}
+use Rattle.std.specs.Prelude.{ℕ, zero, suc, Bool, false, not, ◌&&◌, ◌||◌, List, [], ◌∷◌, eqb, set, if◌then◌else◌}
 use Rattle.std.proofs.Math.Option.{Option, none, some}
-use Rattle.model.specs.Lists.{if◌then◌else◌, is_some, exists, count_if, count_up, at_slot}
+use Rattle.model.specs.Lists.{is_some, exists, count_if, count_up, at_slot}
 use Rattle.model.specs.Outcome.{Outcome, ok, ◌>>=◌}
 use Rattle.model.specs.State.{State, Handle, Capa, no_capa, region, region_revoke, management, channel, Domain, Region, domain_at, with_domains}
 use Rattle.model.specs.Pool.{free, is_live}

@@ -1,7 +1,7 @@
 -- Stored reach and counts at an address, and the counts over the regions that demand 3 compares them with (document 01, **Book**).
-use Rattle.std.specs.Prelude.{◌≡◌, ℕ, suc, ◌+◌, Bool, false, not, ◌&&◌, List, [], ◌∷◌, eqb, ltb, leb}
+use Rattle.std.specs.Prelude.{◌≡◌, ℕ, suc, ◌+◌, Bool, false, not, ◌&&◌, List, [], ◌∷◌, eqb, ltb, leb, if◌then◌else◌}
 use Rattle.std.proofs.Math.Option.{Option, none, some}
-use Rattle.model.specs.Lists.{if◌then◌else◌, one_if, exists}
+use Rattle.model.specs.Lists.{one_if, exists}
 use Rattle.model.specs.State.{State, Region, Root, Alias, Carve, Counts, Record, domain_at}
 use Rattle.model.specs.Fields.{Field, get, passes}
 use Rattle.model.specs.Tracker.{no_counts}

@@ -1,11 +1,11 @@
 -- The words of the tables, section by section. docs/TABLES.md has the same as tables, with one written out: read it first. The state settles every word, and
 -- for sound states the words settle the state (`words-unique`, crate laws).
 -- D domains, S slots in each domain's list, R regions, T tracker records, U updates; slot numbers count from 0.
-use Rattle.std.specs.Prelude.{ℕ, suc, ◌+◌, ◌-◌, ◌*◌, ◌%◌, eqb, length, replicate}
+use Rattle.std.specs.Prelude.{ℕ, suc, ◌+◌, ◌-◌, ◌*◌, ◌%◌, eqb, length, replicate, if◌then◌else◌}
 use Rattle.std.proofs.Math.Option.{Option, none, some, get_or}
 use mathlib.Core.List.{List, [], ◌∷◌, ◌++◌, map, flat_map}
 use Rattle.std.proofs.Math.ListN.{get_elem?}
-use Rattle.model.specs.Lists.{if◌then◌else◌, one_if, exists, at_slot, count_up, first_of, after_in}
+use Rattle.model.specs.Lists.{one_if, exists, at_slot, count_up, first_of, after_in}
 use Rattle.model.specs.State.{Sizes, Pool, Capa, no_capa, region, region_revoke, management, channel, LocalList, Record, Domain, Kind, Root, Alias, Carve, parent_of, Region, region_in, Update, permission, cleanup, Queue, State}
 
 -- A link is a slot number + 1, or 0 for none.

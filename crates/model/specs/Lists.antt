@@ -1,14 +1,8 @@
 -- Functions on lists and tests that the definitions share. Lists are counted from 0.
-use Rattle.std.specs.Prelude.{◌≡◌, ℕ, zero, suc, ◌+◌, Bool, true, false, ◌&&◌, ◌||◌, List, [], ◌∷◌, eqb, get_or}
+use Rattle.std.specs.Prelude.{◌≡◌, ℕ, zero, suc, ◌+◌, Bool, true, false, cond, ◌&&◌, ◌||◌, List, [], ◌∷◌, eqb, get_or, if◌then◌else◌}
 use Rattle.std.proofs.Math.Option.{Option, none, some}
 
 -- ---- tests
-
--- the first where the test holds, else the second
-infix 5 if◌then◌else◌
-abbrev pub if◌then◌else◌ {ℓ} : {A : Type ℓ} → Bool → A → A → A
-if true then x else y = x
-if false then x else y = y
 
 -- 1 where the test holds, else 0
 abbrev pub one_if : Bool → ℕ
@@ -41,7 +35,7 @@ count_if p (x ∷ l) = one_if (p x) + count_if p l
 -- those that pass the test, in their order
 abbrev pub keep {ℓ} : {A : Type ℓ} → (A → Bool) → List A → List A
 keep p [] = []
-keep p (x ∷ l) = if p x then x ∷ keep p l else keep p l
+keep p (x ∷ l) = cond (p x) (x ∷ keep p l) (keep p l)
 
 -- Every element has the property.
 abbrev pub Each : {A : Type 0} → (A → Type 0) → List A → Type 0

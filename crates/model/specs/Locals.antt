@@ -1,7 +1,7 @@
 -- A domain's capability list (document 01, **Sweep**, and 12 NoLocal).
-use Rattle.std.specs.Prelude.{ℕ, suc, Bool, true, not, List, [], ◌∷◌, set, replicate}
+use Rattle.std.specs.Prelude.{ℕ, suc, Bool, true, not, List, [], ◌∷◌, set, replicate, if◌then◌else◌}
 use Rattle.std.proofs.Math.Option.{Option, none, some}
-use Rattle.model.specs.Lists.{if◌then◌else◌, count_up, is_empty, at_slot}
+use Rattle.model.specs.Lists.{count_up, is_empty, at_slot}
 use Rattle.model.specs.Outcome.{Outcome, ok, refuse, ◌>>=◌, ◌>>◌, require, ok_or}
 use Rattle.refusals.specs.Refusals.{no_slot, no_local}
 use Rattle.model.specs.State.{State, LocalList, Capa, no_capa, region, region_revoke, management, channel, domain_at, put_domain, with_locals}

@@ -1,7 +1,7 @@
 -- The readings (document 01, **Reading**). They change nothing.
-use Rattle.std.specs.Prelude.{ℕ, ◌+◌, max, Bool, ◌&&◌, List, [], ◌∷◌, map, ltb, length}
+use Rattle.std.specs.Prelude.{ℕ, ◌+◌, max, Bool, ◌&&◌, List, [], ◌∷◌, map, ltb, length, if◌then◌else◌}
 use Rattle.rights.specs.Rights.{READ, WRITE, EXEC, SUPER, UNCACHEABLE}
-use Rattle.model.specs.Lists.{if◌then◌else◌, is_some, keep, at_slot, count_up}
+use Rattle.model.specs.Lists.{is_some, keep, at_slot, count_up}
 use Rattle.model.specs.Outcome.{Outcome, ok, ◌>>=◌}
 use Rattle.model.specs.State.{State, Access, Counts, Record, Handle, domain_at}
 use Rattle.model.specs.Tracker.{meets}

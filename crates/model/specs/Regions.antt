@@ -1,8 +1,8 @@
 -- The steps on regions (document 01, **Alias** to **Revoke**; `segment`, and `activate_region`, `deactivate_region` of `domain`).
 -- `closing`: the slots of the domains that are closing (Closing.antt), none where no domain is closed.
-use Rattle.std.specs.Prelude.{ℕ, zero, suc, ◌||◌, List, [], ◌∷◌, eqb, set}
+use Rattle.std.specs.Prelude.{ℕ, zero, suc, ◌||◌, List, [], ◌∷◌, eqb, set, if◌then◌else◌}
 use Rattle.std.proofs.Math.Option.{none, some}
-use Rattle.model.specs.Lists.{if◌then◌else◌, is_some, exists, count_if}
+use Rattle.model.specs.Lists.{is_some, exists, count_if}
 use Rattle.model.specs.Outcome.{Outcome, ok, ◌>>=◌}
 use Rattle.refusals.specs.Refusals.{no_region}
 use Rattle.rights.specs.Rights.{has, union, CLEANUP}

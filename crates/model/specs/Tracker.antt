@@ -2,8 +2,8 @@
 -- two addresses, `from` and, not included, `to`; r is its rights. Proved in crate laws: what `gain` and `lose` make of the counts at each address
 -- (`gain-count`, `lose-count`), and that they mark exactly the counts that came to or left 0 (`gain-marks`, `lose-marks`). So who does not ask which record
 -- slot is taken, or when 13 comes, reads down to `Walk`, then `meets`, `mergeable`, `gain` and `lose`.
-use Rattle.std.specs.Prelude.{ℕ, ◌+◌, ◌-◌, min, max, Bool, not, ◌&&◌, List, [], ◌∷◌, ◌++◌, eqb, ltb}
-use Rattle.model.specs.Lists.{if◌then◌else◌, one_if, is_empty, every}
+use Rattle.std.specs.Prelude.{ℕ, ◌+◌, ◌-◌, min, max, Bool, not, ◌&&◌, List, [], ◌∷◌, ◌++◌, eqb, ltb, if◌then◌else◌}
+use Rattle.model.specs.Lists.{one_if, is_empty, every}
 use Rattle.model.specs.Outcome.{Outcome, ok, ◌>>=◌}
 use Rattle.refusals.specs.Refusals.{no_tracker}
 use Rattle.rights.specs.Rights.{has, union, UNCACHEABLE}

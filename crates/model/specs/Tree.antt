@@ -1,7 +1,7 @@
 -- Regions as a forest (document 01, **Alias**, **Carve**, **Send**, **Child lists**; `segment`).
-use Rattle.std.specs.Prelude.{ℕ, Bool, true, false, not, ◌&&◌, List, [], ◌∷◌, ◌++◌, map, ltb, leb}
+use Rattle.std.specs.Prelude.{ℕ, Bool, true, false, not, ◌&&◌, List, [], ◌∷◌, ◌++◌, map, ltb, leb, if◌then◌else◌}
 use Rattle.std.proofs.Math.Option.{Option}
-use Rattle.model.specs.Lists.{if◌then◌else◌, exists, without}
+use Rattle.model.specs.Lists.{exists, without}
 use Rattle.rights.specs.Rights.{allowed}
 use Rattle.model.specs.State.{State, Region, Kind, Root, Alias, Carve, Access, region_in, region_at, put_region, with_children}
 

@@ -1,7 +1,7 @@
 -- **Update ring** (document 01). "It has one place more than it can hold."
-use Rattle.std.specs.Prelude.{ℕ, ◌+◌, ◌%◌, Bool, false, [], ◌∷◌, ◌++◌, map, ltb, length}
+use Rattle.std.specs.Prelude.{ℕ, ◌+◌, ◌%◌, Bool, false, [], ◌∷◌, ◌++◌, map, ltb, length, if◌then◌else◌}
 use Rattle.std.proofs.Math.Option.{Option, none, some}
-use Rattle.model.specs.Lists.{if◌then◌else◌, exists}
+use Rattle.model.specs.Lists.{exists}
 use Rattle.model.specs.Outcome.{Outcome, ok, ◌>>◌, require}
 use Rattle.refusals.specs.Refusals.{ring_full}
 use Rattle.rights.specs.Rights.{union}

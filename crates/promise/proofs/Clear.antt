@@ -1,5 +1,5 @@
 -- A book in which domain d has no region over address a, alive or dead, and that no call but a root or a send changes that.
-use Rattle.std.specs.Prelude.{◌≡◌, refl, Bool, true, false, ◌&&◌, T, eqb, leb, ltb, set}
+use Rattle.std.specs.Prelude.{◌≡◌, refl, Bool, true, false, ◌&&◌, T, eqb, leb, ltb, set, if◌then◌else◌}
 use Rattle.std.proofs.Common.{sym, ◌∙◌, arith, leb→le, ltb→lt, le→leb, lt→ltb, le-ltb}
 use Rattle.std.proofs.Math.Path.{ap}
 use Prim.Native.Nat.{ℕ, zero, suc, ◌+◌, ◌≤◌}
@@ -10,7 +10,7 @@ use Rattle.std.specs.Float.Ieee.Fits.{and_l, and_r}
 use Rattle.base.specs.Cases.{test, fails}
 use Rattle.base.specs.Cases as cases
 use Rattle.base.specs.Tests.{is_true, true-is, true-false}
-use Rattle.model.specs.Lists.{Each, if◌then◌else◌, is_empty, at_slot, one_if}
+use Rattle.model.specs.Lists.{Each, is_empty, at_slot, one_if}
 use Rattle.model.specs.Outcome.{Outcome, ok, refuse, ◌>>=◌}
 use Rattle.model.specs.State.{State, Handle, Access, Region, SendOptions, ALIAS, CARVE, none_region, none_domain, region_at}
 use Rattle.model.specs.Counts.{holds}

@@ -1,8 +1,8 @@
 -- Memory that a domain was never given it has no reach to, after any sequence of exported calls.
-use Rattle.std.specs.Prelude.{◌≡◌, refl, ℕ, Bool, true, false, not, ◌&&◌, List, T, eqb}
+use Rattle.std.specs.Prelude.{◌≡◌, refl, ℕ, Bool, true, false, not, ◌&&◌, List, T, eqb, if◌then◌else◌}
 use Rattle.std.proofs.Common.{sym, ap, subst, ◌∙◌, eqb→eq, arith}
 use Rattle.base.specs.Tests.{true-is}
-use Rattle.model.specs.Lists.{Each, if◌then◌else◌}
+use Rattle.model.specs.Lists.{Each}
 use Rattle.model.specs.State.{Sizes, no_options, Root, Alias, Carve}
 use Rattle.model.specs.Fields.{passes}
 use Rattle.model.specs.Counts.{holds}

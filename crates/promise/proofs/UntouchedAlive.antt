@@ -1,8 +1,8 @@
 -- What a call adds to a book in which a domain has no live region over an address, and the tables of such a book.
-use Rattle.std.specs.Prelude.{◌≡◌, refl, ℕ, Bool, true, false, not, ◌&&◌, List, T, eqb}
+use Rattle.std.specs.Prelude.{◌≡◌, refl, ℕ, Bool, true, false, not, ◌&&◌, List, T, eqb, if◌then◌else◌}
 use Rattle.std.proofs.Common.{sym, ap, subst, ◌∙◌, eqb→eq}
 use Rattle.base.specs.Tests.{true-is}
-use Rattle.model.specs.Lists.{Each, if◌then◌else◌}
+use Rattle.model.specs.Lists.{Each}
 use Rattle.model.specs.State.{Sizes, no_options, Root, Alias, Carve}
 use Rattle.model.specs.Fields.{passes}
 use Rattle.model.specs.Counts.{holds}

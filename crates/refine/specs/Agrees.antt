@@ -1,9 +1,8 @@
 -- What a step of the code comes to against what the model says. A step agrees with an accepted call where it answers the call's number and leaves the
 -- words of the call's state; it agrees with a refused call where it answers the same refusal. Of the tables after a refusal nothing is said.
 -- Steps compose as calls do: `and_then` against `◌>>=◌`.
-use Rattle.std.specs.Prelude.{◌≡◌, refl, ℕ, Bool, true, false}
+use Rattle.std.specs.Prelude.{◌≡◌, refl, ℕ, Bool, true, false, if◌then◌else◌}
 use Rattle.std.proofs.Common.{sym, ap, subst, ◌∙◌}
-use Rattle.model.specs.Lists.{if◌then◌else◌}
 use Rattle.model.specs.Outcome.{Outcome, ok, refuse, ◌>>=◌, ◌>>◌, require}
 use Rattle.model.specs.State.{State}
 use Rattle.tables.specs.Tables.{Tables}

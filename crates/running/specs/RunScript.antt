@@ -1,8 +1,7 @@
 -- What running a script in lent memory promises: what the model's list of the calls that the script's bytes name leaves, and demand 3 of it (document 01,
 -- "Contracts and checked cases").
-use Rattle.std.specs.Prelude.{◌≡◌, ℕ, Bool, List, length}
+use Rattle.std.specs.Prelude.{◌≡◌, ℕ, Bool, List, length, if◌then◌else◌}
 use Rattle.refusals.specs.Refusals.{number, memory, bad_record}
-use Rattle.model.specs.Lists.{if◌then◌else◌}
 use Rattle.model.specs.Making.{empty_tables, script_sizes}
 use Rattle.model.specs.State.{Sizes}
 use Rattle.model.specs.Layout.{words, length_for}

@@ -1,10 +1,10 @@
 -- A script's calls, record by record: from none to one more, and to the end or a bad record.
-use Rattle.std.specs.Prelude.{◌≡◌, refl, ℕ, ◌+◌, ◌-◌, ◌≤◌, ◌<◌, Bool, true, false, List, [], ◌∷◌, ◌++◌, length, take, drop, replicate}
+use Rattle.std.specs.Prelude.{◌≡◌, refl, ℕ, ◌+◌, ◌-◌, ◌≤◌, ◌<◌, Bool, true, false, List, [], ◌∷◌, ◌++◌, length, take, drop, replicate, if◌then◌else◌}
 use Rattle.std.proofs.Common.{sym, ap, subst, ◌∙◌, append-nil, append_assoc, arith, length-append, length-drop, drop_of_length-le, take_all, drop-drop, get_or-drop}
 use Rattle.std.proofs.Math.Option.{Option, none, some}
 use Rattle.std.proofs.lemmas.List.{length-replicate}
 use Rattle.refusals.specs.Refusals.{number, bad_record}
-use Rattle.model.specs.Lists.{Each, if◌then◌else◌}
+use Rattle.model.specs.Lists.{Each}
 use Rattle.model.specs.Perform.{Call, Answer, run}
 use Rattle.model.specs.CallWords.{CallWords}
 use Rattle.model.specs.State.{State}

@@ -1,6 +1,6 @@
 -- What `parsed` finds in the bytes at hand, and what stands at the front of the whole script, the bytes at hand with more behind them. A length and a kind
 -- are four bytes: with these at hand, the whole has the same length and kind. Where they fit and the record is there, its fields are the same bytes.
-use Rattle.std.specs.Prelude.{◌≡◌, eqb, ltb, length, drop}
+use Rattle.std.specs.Prelude.{◌≡◌, eqb, ltb, length, drop, if◌then◌else◌}
 use Rattle.std.proofs.Math.Path.{refl, ap}
 use Rattle.std.proofs.Common.{subst, ◌∙◌, arith}
 use Prim.Native.Nat.{ℕ, zero, suc, ◌+◌, ◌*◌, ◌-◌, ◌≤◌, ◌<◌}
@@ -11,7 +11,6 @@ use Rattle.std.proofs.Math.ListN.{take, length-append, length-take}
 use Rattle.std.proofs.lemmas.List.{take-append-le}
 use Rattle.std.proofs.Math.Seq.{drop-append-le}
 use Rattle.base.specs.Cases.{lt, ge, cmp, holds, fails, test}
-use Rattle.model.specs.Lists.{if◌then◌else◌}
 use Rattle.model.specs.Perform.{Call}
 use Rattle.script_records.specs.declared.Record.{Record}
 use Rattle.script_records.specs.declared.Parsed.{Parsed}

@@ -1,7 +1,6 @@
 -- What the bytes at hand say where more may follow, as the code finds it.
-use Rattle.std.specs.Prelude.{ℕ, ◌+◌, ◌*◌, ◌-◌, List, eqb, ltb, length, take, drop}
+use Rattle.std.specs.Prelude.{ℕ, ◌+◌, ◌*◌, ◌-◌, List, eqb, ltb, length, take, drop, if◌then◌else◌}
 use Rattle.std.proofs.Math.Option.{Option, none, some}
-use Rattle.model.specs.Lists.{if◌then◌else◌}
 use Rattle.model.specs.State.{Handle, Access, no_options}
 use Rattle.model.specs.Perform.{Step, Call}
 use Rattle.script_records.specs.declared.Record.{Record}

@@ -1,8 +1,7 @@
 -- What the bytes of a script say (document 01, "The script program"), as calls of the model. A byte is a number, and bytes stand in the order in which they are read.
-use Rattle.std.specs.Prelude.{ℕ, zero, suc, ◌+◌, ◌*◌, ◌-◌, ◌^◌, Bool, true, false, List, [], ◌∷◌, eqb, ltb, length, take, drop}
+use Rattle.std.specs.Prelude.{ℕ, zero, suc, ◌+◌, ◌*◌, ◌-◌, ◌^◌, Bool, true, false, List, [], ◌∷◌, eqb, ltb, length, take, drop, if◌then◌else◌}
 use Rattle.std.proofs.Math.Option.{Option, none, some}
 use Rattle.byte_numbers.specs.Numbers.{number}
-use Rattle.model.specs.Lists.{if◌then◌else◌}
 use Rattle.model.specs.State.{Handle, Access, no_options}
 use Rattle.model.specs.Perform.{Step, Call}
 

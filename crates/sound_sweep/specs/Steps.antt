@@ -1,5 +1,5 @@
 -- The sweep's steps as the code has them: one record, and the end. The slot of a record does not matter.
-use Rattle.std.specs.Prelude.{◌≡◌, Bool, ◌&&◌, eqb, leb, length, drop}
+use Rattle.std.specs.Prelude.{◌≡◌, Bool, ◌&&◌, eqb, leb, length, drop, if◌then◌else◌}
 use Rattle.std.proofs.Math.Path.{refl, ap}
 use Rattle.std.proofs.Common.{sym, ap₂, ◌∙◌, drop_of_length-le, drop-cons, le-leb}
 use mathlib.Core.List.{List, [], ◌∷◌}
@@ -8,7 +8,7 @@ use Rattle.std.proofs.Math.Dec.{ltb}
 use Rattle.std.proofs.lemmas.Bool.{lt-leb}
 use Rattle.base.specs.Cases.{lt, ge, cmp}
 use Rattle.base.specs.Tests.{both}
-use Rattle.model.specs.Lists.{if◌then◌else◌, is_empty}
+use Rattle.model.specs.Lists.{is_empty}
 use Rattle.model.specs.State.{Record}
 use Rattle.tables.specs.declared.Region.{Region}
 use Rattle.sweep.specs.Events.{Event}

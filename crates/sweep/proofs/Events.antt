@@ -1,10 +1,10 @@
 -- Pieces of memory as events: each starts once and ends once. The pieces that started at or below an address, less those that ended at or
-use Rattle.std.specs.Prelude.{◌≡◌, refl, ℕ, ◌+◌, ◌≤◌, ◌<◌, Bool, true, false, not, ◌&&◌, List, [], ◌∷◌, T, eqb, leb}
+use Rattle.std.specs.Prelude.{◌≡◌, refl, ℕ, ◌+◌, ◌≤◌, ◌<◌, Bool, true, false, not, ◌&&◌, List, [], ◌∷◌, T, eqb, leb, if◌then◌else◌}
 use Rattle.std.proofs.Common.{ap, arith, eqb→eq, lt-ltb, le-ltb, eq-eqb, le-leb}
 use Rattle.std.proofs.lemmas.Bool.{lt-leb}
 use Rattle.base.specs.Cases.{below, inside, above, pos, Test, test}
 use Rattle.base.specs.Tests.{true-is}
-use Rattle.model.specs.Lists.{if◌then◌else◌, one_if, count_if, Each}
+use Rattle.model.specs.Lists.{one_if, count_if, Each}
 use Rattle.model.specs.Fields.{Field, passes}
 use Rattle.model.specs.Counts.{holds}
 use Rattle.laws.specs.Stack.{one_at_most}

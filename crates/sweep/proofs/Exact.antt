@@ -1,6 +1,6 @@
 -- The sweep is exact: it accepts a list of records if and only if they have the form of a tracker and their counts are the cover at every
 -- address. Invariant: behind record b both cursors stand at its end, and from there on they read as the cover.
-use Rattle.std.specs.Prelude.{◌≡◌, ℕ, suc, ◌≤◌, ◌<◌, Bool, not, ◌&&◌, T, eqb, ltb, leb}
+use Rattle.std.specs.Prelude.{◌≡◌, ℕ, suc, ◌≤◌, ◌<◌, Bool, not, ◌&&◌, T, eqb, ltb, leb, if◌then◌else◌}
 use Rattle.std.proofs.Common.{sym, ap, ◌∙◌, arith, eqb→eq, ltb→lt, lt→ltb, leb→le, le→leb, T_not, lt-ltb, le-ltb, eq-eqb}
 use Rattle.std.proofs.Math.Option.{some}
 use mathlib.Core.List.{List, [], ◌∷◌}
@@ -8,7 +8,7 @@ use Rattle.std.proofs.Math.Dec.{not_T}
 use Rattle.std.specs.Float.Ieee.Fits.{and_l, and_r, and_i}
 use Rattle.base.specs.Cases.{lt, ge, cmp, below, inside, above, pos}
 use Rattle.base.specs.Tests.{true-is}
-use Rattle.model.specs.Lists.{if◌then◌else◌, Each}
+use Rattle.model.specs.Lists.{Each}
 use Rattle.model.specs.State.{Record}
 use Rattle.model.specs.Fields.{Field, get}
 use Rattle.model.specs.Tracker.{same_counts, mergeable}

@@ -1,13 +1,12 @@
 -- The loops' own laws, for code that runs them: one round and the stop of each, with the bound on the rounds as it was, and what keeps sums
 -- and differences inside a word. None of them asks for sorted events.
-use Rattle.std.specs.Prelude.{◌≡◌, Bool, true, false, ◌&&◌, List, [], ◌∷◌, leb, eqb, length, drop, set}
+use Rattle.std.specs.Prelude.{◌≡◌, Bool, true, false, ◌&&◌, List, [], ◌∷◌, leb, eqb, length, drop, set, if◌then◌else◌}
 use Rattle.std.proofs.Math.Path.{refl}
 use Rattle.std.proofs.Common.{sym, ◌∙◌, arith, eqb→eq, add-one, drop_of_length-le, drop-cons}
 use Prim.Native.Nat.{ℕ, zero, suc, ◌+◌, ◌-◌, ◌≤◌, ◌<◌, min}
 use borrow.Author.Tests.{lt-ltb, le-ltb, eq-eqb, ne_eqb, le-leb, lt-leb}
 use Rattle.base.specs.Cases.{lt, ge, cmp, holds, fails, test}
 use Rattle.base.specs.Tests.{true-is, false-is}
-use Rattle.model.specs.Lists.{if◌then◌else◌}
 use Rattle.model.specs.State.{Counts, Record}
 use Rattle.model.specs.Fields.{Field, get, passes}
 use Rattle.model.specs.Tracker.{raise}

@@ -1,11 +1,11 @@
 -- Room for the pieces of a domain: they are at most twice as many as the table has regions. A region has at most one piece more than it has
 -- children, and each region is a child of at most one.
-use Rattle.std.specs.Prelude.{◌≡◌, refl, ℕ, suc, ◌+◌, ◌≤◌, ◌<◌, Bool, true, false, List, [], ◌∷◌, T, eqb, length}
+use Rattle.std.specs.Prelude.{◌≡◌, refl, ℕ, suc, ◌+◌, ◌≤◌, ◌<◌, Bool, true, false, List, [], ◌∷◌, T, eqb, length, if◌then◌else◌}
 use Rattle.std.proofs.Common.{sym, arith, length-append, lt-ltb, le-ltb, ne_eqb}
 use Rattle.std.proofs.Math.Option.{Option, none, some, get_or}
 use Rattle.std.proofs.lemmas.List.{length-map}
 use Rattle.base.specs.Cases.{lt, ge, cmp, holds, fails, test}
-use Rattle.model.specs.Lists.{if◌then◌else◌, one_if, count_if, Each, is_some, at_slot}
+use Rattle.model.specs.Lists.{one_if, count_if, Each, is_some, at_slot}
 use Rattle.model.specs.State.{Region, Pool, Capa, parent_of, none_region, region_in}
 use Rattle.model.specs.Tree.{is_carve, children_of, piece, effective_from}
 use Rattle.model.specs.Sound.{names}

@@ -1,6 +1,6 @@
 -- The pieces gathered over the slots of a domain's capability list, as the code does: in sound tables each region of the domain has one slot,
 -- and no slot names a live region of another domain, so they are the pieces of its regions in another order (`listed-cover`).
-use Rattle.std.specs.Prelude.{◌≡◌, refl, Bool, true, false, not, ◌&&◌, List, [], ◌∷◌, ◌++◌, T, length}
+use Rattle.std.specs.Prelude.{◌≡◌, refl, Bool, true, false, not, ◌&&◌, List, [], ◌∷◌, ◌++◌, T, length, if◌then◌else◌}
 use Rattle.std.proofs.Math.Path.{sym, ap}
 use Rattle.std.proofs.Common.{◌∙◌, arith, eqb→eq, eq-eqb, ne_eqb}
 use Prim.Native.Nat.{ℕ, ◌+◌, ◌<◌}
@@ -11,7 +11,7 @@ use Rattle.std.proofs.Math.ListN.{get_or}
 use Rattle.std.specs.Float.Ieee.Fits.{and_l, and_r}
 use Rattle.base.specs.Cases.{holds as is, fails, test}
 use Rattle.base.specs.Tests.{true-is, false-is}
-use Rattle.model.specs.Lists.{if◌then◌else◌, one_if, count_if, is_some, at_slot, In}
+use Rattle.model.specs.Lists.{one_if, count_if, is_some, at_slot, In}
 use Rattle.model.specs.State.{Region, Pool, Handle, Capa, no_capa, region, region_revoke, management, channel, none_region, region_in}
 use Rattle.model.specs.Fields.{Field, counter, passes}
 use Rattle.model.specs.Pool.{handle_of, is_live}

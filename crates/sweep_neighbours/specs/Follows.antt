@@ -1,8 +1,7 @@
 -- A record of the tables as the model has it, and whether it may stand behind another.
-use Rattle.std.specs.Prelude.{◌≡◌, Bool, true, false, not, ◌&&◌, List, [], ℕ, ◌≤◌, ◌<◌, eqb, ltb, leb, drop}
+use Rattle.std.specs.Prelude.{◌≡◌, Bool, true, false, not, ◌&&◌, List, [], ℕ, ◌≤◌, ◌<◌, eqb, ltb, leb, drop, if◌then◌else◌}
 use Rattle.std.proofs.Common.{sym, ap, ◌∙◌, lt-ltb, le-ltb}
 use Rattle.base.specs.Tests.{both}
-use Rattle.model.specs.Lists.{if◌then◌else◌}
 use Rattle.model.specs.State.{Counts, Record}
 use Rattle.model.specs.Tracker.{same_counts}
 use Rattle.tables.specs.declared.Region.{Region}

@@ -1,5 +1,5 @@
 -- Closing a domain, slot by slot on both sides: the book that closed it matches the tables that did.
-use Rattle.std.specs.Prelude.{◌≡◌, ◌≢◌, ℕ, zero, suc, ◌+◌, ◌≤◌, Bool, false, not, List, [], ◌∷◌, T, length}
+use Rattle.std.specs.Prelude.{◌≡◌, ◌≢◌, ℕ, zero, suc, ◌+◌, ◌≤◌, Bool, false, not, List, [], ◌∷◌, T, length, if◌then◌else◌}
 use Rattle.std.proofs.Math.Path.{refl, sym, ap, subst}
 use Rattle.std.proofs.Common.{◌∙◌, arith}
 use Rattle.std.proofs.Math.Bool.{true}
@@ -8,7 +8,7 @@ use Rattle.std.proofs.Math.Option.{Option, none, some}
 use Rattle.std.proofs.Math.ListN.{get_or, set}
 use Rattle.std.proofs.Math.Seq.{get_or-set_other}
 use Rattle.base.specs.Tests.{is_true, is_false, true-false}
-use Rattle.model.specs.Lists.{if◌then◌else◌, is_some, count_if, at_slot, In}
+use Rattle.model.specs.Lists.{is_some, count_if, at_slot, In}
 use Rattle.model.specs.Outcome.{Outcome, ok, ◌>>=◌}
 use Rattle.model.specs.State.{State, Pool, Handle, Capa, management, Domain, Region, none_domain, parent_of, region_at, domain_at}
 use Rattle.model.specs.Pool.{free, is_live}

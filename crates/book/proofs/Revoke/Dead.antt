@@ -1,10 +1,9 @@
 -- A dead region killed again: all below it are dead too, and the book stays.
-use Rattle.std.specs.Prelude.{◌≡◌, refl, ℕ, zero, suc, ◌+◌, ◌<◌, Bool, true, false, List, [], ◌∷◌, eqb, length}
+use Rattle.std.specs.Prelude.{◌≡◌, refl, ℕ, zero, suc, ◌+◌, ◌<◌, Bool, true, false, List, [], ◌∷◌, eqb, length, if◌then◌else◌}
 use Rattle.std.proofs.Common.{sym, ap, ◌∙◌, eqb→eq}
 use Rattle.std.proofs.Math.Option.{Option, none, some}
 use native.Mathlib.Omega.{arith}
 use Rattle.base.specs.Tests.{true-is, false-is}
-use Rattle.model.specs.Lists.{if◌then◌else◌}
 use Rattle.model.specs.State.{State, Handle, parent_of}
 use Rattle.book.specs.Book.{Book, Noted, noted, is_under, most_above, dying, killed}
 use Rattle.book.specs.Tests.{or_else, lives-below}

@@ -1,10 +1,10 @@
 -- What dies in the book, and lists of slots where only trackers change.
-use Rattle.std.specs.Prelude.{◌≡◌, refl, ℕ, zero, suc, ◌+◌, ◌<◌, Bool, true, false, List, [], ◌∷◌, length}
+use Rattle.std.specs.Prelude.{◌≡◌, refl, ℕ, zero, suc, ◌+◌, ◌<◌, Bool, true, false, List, [], ◌∷◌, length, if◌then◌else◌}
 use Rattle.std.proofs.Common.{sym, ap, ◌∙◌, arith}
 use Rattle.std.proofs.Math.Option.{Option, none, some, get_or}
 use Rattle.base.specs.Tests.{true-is}
 use Rattle.base.specs.Options.{none-some}
-use Rattle.model.specs.Lists.{if◌then◌else◌, is_some, at_slot}
+use Rattle.model.specs.Lists.{is_some, at_slot}
 use Rattle.model.specs.State.{Handle, LocalList, Domain, Kind, Root, Alias, Carve, parent_of, with_tracker}
 use Rattle.laws.specs.Keep.SameDomains.{untracked}
 use Rattle.book.specs.Book.{Noted, Opened, noted, dying}

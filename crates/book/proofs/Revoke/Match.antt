@@ -1,9 +1,9 @@
 -- **Revoke** keeps book and tables matched.
-use Rattle.std.specs.Prelude.{◌≡◌, refl, ℕ, ◌<◌, Bool, true, false, length}
+use Rattle.std.specs.Prelude.{◌≡◌, refl, ℕ, ◌<◌, Bool, true, false, length, if◌then◌else◌}
 use Rattle.std.proofs.Common.{◌∙◌}
 use Rattle.std.proofs.Math.Option.{Option, some}
 use mathlib.Core.List.{[]}
-use Rattle.model.specs.Lists.{if◌then◌else◌, is_some, at_slot, In}
+use Rattle.model.specs.Lists.{is_some, at_slot, In}
 use Rattle.model.specs.Outcome.{ok, ◌>>=◌, ok_or}
 use Rattle.refusals.specs.Refusals.{no_slot}
 use Rattle.model.specs.State.{State, Handle, Capa, no_capa, management, none_region, none_domain, region_at, domain_at}

@@ -1,5 +1,5 @@
 -- Revoking a live region: it and all below it die, in the book and in the tables.
-use Rattle.std.specs.Prelude.{◌≡◌, refl, ℕ, zero, suc, ◌+◌, ◌≤◌, ◌<◌, Bool, true, false, ◌&&◌, List, eqb, length}
+use Rattle.std.specs.Prelude.{◌≡◌, refl, ℕ, zero, suc, ◌+◌, ◌≤◌, ◌<◌, Bool, true, false, ◌&&◌, List, eqb, length, if◌then◌else◌}
 use Rattle.std.proofs.Math.Path.{sym, ap}
 use Rattle.std.proofs.Common.{◌∙◌, arith, eqb→eq, eq-eqb}
 use Rattle.std.proofs.Math.Option
@@ -8,7 +8,7 @@ use Rattle.std.proofs.Math.ListN.{get_or}
 use Rattle.base.specs.Cases.{holds, fails, test}
 use Rattle.base.specs.Tests.{true-is, true-false}
 use Rattle.base.specs.Options.{none-some, some_same}
-use Rattle.model.specs.Lists.{is_some, at_slot, In, if◌then◌else◌}
+use Rattle.model.specs.Lists.{is_some, at_slot, In}
 use Rattle.model.specs.State.{State, Handle, Region, parent_of, none_region, region_at}
 use Rattle.model.specs.Pool.{is_live, handle_of}
 use Rattle.laws.specs.Tree.Change.{bare, same-bare}

@@ -1,5 +1,5 @@
 -- A pool that is well formed and marked has the words of the pool that is read from it; and a table read slot by slot.
-use Rattle.std.specs.Prelude.{◌≡◌, refl, ℕ, ◌-◌, ◌<◌, true, false, not, eqb, get_or}
+use Rattle.std.specs.Prelude.{◌≡◌, refl, ℕ, ◌-◌, ◌<◌, true, false, not, eqb, get_or, if◌then◌else◌}
 use Rattle.std.proofs.Common.{sym, ◌∙◌, arith, eqb→eq, lt-ltb, le-ltb, eq-eqb}
 use Rattle.std.proofs.Math.Path.{ap}
 use Rattle.std.proofs.Math.Option.{Option, none, some}
@@ -9,7 +9,7 @@ use Rattle.base.specs.Cases.{lt, ge, cmp, Test, holds, fails, test}
 use Rattle.base.specs.Tests.{true-is, false-is}
 use Rattle.base.specs.Lists.{get_d_any}
 use Rattle.base.specs.Options.{none-some, some_same}
-use Rattle.model.specs.Lists.{exists, count_if, at_slot, In, count_up, if◌then◌else◌}
+use Rattle.model.specs.Lists.{exists, count_if, at_slot, In, count_up}
 use Rattle.model.specs.Layout.{free_link}
 use Rattle.laws.specs.Stack.{any-count, link-out, link-in}
 use Rattle.tables.specs.Tables.{Arena, Tables}

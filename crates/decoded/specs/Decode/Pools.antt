@@ -1,10 +1,10 @@
 -- A pool read from its words, and a table of slots in use: link 0 is a slot in use, and the free stack is walked for as many steps as slots are free.
-use Rattle.std.specs.Prelude.{◌≡◌, refl, ℕ, ◌-◌, ◌<◌, true, false, List, eqb, length, get_or}
+use Rattle.std.specs.Prelude.{◌≡◌, refl, ℕ, ◌-◌, ◌<◌, true, false, List, eqb, length, get_or, if◌then◌else◌}
 use Rattle.std.proofs.Common.{sym, ◌∙◌, arith, lt-ltb, eq-eqb, ne_eqb}
 use Rattle.std.proofs.Math.Path.{ap}
 use Rattle.std.proofs.Math.Option.{Option, none, some}
 use Rattle.base.specs.Lists.{get_d_any}
-use Rattle.model.specs.Lists.{one_if, count_if, is_some, at_slot, In, first_of, after_in, if◌then◌else◌}
+use Rattle.model.specs.Lists.{one_if, count_if, is_some, at_slot, In, first_of, after_in}
 use Rattle.model.specs.State.{Pool}
 use Rattle.model.specs.Layout.{slot_or0, free_link}
 use Rattle.model.specs.Sound.{OnceEach, slot_uses}

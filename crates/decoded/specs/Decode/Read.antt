@@ -1,8 +1,8 @@
 -- Structured tables read as a state of the model. The reading is total: lists are walked for no more steps than there are slots, and what no
 -- table of a state has is read as something. Whether the tables have the words of the state that is read is another question: see Canonical.
-use Rattle.std.specs.Prelude.{ℕ, zero, suc, ◌+◌, ◌-◌, ◌%◌, Bool, List, [], ◌∷◌, map, eqb, get_or}
+use Rattle.std.specs.Prelude.{ℕ, zero, suc, ◌+◌, ◌-◌, ◌%◌, Bool, List, [], ◌∷◌, map, eqb, get_or, if◌then◌else◌}
 use Rattle.std.proofs.Math.Option.{Option, none, some}
-use Rattle.model.specs.Lists.{count_up, if◌then◌else◌}
+use Rattle.model.specs.Lists.{count_up}
 use Rattle.model.specs.State as state
 use Rattle.model.specs.State.{State, Pool, Capa, no_capa, region, region_revoke, management, channel, LocalList, Record, Kind, Root, Alias, Carve, Queue, permission, cleanup}
 use Rattle.laws.specs.Words.SameTables.{unlink}

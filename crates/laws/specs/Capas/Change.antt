@@ -1,11 +1,11 @@
 -- A domain's list is changed and put back: it is swept, a capability is put in, taken out or emptied. Invariant: the tables but this list
 -- are as they were, and the slots of each live region and domain are counted by the shares before and after.
-use Rattle.std.specs.Prelude.{◌≡◌, refl, ◌≢◌, Bool, true, false, not, List, ◌∷◌, T}
+use Rattle.std.specs.Prelude.{◌≡◌, refl, ◌≢◌, Bool, true, false, not, List, ◌∷◌, T, if◌then◌else◌}
 use Rattle.std.proofs.Common.{sym, ap, ◌∙◌, arith, get_or-set_same}
 use Rattle.std.proofs.Math.Path.{subst}
 use Prim.Native.Nat.{ℕ, ◌+◌}
 use Rattle.std.proofs.Math.Option.{Option, none, some}
-use Rattle.model.specs.Lists.{one_if, is_empty, count_if, In, if◌then◌else◌}
+use Rattle.model.specs.Lists.{one_if, is_empty, count_if, In}
 use Rattle.model.specs.Outcome.{ok, ◌>>=◌}
 use Rattle.model.specs.State.{Handle, Capa, no_capa, LocalList, Domain, Region, State, domain_at, put_domain, with_locals}
 use Rattle.model.specs.Pool.{handle_of, is_live}

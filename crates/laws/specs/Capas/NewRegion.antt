@@ -1,12 +1,12 @@
 -- A new region gets its Region capability. Until then no list holds one of it; then its owner's list holds one. So root, alias and carve
 -- keep the clauses about lists, owners, managers and the queue.
-use Rattle.std.specs.Prelude.{◌≡◌, refl, ◌≢◌, ℕ, List, [], ◌∷◌, T, eqb, set}
+use Rattle.std.specs.Prelude.{◌≡◌, refl, ◌≢◌, ℕ, List, [], ◌∷◌, T, eqb, set, if◌then◌else◌}
 use Rattle.std.proofs.Common.{sym, ap, ◌∙◌, arith, get_or-set_other, eq-eqb, ne_eqb}
 use Rattle.std.proofs.Math.Path.{subst}
 use Rattle.std.proofs.Math.Option.{none, some}
 use Rattle.std.proofs.Math.Decide.{ℕ_discrete}
 use Rattle.base.specs.Options.{none-some, some_same}
-use Rattle.model.specs.Lists.{one_if, is_some, at_slot, In, if◌then◌else◌}
+use Rattle.model.specs.Lists.{one_if, is_some, at_slot, In}
 use Rattle.model.specs.State.{Pool, region, Domain, Region, Kind, Access, State, with_locals, with_regions, with_children, put_region, region_at}
 use Rattle.model.specs.Pool.{handle_of}
 use Rattle.model.specs.Locals.{insert_capa}

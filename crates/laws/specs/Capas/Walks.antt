@@ -1,12 +1,12 @@
 -- A gain or a loss of a range: a tracker is written and a domain may be queued; lists, managers, regions and the generations stay.
-use Rattle.std.specs.Prelude.{◌≡◌, refl, ℕ, ◌<◌, List, [], ◌∷◌, Bool, ◌||◌, T}
+use Rattle.std.specs.Prelude.{◌≡◌, refl, ℕ, ◌<◌, List, [], ◌∷◌, Bool, ◌||◌, T, if◌then◌else◌}
 use Rattle.std.proofs.Common.{sym, ap, ◌∙◌, get_or-set_same, get_or-set_other}
 use Rattle.std.proofs.Math.Path.{subst}
 use Rattle.std.proofs.Math.Option.{none, some}
 use Rattle.std.proofs.Math.Dec.{eqb}
 use Rattle.std.proofs.Math.Decide.{ℕ_discrete}
 use Rattle.base.specs.Options.{some_same}
-use Rattle.model.specs.Lists.{is_some, exists, at_slot, In, if◌then◌else◌}
+use Rattle.model.specs.Lists.{is_some, exists, at_slot, In}
 use Rattle.model.specs.Outcome.{ok}
 use Rattle.model.specs.Updates.{push_permission}
 use Rattle.model.specs.State.{Pool, Record, Domain, State, Access, put_domain, with_tracker, with_record_pool}

@@ -1,14 +1,14 @@
 -- The trackers and the record pool against counts T of field, domain and address. Invariant: every tracker has the form and stores T, and every
 -- record slot is in use or free once. A slot without a domain reads as one with an empty tracker, so that all domains are spoken of alike.
 -- A gain and a loss of a range write one tracker, the record pool and the queue: T changes by that range, and nothing else changes.
-use Rattle.std.specs.Prelude.{◌≡◌, refl, ◌≢◌, ℕ, zero, suc, ◌+◌, ◌≤◌, ◌<◌, List, [], ◌∷◌, ◌||◌, length, set}
+use Rattle.std.specs.Prelude.{◌≡◌, refl, ◌≢◌, ℕ, zero, suc, ◌+◌, ◌≤◌, ◌<◌, List, [], ◌∷◌, ◌||◌, length, set, if◌then◌else◌}
 use Rattle.std.proofs.Common.{sym, ap, ◌∙◌, arith, length-set, get_or-set_same, get_or-set_other, eq-eqb, ne_eqb}
 use Rattle.std.proofs.Math.Option.{Option, none, some, get_or}
 use Rattle.std.proofs.Math.Decide.{ℕ_discrete}
 use Rattle.std.proofs.Math.Dec.{T, eqb}
 use Rattle.base.specs.Cases.{below, inside, above, pos}
 use Rattle.base.specs.Options.{none-some}
-use Rattle.model.specs.Lists.{exists, at_slot, In, if◌then◌else◌}
+use Rattle.model.specs.Lists.{exists, at_slot, In}
 use Rattle.model.specs.State.{State, Domain, Record, Access, Update, Queue, none_domain, domain_at, put_domain, with_tracker, with_record_pool, with_queue}
 use Rattle.model.specs.Fields.{Field, counter}
 use Rattle.model.specs.Pool.{handle_of}

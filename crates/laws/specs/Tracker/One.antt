@@ -1,12 +1,11 @@
 -- One record gains or loses. Invariant: it reads as before outside the range, and as the change makes of it inside; its pieces stay in its place.
 -- The change is a parameter, so that gain and loss are one proof; what differs is the piece in the middle.
-use Rattle.std.specs.Prelude.{◌≡◌, refl, ℕ, ◌-◌, ◌≤◌, ◌<◌, Bool, true, false, not, ◌&&◌, List, [], ◌∷◌, ◌++◌, T, eqb}
+use Rattle.std.specs.Prelude.{◌≡◌, refl, ℕ, ◌-◌, ◌≤◌, ◌<◌, Bool, true, false, not, ◌&&◌, List, [], ◌∷◌, ◌++◌, T, eqb, if◌then◌else◌}
 use Rattle.std.proofs.Common.{sym, ap, ◌∙◌, append_assoc, arith, le_refl, ltb→lt, lt-ltb}
 use Rattle.std.proofs.Math.Option.{Option, none, some}
 use Rattle.std.specs.Float.Ieee.Fits.{and_l, and_r}
 use Rattle.base.specs.Cases.{below, inside, above, pos}
 use Rattle.base.specs.Tests.{is_true, is_false}
-use Rattle.model.specs.Lists.{if◌then◌else◌}
 use Rattle.model.specs.Outcome.{ok, ◌>>=◌}
 use Rattle.model.specs.State.{Counts, Record, Pool}
 use Rattle.model.specs.Fields.{Field, get, is_marked}

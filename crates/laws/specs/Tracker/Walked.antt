@@ -1,13 +1,13 @@
 -- A walk over a list. Invariant: from s up to e each address reads as the change makes of it, elsewhere as before; the list stays rising from lo on.
 -- One step over the first record serves gain and loss: a loss has an empty gap before it, and its range may begin with the records.
-use Rattle.std.specs.Prelude.{◌≡◌, refl, ℕ, ◌+◌, ◌≤◌, ◌<◌, min, max, Bool, true, false, not, ◌&&◌, ◌||◌, List, [], ◌∷◌, ◌++◌, eqb, ltb}
+use Rattle.std.specs.Prelude.{◌≡◌, refl, ℕ, ◌+◌, ◌≤◌, ◌<◌, min, max, Bool, true, false, not, ◌&&◌, ◌||◌, List, [], ◌∷◌, ◌++◌, eqb, ltb, if◌then◌else◌}
 use Rattle.std.proofs.Common.{sym, ◌∙◌, arith}
 use Rattle.std.proofs.Math.Bool.{and-false, and-true}
 use Rattle.std.proofs.Math.Option.{Option, none, some}
 use Rattle.base.specs.Cases.{lt, ge, cmp, below, inside, above, pos}
 use Rattle.base.specs.Tests.{false-is}
 use Rattle.rights.specs.Rights.{union}
-use Rattle.model.specs.Lists.{if◌then◌else◌, is_empty}
+use Rattle.model.specs.Lists.{is_empty}
 use Rattle.model.specs.State.{Counts, Record, Pool}
 use Rattle.model.specs.Fields.{Field, get, is_marked}
 use Rattle.model.specs.Tracker.{Walk, no_counts, new_counts, crosses, fill_marks, add_region, remove_region}

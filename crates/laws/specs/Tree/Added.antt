@@ -1,10 +1,10 @@
 -- A region is added in a free slot: what it does to the counts at one address. Its owner gains its range; where it is a carve, its parent's owner
 -- loses that range with the parent's rights. Read backwards, a region is removed.
-use Rattle.std.specs.Prelude.{◌≡◌, ◌≢◌, ℕ, ◌+◌, ◌≤◌, ◌<◌, false, List, eqb, length}
+use Rattle.std.specs.Prelude.{◌≡◌, ◌≢◌, ℕ, ◌+◌, ◌≤◌, ◌<◌, false, List, eqb, length, if◌then◌else◌}
 use Rattle.std.proofs.Common.{sym, ap, ◌∙◌, arith}
 use Rattle.std.proofs.Math.Option.{Option, none, some}
 use Rattle.base.specs.Cases.{below, inside, above, pos}
-use Rattle.model.specs.Lists.{if◌then◌else◌, one_if, at_slot}
+use Rattle.model.specs.Lists.{one_if, at_slot}
 use Rattle.model.specs.State.{Region}
 use Rattle.model.specs.Fields.{Field, counter}
 use Rattle.model.specs.Tree.{is_carve}

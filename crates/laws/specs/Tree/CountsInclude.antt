@@ -1,10 +1,10 @@
 -- What a region counts for at an address can be lost there: the counts are its own and a rest, and the rest is a count in itself
 -- (no right counts for more than the reach). So a tracker that agrees has it to lose.
-use Rattle.std.specs.Prelude.{◌≡◌, refl, ℕ, zero, suc, ◌+◌, ◌≤◌, ◌<◌, Bool, true, false, List, eqb, length}
+use Rattle.std.specs.Prelude.{◌≡◌, refl, ℕ, zero, suc, ◌+◌, ◌≤◌, ◌<◌, Bool, true, false, List, eqb, length, if◌then◌else◌}
 use Rattle.std.proofs.Common.{◌∙◌, arith, eq-eqb, ne_eqb}
 use Rattle.std.proofs.Math.Option.{Option, none, some}
 use Rattle.base.specs.Cases.{below, inside, above, pos, Test, test}
-use Rattle.model.specs.Lists.{if◌then◌else◌, at_slot, In}
+use Rattle.model.specs.Lists.{at_slot, In}
 use Rattle.model.specs.State.{Region, Counts}
 use Rattle.model.specs.Fields.{Field, counter, passes}
 use Rattle.model.specs.Counts.{Agree, region_count}

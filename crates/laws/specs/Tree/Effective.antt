@@ -1,12 +1,12 @@
 -- A sound region's effective ranges: its child list, which rises, has the carves of it in order, so the pass over it leaves
 -- the region's range but for its carves.
-use Rattle.std.specs.Prelude.{◌≡◌, refl, ◌≢◌, ℕ, zero, suc, ◌≤◌, ◌<◌, Bool, true, false, not, ◌&&◌, List, [], ◌∷◌, map, T, eqb}
+use Rattle.std.specs.Prelude.{◌≡◌, refl, ◌≢◌, ℕ, zero, suc, ◌≤◌, ◌<◌, Bool, true, false, not, ◌&&◌, List, [], ◌∷◌, map, T, eqb, if◌then◌else◌}
 use Rattle.std.proofs.Math.Path.{sym, ap}
 use Rattle.std.proofs.Common.{◌∙◌, arith, eqb→eq}
 use Rattle.std.proofs.Math.Option.{Option, none, some}
 use Rattle.base.specs.Cases.{lt, ge, cmp, Test, test}
 use Rattle.base.specs.Tests.{true-is, is_true}
-use Rattle.model.specs.Lists.{if◌then◌else◌, one_if, exists, count_if, at_slot, In}
+use Rattle.model.specs.Lists.{one_if, exists, count_if, at_slot, In}
 use Rattle.model.specs.State.{Region, region_in}
 use Rattle.model.specs.Tree.{is_carve, Range, children_of, effective_from}
 use Rattle.model.specs.Counts.{holds, carves}

@@ -1,12 +1,12 @@
 -- A right that is counted for a domain at an address comes from a live root that covers the address and has the right:
 -- a child lies in its parent's range and rights, and the parents lead to a root.
-use Rattle.std.specs.Prelude.{◌≡◌, refl, ℕ, zero, suc, ◌≤◌, ◌<◌, Bool, true, false, List, T, eqb, length}
+use Rattle.std.specs.Prelude.{◌≡◌, refl, ℕ, zero, suc, ◌≤◌, ◌<◌, Bool, true, false, List, T, eqb, length, if◌then◌else◌}
 use Rattle.std.proofs.Math.Option.{Option, none, some}
 use Rattle.std.proofs.Common.{arith, eqb→eq}
 use Rattle.base.specs.Cases.{Test, test}
 use Rattle.base.specs.Tests.{true-is}
 use Rattle.base.specs.Options.{none-some, some_same}
-use Rattle.model.specs.Lists.{if◌then◌else◌, one_if, at_slot, In}
+use Rattle.model.specs.Lists.{one_if, at_slot, In}
 use Rattle.model.specs.State.{Region, Kind, Root, Alias, Carve, parent_of}
 use Rattle.model.specs.Fields.{Field, counter, passes}
 use Rattle.model.specs.Counts.{region_count}

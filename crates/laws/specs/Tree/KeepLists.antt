@@ -1,10 +1,10 @@
 -- The child lists stay right where a region is added to its parent's list, removed from it, or changes with its kind, range and child list as they were:
 -- each list gains or loses the slot as often as the slot gains or loses that parent.
-use Rattle.std.specs.Prelude.{◌≡◌, refl, ℕ, ◌+◌, ◌<◌, Bool, true, false, List, eqb}
+use Rattle.std.specs.Prelude.{◌≡◌, refl, ℕ, ◌+◌, ◌<◌, Bool, true, false, List, eqb, if◌then◌else◌}
 use Rattle.std.proofs.Common.{sym, ap, ◌∙◌, subst, arith, eq-eqb, ne_eqb}
 use Rattle.std.proofs.Math.Option.{Option, none, some, get_or}
 use Rattle.std.proofs.Math.Decide.{ℕ_discrete}
-use Rattle.model.specs.Lists.{if◌then◌else◌, one_if, count_if, at_slot, without}
+use Rattle.model.specs.Lists.{one_if, count_if, at_slot, without}
 use Rattle.model.specs.State.{Region, Kind, none_region, region_in}
 use Rattle.model.specs.Tree.{insert_sorted}
 use Rattle.laws.specs.Tree.Shares.{child_of, child}

@@ -1,9 +1,8 @@
 -- Effective ranges by one pass over children in order: the pieces rise, and hold each address of the range where no carve is, once.
 -- Invariant of the pass: the carves that are left lie in order between the place reached and the end (`Cuts`).
-use Rattle.std.specs.Prelude.{◌≡◌, refl, ℕ, ◌+◌, ◌≤◌, ◌<◌, List, [], ◌∷◌, ◌++◌}
+use Rattle.std.specs.Prelude.{◌≡◌, refl, ℕ, ◌+◌, ◌≤◌, ◌<◌, List, [], ◌∷◌, ◌++◌, cond, if◌then◌else◌}
 use Rattle.std.proofs.Common.{ap, ◌∙◌, arith, lt-ltb, le-ltb}
 use Rattle.base.specs.Cases.{lt, ge, cmp, below, inside, above, pos, holds, fails, test}
-use Rattle.model.specs.Lists.{if◌then◌else◌}
 use Rattle.model.specs.State.{Region}
 use Rattle.model.specs.Tree.{is_carve, Range, piece, effective_from}
 use Rattle.laws.specs.Tree.Shares.{clear, clear-0, clear-s, clear_zero}
@@ -22,7 +21,7 @@ spread v (x ∷ l) a = within x.0 x.1 a v 0 + spread v l a
 -- the carves of cs lie in order between cur and e
 abbrev pub Cuts : ℕ → ℕ → List Region → Type 0
 Cuts cur e [] = cur ≤ e
-Cuts cur e (c ∷ cs) = if is_carve c.kind then ((cur ≤ c.start) × (c.start < c.end) × Cuts c.end e cs) else Cuts cur e cs
+Cuts cur e (c ∷ cs) = cond (is_carve c.kind) ((cur ≤ c.start) × (c.start < c.end) × Cuts c.end e cs) (Cuts cur e cs)
 
 -- how many carves of cs cover a
 abbrev pub cuts : List Region → ℕ → ℕ

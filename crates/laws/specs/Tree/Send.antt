@@ -1,11 +1,11 @@
 -- A send moves the effective ranges one by one. From what one loss and one gain of a range do to the stored counts (Q is what they need and keep)
 -- follows what all do: at an address of a later range nothing has changed yet, so what is lost there is there still.
-use Rattle.std.specs.Prelude.{◌≡◌, refl, ℕ, ◌+◌, ◌≤◌, ◌<◌, eqb, set}
+use Rattle.std.specs.Prelude.{◌≡◌, refl, ℕ, ◌+◌, ◌≤◌, ◌<◌, eqb, set, if◌then◌else◌}
 use Rattle.std.proofs.Common.{sym, ◌∙◌, arith}
 use Rattle.std.proofs.Math.Option.{some}
 use mathlib.Core.List.{List, [], ◌∷◌}
 use Rattle.base.specs.Cases.{lt, ge, cmp}
-use Rattle.model.specs.Lists.{if◌then◌else◌, In}
+use Rattle.model.specs.Lists.{In}
 use Rattle.model.specs.State.{State, Region, Counts, put_region, with_owner}
 use Rattle.model.specs.Fields.{Field, get, counter}
 use Rattle.model.specs.Tree.{Range, effective_ranges}

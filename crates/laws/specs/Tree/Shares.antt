@@ -1,13 +1,13 @@
 -- The regions' counts as sums over the slots: each slot counts for its share, unless its region is carved at the address.
 -- One law for the reach and the four rights, over the field; a carve is counted too, so that "carved there" is a number above 0.
-use Rattle.std.specs.Prelude.{◌≡◌, refl, ℕ, zero, suc, ◌+◌, ◌≤◌, ◌<◌, Bool, true, false, not, ◌&&◌, List, [], ◌∷◌, length}
+use Rattle.std.specs.Prelude.{◌≡◌, refl, ℕ, zero, suc, ◌+◌, ◌≤◌, ◌<◌, Bool, true, false, not, ◌&&◌, List, [], ◌∷◌, length, if◌then◌else◌}
 use Rattle.std.proofs.Math.Path.{sym, ap}
 use Rattle.std.proofs.Common.{◌∙◌, arith, lt-ltb, le-ltb, le-leb}
 use Rattle.std.proofs.Math.Option.{Option, none, some}
 use Rattle.std.proofs.Math.Dec.{eqb}
 use Rattle.std.proofs.lemmas.Bool.{lt-leb}
 use Rattle.base.specs.Cases.{lt, ge, cmp, below, inside, above, pos, Test, test}
-use Rattle.model.specs.Lists.{if◌then◌else◌, one_if, exists, count_if, at_slot}
+use Rattle.model.specs.Lists.{one_if, exists, count_if, at_slot}
 use Rattle.model.specs.State.{Region, Kind, Root, Alias, Carve, parent_of}
 use Rattle.model.specs.Fields.{Field, passes, counter}
 use Rattle.model.specs.Tree.{is_carve}

@@ -1,12 +1,12 @@
 -- How the counts of sound regions change, at every domain and address, for the reach and the four rights: a region is added, a
 -- region that nothing hangs under is removed (the same, read backwards), a region changes its owner or its hash, or extends its rights. And what is lost was
 -- there.
-use Rattle.std.specs.Prelude.{◌≡◌, ◌≢◌, ℕ, ◌+◌, ◌≤◌, ◌<◌, false, List, [], eqb}
+use Rattle.std.specs.Prelude.{◌≡◌, ◌≢◌, ℕ, ◌+◌, ◌≤◌, ◌<◌, false, List, [], eqb, if◌then◌else◌}
 use Rattle.std.proofs.Common.{sym, ap, ◌∙◌, arith}
 use Rattle.std.proofs.Math.Option.{Option, none, some}
 use Rattle.base.specs.Cases.{lt, ge, cmp}
 use Rattle.base.specs.Options.{none-some}
-use Rattle.model.specs.Lists.{if◌then◌else◌, one_if, count_if, at_slot, In}
+use Rattle.model.specs.Lists.{one_if, count_if, at_slot, In}
 use Rattle.model.specs.State.{Hash, Region, Kind, Carve, with_owner, with_rights_hash}
 use Rattle.model.specs.Fields.{Field, counter}
 use Rattle.model.specs.Tree.{is_carve, Range, children_of, effective_from}

@@ -1,10 +1,10 @@
 -- The reach of all domains at an address: as many as live roots and aliases cover it. Each region has one owner, and each carve one parent,
 -- which does not count where its carve does.
-use Rattle.std.specs.Prelude.{◌≡◌, refl, ℕ, zero, suc, ◌+◌, ◌<◌, Bool, true, false, ◌&&◌, List, eqb, length}
+use Rattle.std.specs.Prelude.{◌≡◌, refl, ℕ, zero, suc, ◌+◌, ◌<◌, Bool, true, false, ◌&&◌, List, eqb, length, if◌then◌else◌}
 use Rattle.std.proofs.Common.{sym, ◌∙◌, arith}
 use Rattle.std.proofs.Math.Option.{Option, none, some}
 use Rattle.base.specs.Cases.{below, inside, above, pos}
-use Rattle.model.specs.Lists.{if◌then◌else◌, one_if, count_if, at_slot, In}
+use Rattle.model.specs.Lists.{one_if, count_if, at_slot, In}
 use Rattle.model.specs.State.{Region, Kind, Root, Alias, Carve}
 use Rattle.model.specs.Fields.{Field}
 use Rattle.model.specs.Tree.{is_carve, is_root_kind}

@@ -1,12 +1,12 @@
 -- A domain gains, or loses, a range: the walk over its tracker, and where a count left or came to 0 the update that this queues. The walks are the
 -- tracker's; here the answer of a walk, its marks, becomes the model's `put_walk`.
-use Rattle.std.specs.Prelude.{◌≡◌, refl, ℕ, ◌<◌, Bool, ◌||◌, List, [], eqb}
+use Rattle.std.specs.Prelude.{◌≡◌, refl, ℕ, ◌<◌, Bool, ◌||◌, List, [], eqb, if◌then◌else◌}
 use Rattle.std.proofs.Math.Path.{ap}
 use Rattle.std.proofs.Common.{◌∙◌, sym, length-set, get_or-set_same, mod-eq_of_lt}
 use Rattle.std.proofs.Math.Bool.{true, false}
 use Rattle.std.proofs.Math.Option.{some, none}
 use Rattle.base.specs.Cases.{pick}
-use Rattle.model.specs.Lists.{exists, Each, at_slot, In, if◌then◌else◌}
+use Rattle.model.specs.Lists.{exists, Each, at_slot, In}
 use Rattle.model.specs.Outcome.{Outcome, ok, ◌>>=◌}
 use Rattle.model.specs.State.{State, Domain, put_domain, with_tracker, with_record_pool, Access}
 use Rattle.model.specs.Tracker.{Walk, gain, lose}

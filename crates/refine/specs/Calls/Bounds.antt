@@ -1,12 +1,12 @@
 -- What a step on a tracker needs of a state (`TrackersRaisable`), and the invariant that gives it through the steps: the ring and the pools are sound, every tracker
 -- has its form, every record slot is in use or free once, and no stored count is above b. A gain raises b by one, a loss leaves it; where the trackers
 -- store what the regions count, b is the number of regions.
-use Rattle.std.specs.Prelude.{◌≡◌, refl, ℕ, zero, suc, ◌+◌, ◌-◌, ◌^◌, ◌≤◌, ◌<◌, Bool, List, eqb, length}
+use Rattle.std.specs.Prelude.{◌≡◌, refl, ℕ, zero, suc, ◌+◌, ◌-◌, ◌^◌, ◌≤◌, ◌<◌, Bool, List, eqb, length, if◌then◌else◌}
 use Rattle.std.proofs.Common.{subst, arith, eq-eqb, ne_eqb}
 use Rattle.std.proofs.Math.Option.{Option, none, some}
 use Rattle.std.proofs.Math.Decide.{ℕ_discrete}
 use Rattle.base.specs.Cases.{below, inside, above, pos, holds, fails, test}
-use Rattle.model.specs.Lists.{Each, at_slot, if◌then◌else◌}
+use Rattle.model.specs.Lists.{Each, at_slot}
 use Rattle.model.specs.State.{State, Counts, Record, Region, Access, domain_at}
 use Rattle.model.specs.Fields.{Field, get, passes, counter}
 use Rattle.model.specs.Tracker.{Walk}

@@ -1,11 +1,11 @@
 -- The capability lists through the steps of a call: every list has its slots, each in use or free once. A sweep and a slot freed keep this, a new domain's
 -- list has it, and steps on regions and trackers leave the lists.
-use Rattle.std.specs.Prelude.{◌≡◌, ℕ, ◌-◌, ◌^◌, ◌<◌, Bool}
+use Rattle.std.specs.Prelude.{◌≡◌, ℕ, ◌-◌, ◌^◌, ◌<◌, Bool, if◌then◌else◌}
 use Rattle.std.proofs.Common.{sym, ap, subst, ◌∙◌, arith}
 use Rattle.std.proofs.Math.Bool.{true, false}
 use Rattle.std.proofs.Math.Option.{Option, none, some}
 use Rattle.std.proofs.lemmas.List.{length-replicate}
-use Rattle.model.specs.Lists.{is_empty, at_slot, In, if◌then◌else◌}
+use Rattle.model.specs.Lists.{is_empty, at_slot, In}
 use Rattle.refusals.specs.Refusals.{no_domain_room}
 use Rattle.model.specs.State.{State, Sizes, Domain, Capa, LocalList, Access, domain_at, put_domain, with_locals}
 use Rattle.model.specs.Locals.{fresh_locals, free_local, free_invalid_capas, has_capacity, remove_capa}

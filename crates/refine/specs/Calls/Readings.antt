@@ -2,13 +2,13 @@
 -- row says what its record says, and the link of the next one. Then each reading of the rows is that reading of the records.
 -- The holders of address a: the code takes the largest reach over the range from a up to a + 1, the model the first record that holds a. Records rise
 -- and are disjoint, so at most one record meets that range, and it is the one that holds a.
-use Rattle.std.specs.Prelude.{◌≡◌, Bool, true, false, not, ◌&&◌, eqb, ltb, length}
+use Rattle.std.specs.Prelude.{◌≡◌, Bool, true, false, not, ◌&&◌, eqb, ltb, length, if◌then◌else◌}
 use Rattle.std.proofs.Math.Path.{refl, ap}
 use Rattle.std.proofs.Common.{sym, ◌∙◌, arith, lt-ltb, le-ltb, ne_eqb, le-leb}
 use Prim.Native.Nat.{ℕ, zero, suc, ◌+◌, ◌≤◌, ◌<◌, max}
 use Rattle.std.proofs.Math.Option.{Option, none, some, get_or}
 use mathlib.Core.List.{List, [], ◌∷◌, map}
-use Rattle.model.specs.Lists.{one_if, is_some, count_if, keep, at_slot, In, count_up, if◌then◌else◌}
+use Rattle.model.specs.Lists.{one_if, is_some, count_if, keep, at_slot, In, count_up}
 use Rattle.std.proofs.lemmas.Bool.{lt-leb}
 use Rattle.base.specs.Cases.{lt, ge, cmp, below, inside, above, pos, holds, fails, test, pick}
 use Rattle.base.specs.Tests.{both}

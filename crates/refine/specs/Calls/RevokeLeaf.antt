@@ -1,12 +1,12 @@
 -- A region without children is revoked, step by step: it leaves its parent's list, its domain loses its range, a carve's parent's domain gains it back,
 -- its slot is freed, and its range is queued for cleanup. Invariant: the regions stay as they are once it has left its list, until the slot is freed.
-use Rattle.std.specs.Prelude.{◌≡◌, ◌≢◌, ℕ, suc, ◌-◌, ◌^◌, ◌<◌, List, [], eqb, length}
+use Rattle.std.specs.Prelude.{◌≡◌, ◌≢◌, ℕ, suc, ◌-◌, ◌^◌, ◌<◌, List, [], eqb, length, if◌then◌else◌}
 use Rattle.std.proofs.Math.Path.{refl, ap}
 use Rattle.std.proofs.Common.{◌∙◌, arith, mod-eq_of_lt, lit<, get_or-set_other}
 use Rattle.std.proofs.Math.Option.{Option, none, some}
 use Rattle.base.specs.Cases.{holds, fails, test}
 use Rattle.base.specs.Options.{none-some, some_same}
-use Rattle.model.specs.Lists.{one_if, count_if, at_slot, In, if◌then◌else◌}
+use Rattle.model.specs.Lists.{one_if, count_if, at_slot, In}
 use Rattle.model.specs.Outcome.{Outcome, ok, ◌>>=◌}
 use Rattle.model.specs.State as state
 use Rattle.model.specs.State.{State, Kind, Root, Alias, Carve, parent_of}

@@ -1,7 +1,7 @@
 -- A region is sent: the code walks the child list and moves the piece before each carve and the last piece, the model makes the list of pieces first.
 -- Invariant of the walk: the regions are as they were when it began, since a step on a tracker leaves them, and each piece raises the bound of the
 -- counts by one. Empty pieces are dropped on both sides.
-use Rattle.std.specs.Prelude.{◌≡◌, Bool, true, false, List, [], ◌∷◌, ◌++◌, map, length, get_or}
+use Rattle.std.specs.Prelude.{◌≡◌, Bool, true, false, List, [], ◌∷◌, ◌++◌, map, length, get_or, if◌then◌else◌}
 use Rattle.std.proofs.Math.Path.{refl, ap}
 use Rattle.std.proofs.Common.{sym, ap₂, ◌∙◌, lit<, length-set, get_or-set_same, get_or-set_other}
 use Prim.Native.Nat.{ℕ, zero, suc, ◌+◌, ◌-◌, ◌^◌, ◌<◌}
@@ -10,7 +10,7 @@ use native.Mathlib.Omega.{arith}
 use Rattle.std.proofs.Math.Dec.{eqb}
 use borrow.Author.Tests.{lt-ltb, le-ltb, ne_eqb}
 use Rattle.base.specs.Cases.{lt, ge, cmp, holds, fails, test}
-use Rattle.model.specs.Lists.{count_if, at_slot, In, first_of, if◌then◌else◌}
+use Rattle.model.specs.Lists.{count_if, at_slot, In, first_of}
 use Rattle.model.specs.Outcome.{Outcome, ok, ◌>>=◌}
 use Rattle.model.specs.State as state
 use Rattle.model.specs.State.{State, region_in, with_owner, put_region}

@@ -1,6 +1,6 @@
 -- The ring by value is the ring of the tables. Where it holds a queue of the model, entry by entry, the tables with it put back are those of the state with
 -- that queue (`laid-tables`); so each step on the ring is the model's, by what it does to the queue.
-use Rattle.std.specs.Prelude.{◌≡◌, ℕ, zero, suc, ◌+◌, ◌-◌, ◌%◌, ◌≤◌, ◌<◌, Bool, true, false, ◌||◌, eqb}
+use Rattle.std.specs.Prelude.{◌≡◌, ℕ, zero, suc, ◌+◌, ◌-◌, ◌%◌, ◌≤◌, ◌<◌, Bool, true, false, ◌||◌, eqb, if◌then◌else◌}
 use Rattle.std.proofs.Math.Path.{refl, sym, ap, subst}
 use Rattle.std.proofs.Common.{◌∙◌, arith, length-append}
 use Rattle.std.proofs.Math.Option.{Option, none, some}
@@ -9,7 +9,7 @@ use Rattle.std.proofs.Math.ListN.{length, get_or, get_elem?, length-map}
 use Rattle.std.proofs.Math.Seq.{ext_get_or}
 use Rattle.base.specs.Cases.{lt, ge, cmp, holds, fails, test, pick}
 use Rattle.base.specs.Tests.{true-is}
-use Rattle.model.specs.Lists.{if◌then◌else◌, one_if, is_some, exists, count_if, In}
+use Rattle.model.specs.Lists.{one_if, is_some, exists, count_if, In}
 use Rattle.model.specs.State as state
 use Rattle.model.specs.State.{State, permission, with_queue}
 use Rattle.model.specs.Layout.{at_place}

@@ -1,6 +1,6 @@
 -- Room in a domain's list, which is swept where it is full. The sweep by value goes over all places of the record, rising, and frees in place; the
 -- model frees the invalid slots that it finds first. From slot i on both come to the same, since freeing slot i changes nothing behind it.
-use Rattle.std.specs.Prelude.{◌≡◌, ℕ, zero, suc, ◌+◌, ◌-◌, ◌≤◌, ◌<◌, Bool, List, [], ◌∷◌, ltb, set, drop, replicate}
+use Rattle.std.specs.Prelude.{◌≡◌, ℕ, zero, suc, ◌+◌, ◌-◌, ◌≤◌, ◌<◌, Bool, List, [], ◌∷◌, ltb, set, drop, replicate, if◌then◌else◌}
 use Rattle.std.proofs.Math.Path.{refl, ap}
 use Rattle.std.proofs.Common.{sym, ◌∙◌, arith, length-set, drop_of_length-le, drop-cons, drop-set-lt, get_or-set_same, lt-ltb, le-ltb}
 use Rattle.std.proofs.Math.Bool.{true, false, not}
@@ -8,7 +8,7 @@ use Rattle.std.proofs.Math.Option.{Option, none, some}
 use Rattle.std.proofs.Math.ListN.{length, length-append}
 use Rattle.std.proofs.lemmas.List.{set-get_or}
 use Rattle.base.specs.Cases.{lt, ge, cmp, holds, fails, test}
-use Rattle.model.specs.Lists.{if◌then◌else◌, is_empty, at_slot, In}
+use Rattle.model.specs.Lists.{is_empty, at_slot, In}
 use Rattle.model.specs.State as state
 use Rattle.model.specs.State.{State, Capa, no_capa, region, region_revoke, management, channel, LocalList, put_domain, with_locals}
 use Rattle.model.specs.Outcome.{Outcome, ok, ◌>>=◌, ◌>>◌, require}

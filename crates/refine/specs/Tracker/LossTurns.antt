@@ -1,13 +1,12 @@
 -- The turns of the code's loss, by where the range starts and ends about the record at hand. b is done, the rest is to come; the range starts at st.
 -- Each law says what the turn does to the tables of the state in the middle of the walk.
-use Rattle.std.specs.Prelude.{◌≡◌, Bool, true, false, List, [], ◌∷◌, ◌++◌, eqb, ltb}
+use Rattle.std.specs.Prelude.{◌≡◌, Bool, true, false, List, [], ◌∷◌, ◌++◌, eqb, ltb, if◌then◌else◌}
 use Rattle.std.proofs.Math.Path.{refl, sym, ap}
 use Rattle.std.proofs.Common.{◌∙◌, arith, lt-ltb, le-ltb, ne_eqb, le-leb}
 use Prim.Native.Nat.{ℕ, suc, ◌≤◌, ◌<◌}
 use Rattle.std.proofs.lemmas.Bool.{lt-leb}
 use Rattle.base.specs.Cases.{pick, pick-t, pick-f}
 use Rattle.rights.specs.Rights.{union}
-use Rattle.model.specs.Lists.{if◌then◌else◌}
 use Rattle.model.specs.State.{State, Record, Pool, Domain}
 use Rattle.model.specs.Layout.{link}
 use Rattle.model.specs.Tracker.{lower, no_counts, crossings}

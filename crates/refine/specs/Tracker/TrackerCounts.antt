@@ -1,5 +1,5 @@
 -- The counts of a tracker record in its row: made, raised, lowered, compared as the model says. A count is raised where the sum is a word.
-use Rattle.std.specs.Prelude.{◌≡◌, refl, ℕ, ◌+◌, ◌-◌, ◌*◌, ◌^◌, ◌≤◌, ◌<◌, Bool, true, false, not, ◌&&◌, eqb}
+use Rattle.std.specs.Prelude.{◌≡◌, refl, ℕ, ◌+◌, ◌-◌, ◌*◌, ◌^◌, ◌≤◌, ◌<◌, Bool, true, false, not, ◌&&◌, eqb, if◌then◌else◌}
 use Rattle.std.proofs.Common.{ap, ◌∙◌, arith, le-leb}
 use Rattle.std.proofs.Math.Option.{Option, none}
 use Rattle.base.specs.Cases.{pick}
@@ -8,7 +8,7 @@ use Rattle.rights.specs.Rights as rights
 use Rattle.rights.specs.Counters as counters
 use Rattle.rights.specs.Rights.{has, READ, WRITE, EXEC, SUPER, UNCACHEABLE}
 use Rattle.rights.specs.Counters.{counters_of}
-use Rattle.model.specs.Lists.{if◌then◌else◌, one_if}
+use Rattle.model.specs.Lists.{one_if}
 use Rattle.model.specs.State.{Counts, Record}
 use Rattle.model.specs.Fields.{Field, get, passes, counter}
 use Rattle.model.specs.Layout.{link}
