@@ -1,13 +1,11 @@
 -- The bytes at hand lie in the run that holds them, and stay at hand when more are read. What the answer of a read says.
 use Rattle.std.proofs.Math.Path.{◌≡◌}
-use Rattle.std.specs.Prelude.{refl, ℕ, ◌+◌, ◌-◌, ◌≤◌, ◌<◌, min, true, false, List, ◌++◌, ltb, ℤ, pos, negsuc, length, get_or, set, take, drop}
+use Rattle.std.specs.Prelude.{refl, ℕ, Result, Ok, Err, ◌+◌, ◌-◌, ◌≤◌, ◌<◌, true, false, List, ◌++◌, ltb, ℤ, pos, negsuc, length, get_or, set, take, drop}
+use Rattle.std.specs.Result.{is_err, result_unwrap_or}
 use Rattle.std.proofs.Common.{sym, ap, ◌∙◌, arith, length-take, length-drop, get_or-take, get_or-set_same, get_or-set_other}
 use Rattle.std.proofs.Math.ListN.{get_or-append}
-use Rattle.std.specs.Int.Signed.{lt_z}
-use borrow.Author.Tests.{ltb-true, le-ltb}
+use borrow.Author.Tests.{ltb-true}
 use Rattle.base.specs.Cases.{pick, pick-t, pick-f, lt, ge, cmp, holds, fails, test}
-use Rattle.io.specs.Counts.{clamp_len}
-use Rattle.libc.specs.Io.{Moved}
 use Rattle.input.specs.declared.Buffered.{Buffered}
 
 pub record Within (h : Buffered) (n : ℕ) : Type 0 where
@@ -18,6 +16,15 @@ pub record Within (h : Buffered) (n : ℕ) : Type 0 where
 pub record Keeps (h : Buffered) (b : List ℕ) (r : Buffered) (b' : List ℕ) : Type 0 where
   pub as_many : h.end - h.at ≤ r.end - r.at
   pub same : (k : ℕ) → k < h.end - h.at → get_or b' (r.at + k) 0 ≡ get_or b (h.at + k) 0
+
+-- What a read with room for n bytes answers, as a number: how many bytes it brought, at most n, 0 at the end; below 0 where it failed.
+abbrev pub Moved : ℕ → ℤ → Type 0
+Moved n (pos k) = k ≤ n
+Moved n (negsuc k) = k ≡ 0
+
+abbrev pub answer_of : {E : Type 0} → Result ℕ E → ℤ
+answer_of (Ok n) = pos n
+answer_of (Err e) = negsuc 0
 
 -- What is at hand when a read behind the bytes h has answered: as many more; at 0 the input has ended; below 0 the read failed.
 unfoldable pub behind : Buffered → ℤ → Buffered
@@ -41,12 +48,12 @@ moved-behind b n most got z e l m = let r : length (take (length b - n) (drop n 
 front_same : (b rest : List ℕ) (n j : ℕ) → n ≤ length b → j < n → get_or (take n b ++ rest) j 0 ≡ get_or b j 0
 front_same b rest n j h u = get_or-append (take n b) rest 0 j (omega (arith, length-take n b)) ∙ get_or-take n b j 0 u
 
--- z is the answer and n the count that the code makes of it
-pub behind-told : (h : Buffered) (most : ℕ) (got z : ℤ) (n : ℕ) → Within h most → Moved (most - h.end) got → z ≡ got → n ≡ clamp_len z most
-    → ◌≡◌ {A = Buffered} (record { at = h.at; end = h.end + n; more = lt_z (pos 0) z; failed = lt_z z (pos 0) }) (behind h got)
+-- what the code makes of the answer
+pub behind-told : {E : Type 0} (h : Buffered) (got : Result ℕ E)
+    → ◌≡◌ {A = Buffered} (record { at = h.at; end = h.end + result_unwrap_or got 0; more = ltb 0 (result_unwrap_or got 0); failed = is_err got }) (behind h (answer_of got))
 unfolding behind
-behind-told h most (pos k) z n w m e f = let g : h.end + n ≡ h.end + k = omega (arith, rw e at f, w.inside) in let l : ltb k 0 ≡ false = le-ltb k 0 (omega arith) in rw (e, g, l)
-behind-told h most (negsuc k) z n w m e f = let g : h.end + n ≡ h.end = omega (arith, rw e at f) in rw (e, g)
+behind-told h (Ok n) = refl
+behind-told h (Err e) = let z : h.end + 0 ≡ h.end = omega arith in rw z
 
 module _ (h : Buffered) (b rest : List ℕ) (w : Within h (length b)) where
   behind-keeps : (got : ℤ) → Keeps h b (behind h got) (take h.end b ++ rest)

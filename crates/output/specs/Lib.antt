@@ -1,8 +1,8 @@
 pub mod Bounds
-pub mod Digits
 pub mod Examples
 pub mod Lines
 pub mod Printed
 pub mod Printing
 pub mod Puts
+pub mod Sent
 pub mod Text

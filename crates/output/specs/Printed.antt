@@ -2,8 +2,8 @@
 use Rattle.std.specs.Prelude.{◌≡◌, true, false, List, ◌++◌, ℕ, take}
 use Rattle.output.specs.declared.Pending.{Pending}
 
--- All that was printed so far is `out`. The bytes `handed` went out, one run after another: that is what `hand_over` of src/lib.rt does, for no contract can
--- say it. While no write failed, the others are those pending, the first n of the run.
+-- All that was printed so far is `out`. The bytes `handed` went out, one run after another: of a writer that says what it holds, the contracts of `write` and
+-- `room` of src/lib.rt say so (Sent.antt). While no write failed, the others are those pending, the first n of the run.
 pub record Printed (out run : List ℕ) (p : Pending) : Type 0 where
   pub handed : List ℕ
   pub others : List ℕ

@@ -3,12 +3,14 @@
 
 #![tactic(auto)]
 
-ghost use Rattle.std.specs.Prelude.{◌≡◌, ◌+◌, ◌≤◌, ◌<◌, true, false, [], ◌∷◌, length};
+ghost use Rattle.std.specs.Prelude.{◌≡◌, ◌+◌, ◌≤◌, ◌<◌, true, false, [], ◌∷◌, length, take};
+ghost use Rattle.std.specs.Io.KnownBytes.{Keeps};
+ghost use Rattle.output.specs.Sent.{Sent, Hands};
 ghost use Rattle.output.specs.Text.{Puts, ended, call_line, domain_line, queue_line, numbers_at};
 ghost use Rattle.output.specs.Text.{decimal as Text·decimal};
 
-use libc::{STDERR_FILENO, STDOUT_FILENO};
 use replies::{Reply, UpdateReply};
+use std::io::Write;
 
 // ---- Parts of a line
 
@@ -120,46 +122,67 @@ pub struct Pending {
     pub failed: bool,
 }
 
+// Writes these bytes and answers true, or stops at the first write that takes none or fails and answers false.
+fn write_all<W: Write>(out: &mut W, text: &[u8]) -> bool
+    ensures { Sent (W.contents out.old) text.now result (W.contents out.new) }
+{
+    let mut done = 0;
+    while done < text.len() {
+        let n = out.write(&text[done..]).unwrap_or(0);
+        if n == 0 {
+            return false;
+        }
+        done += n;
+    }
+    true
+}
+
 // Hands these bytes over. None may follow a write that failed: they would stand behind a line that was cut.
-fn hand_over(text: &[u8], p: Pending) -> bool
+fn hand_over<W: Write>(out: &mut W, text: &[u8], p: Pending) -> bool
     requires n_in_bounds { p.n ≤ length text.now }
     requires failed_value { p.failed ≡ false }
+    ensures { Sent (W.contents out.old) (take p.n text.now) result (W.contents out.new) }
 {
     let n = p.n;
-    io::write_all(STDOUT_FILENO, &text[..n])
+    write_all(out, &text[..n])
 }
 
 // Writes these bytes, unless a write failed before.
-pub fn write(text: &[u8], p: Pending) -> Pending
+pub fn write<W: Write>(out: &mut W, text: &[u8], p: Pending) -> Pending
     requires { p.n ≤ length text.now }
     ensures n_value { result.n ≡ 0 }
     ensures failed_value { p.failed ≡ true → result.failed ≡ true }
+    ensures hands { Hands text.now p (W.contents out.old) result (W.contents out.new) }
 {
     if p.failed {
         return Pending { n: 0, failed: true };
     }
     Pending {
         n: 0,
-        failed: !hand_over(text, p),
+        failed: !hand_over(out, text, p),
     }
 }
 
 // Writes the bytes that are there unless a line fits behind them.
-pub fn room(text: &[u8], p: Pending) -> Pending
+pub fn room<W: Write>(out: &mut W, text: &[u8], p: Pending) -> Pending
     requires n_in_bounds { p.n ≤ length text.now }
     requires in_bounds { 128 ≤ length text.now }
     ensures n_in_bounds_2 { result.n + 128 ≤ length text.now }
     ensures value { p.n + 128 ≤ length text.now → result ≡ p }
     ensures n_value { length text.now < p.n + 128 → result.n ≡ 0 }
     ensures failed_value { p.failed ≡ true → result.failed ≡ true }
+    ensures stays { p.n + 128 ≤ length text.now → Keeps (W.contents out.old) (W.contents out.new) }
+    ensures hands { length text.now < p.n + 128 → Hands text.now p (W.contents out.old) result (W.contents out.new) }
 {
     if 128 <= text.len() - p.n {
         return p;
     }
-    write(text, p)
+    write(out, text, p)
 }
 
 // A line on standard error. Where that fails, nobody can be told.
-pub fn error_line(line: &[u8]) {
-    io::write_all(STDERR_FILENO, line);
+pub fn error_line<W: Write>(err: &mut W, line: &[u8])
+    ensures { Sent (W.contents err.old) line.now false (W.contents err.new) }
+{
+    write_all(err, line);
 }

@@ -1,6 +1,6 @@
 // Calls as they come in: eleven words of eight bytes each, the lowest byte first.
 use crate::Request;
-use libc::STDIN_FILENO;
+use std::io::Read;
 use tables::Hash;
 
 fn wide(x: u8) -> u64 {
@@ -44,12 +44,25 @@ fn call_of(b: &[u8]) -> Request {
     }
 }
 
+// Fills b and answers true; false where the input ends or a read fails before.
+fn fill<R: Read>(input: &mut R, b: &mut [u8]) -> bool {
+    let mut done = 0;
+    while done < b.len() {
+        let n = input.read(&mut b[done..]).unwrap_or(0);
+        if n == 0 {
+            return false;
+        }
+        done += n;
+    }
+    true
+}
+
 // The next call; kind `END` where the input ends.
-pub fn next() -> Request {
+pub fn next<R: Read>(input: &mut R) -> Request {
     let mut b = [0u8; 88];
-    let n = io::read_full(STDIN_FILENO, &mut b);
+    let is_whole = fill(input, &mut b);
     let mut c = call_of(&b);
-    if n < 88 {
+    if !is_whole {
         c.kind = crate::END;
     }
     c

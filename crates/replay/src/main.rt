@@ -1,5 +1,8 @@
 // Runs calls from standard input on tables of its own, and prints of each call its answer and a hash of the tables' words, a line
 // for each (oracle/README.md, "Replay"). A call is eleven 64-bit words, little-endian: its kind, and its arguments.
+
+#![tactic(auto)]
+
 ghost use Rattle.tables.specs.View.{Sized};
 
 use answers::Answer;
@@ -8,6 +11,7 @@ use region::AccessRights;
 use rights::Rights;
 use send_options::SendOptions;
 use sizes::{MOST_WORDS, Sizes};
+use std::io::{Read, Write};
 use tables::{Handle, Hash};
 
 pub mod input;
@@ -99,82 +103,80 @@ fn generation_of(t: &[u64], d: usize) -> u64 {
 }
 
 // A call that changes the tables, which are put back where it is refused.
-fn run_change(t: &mut [u64], w: &mut [u64], c: Request)
+fn run_change<W: Write>(out: &mut W, t: &mut [u64], w: &mut [u64], c: Request)
     requires { Sized t.old }
 {
     words::copy(t, w);
     match calls::step(t, call_of(c)) {
         Answer::Done(v) => {
-            output::number(0);
-            output::number(v);
+            output::number(out, 0);
+            output::number(out, v);
             if c.kind <= 1 {
-                output::number(generation_of(t, v as usize));
+                output::number(out, generation_of(t, v as usize));
             }
         }
         Answer::Refused(r) => {
             words::copy(w, t);
-            output::number(r.0);
+            output::number(out, r.0);
         }
     }
 }
 
-fn run_pop(t: &mut [u64])
+fn run_pop<W: Write>(out: &mut W, t: &mut [u64])
     requires { Sized t.old }
 {
     let item = update::pop_update(t);
     let u = item.entry.update;
-    output::number(0);
-    output::number(u.kind);
-    output::number(u.a);
-    output::number(u.b);
-    output::number(u.c);
-    output::number(item.entry.marks);
+    output::number(out, 0);
+    output::number(out, u.kind);
+    output::number(out, u.a);
+    output::number(out, u.b);
+    output::number(out, u.c);
+    output::number(out, item.entry.marks);
 }
 
 // The readings of a domain.
-fn run_reading(t: &[u64], c: Request)
+fn run_reading<W: Write>(out: &mut W, t: &[u64], c: Request)
     requires { Sized t.now }
 {
     if !pools::domain_is_live(t, handle(c.a, c.b)) {
-        output::number(3);
+        output::number(out, 3);
         return;
     }
     let d = c.a as usize;
-    output::number(0);
+    output::number(out, 0);
     let kind = c.kind;
     match kind {
         11 => {
             let h = domain_rows::load_head(t, d);
-            output::number(h.cores);
+            output::number(out, h.cores);
         }
-        12 => run_permissions(t, d),
-        _ => output::number(readings::get_refcount(t, d, c.c, c.d)),
+        12 => run_permissions(out, t, d),
+        _ => output::number(out, readings::get_refcount(t, d, c.c, c.d)),
     }
 }
 
-fn run_permissions(t: &[u64], d: usize)
+fn run_permissions<W: Write>(out: &mut W, t: &[u64], d: usize)
     requires { Sized t.now }
 {
     let p = readings::plan_of(t, d, 1024);
-    output::number(p.answer);
+    output::number(out, p.answer);
     let mut at = p.at;
-    let mut left = p.turns;
-    while 0 < left {
+    for _ in 0..p.turns {
         let f = readings::found_at(t, at);
-        output::permission(f.p);
+        output::permission(out, f.p);
         at = f.next;
-        left -= 1;
     }
 }
 
-fn run_holders(t: &[u64], a: u64)
+fn run_holders<W: Write>(out: &mut W, t: &[u64], a: u64)
     requires { Sized t.now }
 {
     let mut run = [0u64; 32];
     let n = holders::holders(t, a, &mut run);
-    output::number(0);
-    output::number(n);
-    output::slots(&run, n);
+    output::number(out, 0);
+    output::number(out, n);
+    output::slots(out, &run, n);
 }
 
 // No call of document 01: word i becomes v where it is less, for generations that no list of calls comes to.
@@ -184,20 +186,20 @@ fn raise(t: &mut [u64], i: usize, v: u64) {
     }
 }
 
-fn run(t: &mut [u64], w: &mut [u64], c: Request)
+fn run<W: Write>(out: &mut W, t: &mut [u64], w: &mut [u64], c: Request)
     requires { Sized t.old }
 {
     if c.kind <= 9 || SET_INTERFACE <= c.kind {
-        run_change(t, w, c);
+        run_change(out, t, w, c);
     } else if c.kind == 10 {
-        run_pop(t);
+        run_pop(out, t);
     } else if c.kind == 14 {
-        run_holders(t, c.a);
+        run_holders(out, t, c.a);
     } else if c.kind == 15 {
         raise(t, c.a as usize, c.b);
-        output::number(0);
+        output::number(out, 0);
     } else {
-        run_reading(t, c);
+        run_reading(out, t, c);
     }
 }
 
@@ -228,26 +230,26 @@ fn sizes_of(c: Request) -> Sizes {
     }
 }
 
-fn run_sized(t: &mut [u64], w: &mut [u64], c: Request) {
+fn run_sized<W: Write>(out: &mut W, t: &mut [u64], w: &mut [u64], c: Request) {
     if sizes::is_sized(t) {
-        run(t, w, c);
+        run(out, t, w, c);
     }
 }
 
-fn answer(t: &mut [u64], w: &mut [u64], c: Request) {
+fn answer<W: Write>(out: &mut W, t: &mut [u64], w: &mut [u64], c: Request) {
     if c.kind == MAKE {
         make(t, sizes_of(c));
-        output::number(0);
+        output::number(out, 0);
     } else {
-        run_sized(t, w, c);
+        run_sized(out, t, w, c);
     }
 }
 
 // A line of the output.
-fn line(t: &mut [u64], w: &mut [u64], c: Request) {
-    answer(t, w, c);
-    output::number(output::hash(t));
-    output::line_end();
+fn line<W: Write>(out: &mut W, t: &mut [u64], w: &mut [u64], c: Request) {
+    answer(out, t, w, c);
+    output::number(out, output::hash(t));
+    output::line_end(out);
 }
 
 // The words that the tables have after a call, n before it.
@@ -260,7 +262,7 @@ fn length_after(n: usize, c: Request) -> usize {
 }
 
 // One call on tables of n words; answers how many words they have after it.
-fn turn(t: &mut [u64], w: &mut [u64], n: usize, c: Request) -> usize {
+fn turn<W: Write>(out: &mut W, t: &mut [u64], w: &mut [u64], n: usize, c: Request) -> usize {
     let m = length_after(n, c);
     if t.len() < m {
         return n;
@@ -268,26 +270,26 @@ fn turn(t: &mut [u64], w: &mut [u64], n: usize, c: Request) -> usize {
     if w.len() < m {
         return n;
     }
-    line(&mut t[..m], &mut w[..m], c);
+    line(out, &mut t[..m], &mut w[..m], c);
     m
 }
 
 // Every call of the input, on tables of no words at first.
-fn run_all(t: &mut [u64], w: &mut [u64]) {
+fn run_all<R: Read, W: Write>(input: &mut R, out: &mut W, t: &mut [u64], w: &mut [u64]) {
     let mut n = 0;
-    let mut turns = u64::MAX;
-    while 0 < turns {
-        let c = input::next();
+    for _ in 0..u64::MAX {
+        let c = input::next(input);
         if c.kind == END {
             return;
         }
-        n = turn(t, w, n, c);
-        turns -= 1;
+        n = turn(out, t, w, n, c);
     }
 }
 
-fn main() {
+fn main(rt: HostRuntime) {
+    let mut input = rt.stdin();
+    let mut out = rt.stdout();
     let mut t = [0u64; MOST_WORDS];
     let mut w = [0u64; MOST_WORDS];
-    run_all(&mut t, &mut w);
+    run_all(&mut input, &mut out, &mut t, &mut w);
 }

@@ -27,6 +27,7 @@ use output::Pending;
 use refusals::Refusal;
 use replies::Reply;
 use running::Taken;
+use std::io::{Read, Write};
 
 // The sizes of a script's tables, and how many words these are.
 const DOMAINS: usize = 8;
@@ -104,7 +105,14 @@ struct Ran {
 }
 
 // All records that can be read, or those up to a write that fails: what calls leave behind is in the lines alone.
-fn run_records(b: &mut [u8], text: &mut [u8], t: &mut [u64], w: &mut [u64]) -> Ran
+fn run_records<R: Read, W: Write>(
+    reader: &mut R,
+    out: &mut W,
+    b: &mut [u8],
+    text: &mut [u8],
+    t: &mut [u64],
+    w: &mut [u64],
+) -> Ran
     requires { 128 ≤ length text.old }
     ensures n_in_bounds { result.text.n ≤ length text.old }
     ensures leads { Leads t.old t.new }
@@ -122,10 +130,10 @@ fn run_records(b: &mut [u8], text: &mut [u8], t: &mut [u64], w: &mut [u64]) -> R
     };
     let mut k = 1;
     while k < u64::MAX {
-        h = input::ready(b, h);
+        h = input::ready(reader, b, h);
         let at = h.at;
         let end = h.end;
-        p = output::room(text, p);
+        p = output::room(out, text, p);
         if at == end || p.failed {
             break;
         }
@@ -141,7 +149,7 @@ fn run_records(b: &mut [u8], text: &mut [u8], t: &mut [u64], w: &mut [u64]) -> R
 }
 
 // "one line for each permission record" of domain slot d.
-fn list_domain(text: &mut [u8], p: Pending, t: &[u64], d: usize) -> Pending
+fn list_domain<W: Write>(out: &mut W, text: &mut [u8], p: Pending, t: &[u64], d: usize) -> Pending
     requires n_in_bounds { p.n ≤ length text.old }
     requires in_bounds { 128 ≤ length text.old }
     requires sized { Sized t.now }
@@ -153,7 +161,7 @@ fn list_domain(text: &mut [u8], p: Pending, t: &[u64], d: usize) -> Pending
     let mut q = p;
     let mut i = 0;
     while i < lines {
-        q = output::room(text, q);
+        q = output::room(out, text, q);
         q.n = output::domain_line(text, q.n, &run, 5 * i);
         i += 1;
     }
@@ -161,7 +169,7 @@ fn list_domain(text: &mut [u8], p: Pending, t: &[u64], d: usize) -> Pending
 }
 
 // "domain slots rising".
-fn list_domains(text: &mut [u8], p: Pending, t: &[u64]) -> Pending
+fn list_domains<W: Write>(out: &mut W, text: &mut [u8], p: Pending, t: &[u64]) -> Pending
     requires n_in_bounds { p.n ≤ length text.old }
     requires in_bounds { 128 ≤ length text.old }
     requires script_tables { ScriptTables t.now }
@@ -171,14 +179,20 @@ fn list_domains(text: &mut [u8], p: Pending, t: &[u64]) -> Pending
     let mut q = p;
     let mut d = 0;
     while d < DOMAINS {
-        q = list_domain(text, q, t, d);
+        q = list_domain(out, text, q, t, d);
         d += 1;
     }
     q
 }
 
 // "Then the queue, oldest first".
-fn list_queue(text: &mut [u8], p: Pending, t: &mut [u64], w: &mut [u64]) -> Pending
+fn list_queue<W: Write>(
+    out: &mut W,
+    text: &mut [u8],
+    p: Pending,
+    t: &mut [u64],
+    w: &mut [u64],
+) -> Pending
     requires n_in_bounds { p.n ≤ length text.old }
     requires in_bounds { 128 ≤ length text.old }
     requires script_tables { ScriptTables t.old }
@@ -193,7 +207,7 @@ fn list_queue(text: &mut [u8], p: Pending, t: &mut [u64], w: &mut [u64]) -> Pend
         if u.kind == 0 {
             return q;
         }
-        q = output::room(text, q);
+        q = output::room(out, text, q);
         q.n = output::queue_line(text, q.n, u);
         left -= 1;
     }
@@ -201,7 +215,14 @@ fn list_queue(text: &mut [u8], p: Pending, t: &mut [u64], w: &mut [u64]) -> Pend
 }
 
 // A whole script, from the making of its tables on: all that is printed, the last of it yet to be written.
-fn run(b: &mut [u8], text: &mut [u8], t: &mut [u64], w: &mut [u64]) -> Ran
+fn run<R: Read, W: Write>(
+    reader: &mut R,
+    out: &mut W,
+    b: &mut [u8],
+    text: &mut [u8],
+    t: &mut [u64],
+    w: &mut [u64],
+) -> Ran
     requires in_bounds { 128 ≤ length text.old }
     requires fit { Fit t.old w.old script_sizes }
     ensures n_in_bounds { result.text.n ≤ length text.old }
@@ -217,25 +238,34 @@ fn run(b: &mut [u8], text: &mut [u8], t: &mut [u64], w: &mut [u64]) -> Ran
         RECORDS as u64,
         UPDATES as u64,
     );
-    let x = run_records(b, text, t, w);
-    let p = list_domains(text, x.text, t);
-    let q = list_queue(text, p, t, w);
+    let x = run_records(reader, out, b, text, t, w);
+    let p = list_domains(out, text, x.text, t);
+    let q = list_queue(out, text, p, t, w);
     let input = x.input;
     Ran { text: q, input }
 }
 
-// Rattle has no exit status, so that standard error alone can say that reading or writing failed.
-fn main() {
+// The exit status is 0 in any case, so that standard error alone can say that reading or writing failed.
+fn main(rt: HostRuntime) {
+    let mut reader = rt.stdin();
+    let mut out = rt.stdout();
+    let mut err = rt.stderr();
     let mut t = [0u64; WORDS];
     let mut w = [0u64; WORDS];
     let mut b = [0u8; BYTES];
     let mut text = [0u8; BYTES];
-    let x = run(&mut b, &mut text, &mut t, &mut w);
-    let r = output::write(&text, x.text);
+    let x = run(&mut reader, &mut out, &mut b, &mut text, &mut t, &mut w);
+    let r = output::write(&mut out, &text, x.text);
     if x.input.failed {
-        output::error_line(b"script: reading standard input failed; records may be missing\n");
+        output::error_line(
+            &mut err,
+            b"script: reading standard input failed; records may be missing\n",
+        );
     }
     if r.failed {
-        output::error_line(b"script: writing standard output failed; lines may be missing\n");
+        output::error_line(
+            &mut err,
+            b"script: writing standard output failed; lines may be missing\n",
+        );
     }
 }

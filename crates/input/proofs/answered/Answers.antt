@@ -1,10 +1,6 @@
--- The answer as the code tests and counts it is the read's.
-use lib.ListN.{length}
-use mir.Syntax.{w64}
-use mir.ValLaws.{to_z-of_z}
-use borrow.Author.Rules.{rules}
+-- The code makes of the answer what `behind` says.
 use Rattle.input.specs.Buffered.{behind-told}
 use Rattle.input.proofs.answered.Goals as goal
 
 pub returns : goal.returns
-returns c = behind-told c.args.h (length c.args.b.now) c.args.got _ _ c.requires.within c.requires.moved (to_z-of_z w64 c.args.got c.ranges.got) c.count.ensures.1
+returns c = rw (c.unwrap_or-n.ensures, c.is_err-failed.ensures.value) (behind-told c.args.h c.args.got)

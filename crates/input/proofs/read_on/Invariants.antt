@@ -1,13 +1,17 @@
--- The bytes at hand stay the first. Each read brings a byte of the record, or is the last.
-use mathlib.Core.Path.{◌≡◌}
-use native.Mathlib.Omega.{arith}
-use lib.ListN.{length}
-use Rattle.input.specs.Buffered.{Within, Keeps, left, left-falls, whole-ended, keeps-none, keeps_then}
-use borrow.Author.Rules.{rules}
+-- The bytes at hand stay the first, and those that came are the reader's. Each read brings a byte of the record, or is the last.
+use Rattle.std.proofs.Common.{◌≡◌, ◌+◌, ◌≤◌, length}
+use Rattle.input.specs.Buffered.{Within, Keeps, left}
+use Rattle.input.specs.Brings.{Brings, Ended}
 use Rattle.input.proofs.read_on.Given as goal
 
 abbrev pub invariant-loop-r : goal.invariant-loop-r
-invariant-loop-r l = Within l.r (length l.initial.b) × (length l.b ≡ length l.initial.b) × Keeps l.initial.r l.initial.b l.r l.b
+invariant-loop-r g l = record {
+  within : Within l.r (length l.initial.b);
+  keeps : Keeps l.initial.r l.initial.b l.r l.b;
+  same_start : l.r.at ≡ l.initial.r.at;
+  brings : Brings (g.R.Read.remaining l.initial.input) l.initial.r l.initial.b (g.R.Read.remaining l.input) l.r l.b;
+  ended : l.initial.r.at + 52 ≤ length l.initial.b → Ended l.initial.r (g.R.Read.remaining l.initial.input) → Ended l.r (g.R.Read.remaining l.input);
+}
 
 abbrev pub decreases-loop-r : goal.decreases-loop-r
-decreases-loop-r l = left l.r
+decreases-loop-r g l = left l.r
