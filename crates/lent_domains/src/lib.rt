@@ -1,4 +1,7 @@
 // Openings on lent memory: the step, and the generation of the slot that it answers.
+
+#![tactic(auto)]
+
 ghost use Rattle.std.specs.Prelude.{◌≡◌};
 ghost use Rattle.std.proofs.Math.Option.{none, some};
 ghost use Rattle.model.specs.Perform.{Call, Step};

@@ -1,4 +1,7 @@
 // Making empty tables: the sizes are tested first, then the lengths alone.
+
+#![tactic(auto)]
+
 ghost use Rattle.model.specs.Perform.{Call};
 ghost use Rattle.call.specs.Arguments.{sizes};
 ghost use Rattle.replies.specs.Replies.{reply_of, Returns};

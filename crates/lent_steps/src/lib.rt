@@ -1,4 +1,7 @@
 // A call that is one step, on lent memory: what every call does around its own work (crate `frame`), with that step between.
+
+#![tactic(auto)]
+
 ghost use Rattle.std.specs.Prelude.{◌≡◌, true};
 ghost use Rattle.model.specs.Perform.{Call};
 ghost use Rattle.model.specs.CallWords.{StepWords};

@@ -17,10 +17,14 @@ pub loop-j-smaller : goal.loop-j-smaller
 loop-j-smaller c = omega arith
 
 pub loop-j-preserved : goal.loop-j-preserved
-loop-j-preserved c = (omega arith, omega arith, elim c.if-names.branch [
-  | then-names w ↦ rw (w.w-is, w.count-is) (slot-named _ _ _ _ _ _ _ c.loop-j-test.true _ c.slot_in-x.ensures _ c.names.ensures _ w.lay_region-count.ensures w.if-names.true ∙ c.loop-j.invariant.2)
-  | else-names w ↦ rw (w.w-is, w.count-is) (slot-passed _ _ _ _ _ _ _ c.loop-j-test.true _ c.slot_in-x.ensures _ c.names.ensures w.if-names.false ∙ c.loop-j.invariant.2)
-])
+loop-j-preserved c = (
+  omega arith,
+  omega arith,
+  elim c.if-names.branch [
+    | then-names w ↦ rw (w.w-is, w.count-is) (slot-named _ _ _ _ _ _ _ c.loop-j-test.true _ c.slot_in-x.ensures _ c.names.ensures _ w.lay_region-count.ensures w.if-names.true ∙ c.loop-j.invariant.2)
+    | else-names w ↦ rw (w.w-is, w.count-is) (slot-passed _ _ _ _ _ _ _ c.loop-j-test.true _ c.slot_in-x.ensures _ c.names.ensures w.if-names.false ∙ c.loop-j.invariant.2)
+  ],
+)
 
 pub returns : goal.returns
 returns c = slots_end _ _ _ _ _ _ _ c.loop-j-test.false ∙ c.loop-j.invariant.2 ∙ placed _ _

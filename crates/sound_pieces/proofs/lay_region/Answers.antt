@@ -21,10 +21,13 @@ pub loop-link-smaller : goal.loop-link-smaller
 loop-link-smaller c = omega (arith, goes c.both.result c.loop-link.left c.loop-link.link c.both.ensures c.loop-link-test.true)
 
 pub loop-link-preserved : goal.loop-link-preserved
-loop-link-preserved c = (omega arith, elim c.if-c-ge-CARVE.branch [
-  | then-c-ge-CARVE w ↦ rw (w.w-is, w.count-is, w.at-is) (between-cut _ _ _ _ _ _ _ _ _ (goes _ _ _ c.both.ensures c.loop-link-test.true) c.region_in-c.ensures w.if-c-ge-CARVE.true w.lay-count.ensures ∙ c.loop-link.invariant.1)
-  | else-c-ge-CARVE w ↦ rw (w.w-is, w.count-is, w.at-is) (between-skip _ _ _ _ _ _ _ _ (goes _ _ _ c.both.ensures c.loop-link-test.true) c.region_in-c.ensures w.if-c-ge-CARVE.false ∙ c.loop-link.invariant.1)
-])
+loop-link-preserved c = (
+  omega arith,
+  elim c.if-c-ge-CARVE.branch [
+    | then-c-ge-CARVE w ↦ rw (w.w-is, w.count-is, w.at-is) (between-cut _ _ _ _ _ _ _ _ _ (goes _ _ _ c.both.ensures c.loop-link-test.true) c.region_in-c.ensures w.if-c-ge-CARVE.true w.lay-count.ensures ∙ c.loop-link.invariant.1)
+    | else-c-ge-CARVE w ↦ rw (w.w-is, w.count-is, w.at-is) (between-skip _ _ _ _ _ _ _ _ (goes _ _ _ c.both.ensures c.loop-link-test.true) c.region_in-c.ensures w.if-c-ge-CARVE.false ∙ c.loop-link.invariant.1)
+  ],
+)
 
 pub returns : goal.returns
 returns c = c.lay.ensures ∙ ap (places _) (between-end _ _ _ _ _ _ (sym c.both.ensures ∙ c.loop-link-test.false)) ∙ c.loop-link.invariant.1
