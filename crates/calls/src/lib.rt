@@ -1,4 +1,7 @@
 // The calls that are one step on the tables, done (lib.rs; document 01, **Order of checks**). A refused call may leave the tables half changed.
+
+#![tactic(auto)]
+
 ghost use Rattle.std.specs.Prelude.{◌≡◌};
 ghost use Rattle.tables.specs.View.{view, Sized, Left};
 ghost use Rattle.calls.specs.Steps.{step_of};
