@@ -3,7 +3,7 @@
  * domains. The refusal of every call is looked at: one that has to come is printed as an answer, any other ends the program with status 1.
  *
  *     cc -std=c99 examples/host.c $(pkg-config --cflags --libs mityvurno) -o host    # with the library that tools/install put in place
- *     cc -std=c99 -Iinclude examples/host.c target/staticlib/libengine.a -o host     # in the repository, after `rt staticlib engine`
+ *     cc -std=c99 -Iinclude examples/host.c crates/engine_c/out/libengine_c.a -o host     # in the repository, after `tools/archive`
  */
 #include <inttypes.h>
 #include <stdio.h>

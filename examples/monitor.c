@@ -4,7 +4,7 @@
  * program with status 1. monitor.out is what it prints: each step, and below it what is done in hardware.
  *
  *     cc -std=c99 examples/monitor.c $(pkg-config --cflags --libs mityvurno) -o monitor    # with the library of tools/install
- *     cc -std=c99 -Iinclude examples/monitor.c target/staticlib/libengine.a -o monitor     # in the repository, after `rt staticlib engine`
+ *     cc -std=c99 -Iinclude examples/monitor.c crates/engine_c/out/libengine_c.a -o monitor     # in the repository, after `tools/archive`
  */
 #include <inttypes.h>
 #include <stdio.h>

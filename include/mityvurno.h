@@ -1,5 +1,5 @@
 /* The exported calls of Mityvurno, a region capability engine; for C99, C++98 and later on x86-64. The library is libmityvurno.a where
- * tools/install put it, and target/staticlib/libengine.a in the repository, written by `rt staticlib engine`.
+ * tools/install put it, and crates/engine_c/out/libengine_c.a in the repository, written by `tools/archive`.
  * Document 01 (docs/01-scope.md) says what each call does, docs/AMENDMENTS.md what has changed since, docs/TABLES.md what each word of the
  * tables holds, CHANGELOG.md what a host changes from version to version. examples/host.c makes each call but a conversion;
  * examples/monitor.c is a monitor to start from, whose page tables follow the queue.

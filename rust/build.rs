@@ -8,8 +8,8 @@ use std::process::{Command, ExitCode};
 /// The folder that has the library, before all other places.
 const VARIABLE: &str = "MITYVURNO_LIB_DIR";
 
-/// The library's names: installed, and as `rt staticlib engine` writes it.
-const NAMES: [&str; 2] = ["mityvurno", "engine"];
+/// The library's names: installed, and as `rt lib` writes it.
+const NAMES: [&str; 2] = ["mityvurno", "engine_c"];
 
 fn main() -> ExitCode {
     println!("cargo:rerun-if-changed=build.rs");
@@ -49,18 +49,18 @@ fn find() -> Result<(PathBuf, &'static str), String> {
     if let Some(folder) = env::var_os(VARIABLE) {
         let folder = own.join(folder);
         return in_folder(&folder).ok_or_else(|| {
-            format!("{VARIABLE} names {}, where neither libmityvurno.a nor libengine.a is; expected the folder of one of them", folder.display())
+            format!("{VARIABLE} names {}, where neither libmityvurno.a nor libengine_c.a is; expected the folder of one of them", folder.display())
         });
     }
     let repository = own.parent().unwrap_or(&own);
-    let written = repository.join("target/staticlib");
+    let written = repository.join("crates/engine_c/out");
     if let Some(found) = in_folder(&written).or_else(|| in_folder(&repository.join("lib"))) {
         return Ok(found);
     }
     if repository.join("crates.txt").is_file() && prove(repository)? {
-        return in_folder(&written).ok_or_else(|| format!("`rt staticlib engine` has not written {}", library(&written, "engine").display()));
+        return in_folder(&written).ok_or_else(|| format!("`rt lib` has not written {}", library(&written, "engine_c").display()));
     }
-    installed().and_then(|folder| in_folder(&folder)).ok_or_else(|| missing(&library(&written, "engine")))
+    installed().and_then(|folder| in_folder(&folder)).ok_or_else(|| missing(&library(&written, "engine_c")))
 }
 
 /// The library, unless the .pc file beside it, as tools/install and tools/release write one, names another version than the crate's.
@@ -78,8 +78,8 @@ fn of_this_version((folder, name): (PathBuf, &'static str)) -> Result<(PathBuf, 
 fn missing(written: &Path) -> String {
     format!(
         "the static library is not there. Do one of these:\n  \
-         - set {VARIABLE} to the folder that has libmityvurno.a or libengine.a;\n  \
-         - run `rt staticlib engine` in the repository, which writes {};\n  \
+         - set {VARIABLE} to the folder that has libmityvurno.a or libengine_c.a;\n  \
+         - run `rt lib` in the repository's crates/engine_c, which writes {};\n  \
          - install the library so that `pkg-config --variable=libdir mityvurno` names its folder",
         written.display()
     )
@@ -87,12 +87,12 @@ fn missing(written: &Path) -> String {
 
 /// Has the library proved and written; false where `rt` is not found.
 fn prove(repository: &Path) -> Result<bool, String> {
-    match Command::new("rt").args(["staticlib", "engine"]).current_dir(repository).output() {
+    match Command::new("rt").arg("lib").current_dir(repository.join("crates/engine_c")).output() {
         Err(_) => Ok(false),
         Ok(run) if run.status.success() => Ok(true),
         Ok(run) => {
             let said = [run.stdout, run.stderr].concat();
-            Err(format!("`rt staticlib engine` ended with {}:\n{}", run.status, String::from_utf8_lossy(&said)))
+            Err(format!("`rt lib` in crates/engine_c ended with {}:\n{}", run.status, String::from_utf8_lossy(&said)))
         }
     }
 }

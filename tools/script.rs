@@ -17,7 +17,7 @@ use shared::{lists, records, refusals};
 use output::{failed, Output};
 
 const USAGE: &str = "\
-tools/script runs a list of calls on the script program (target/bin/script).
+tools/script runs a list of calls on the script program (crates/script/out/script).
 
     tools/script FILE            each call beside its answer, and the lists that the program prints after them
     tools/script --bytes FILE    only writes the script that the program reads, to standard output

@@ -19,7 +19,7 @@ driver sample SEED LISTS LENGTH        lists with answers and a hash of the tabl
 driver replay FILE                     a sample, answered again
 driver ours PROGRAM SEED CALLS LENGTH  random lists, the Rust beside the proved engine in program `replay`
 driver ours PROGRAM FILE               a sample
-driver linked SEED CALLS LENGTH        random lists, the Rust beside the exported functions of libengine.a
+driver linked SEED CALLS LENGTH        random lists, the Rust beside the exported functions of libengine_c.a
 driver linked FILE                     fixed lists on these functions
 driver damage SEED SHAPES LENGTH WORDS sound tables by lists of up to LENGTH calls, damaged, lent to the exported functions
 driver free-lists SEED                 free lists at sizes about 64, sound and damaged, lent to the exported functions
@@ -87,7 +87,7 @@ fn command(words: &[&str]) -> Result<bool, String> {
         #[cfg(linked)]
         ["convert", file] => linked::kept(file),
         #[cfg(not(linked))]
-        ["linked" | "damage" | "free-lists" | "convert", ..] => Err("built without target/staticlib/libengine.a: run `rt staticlib engine` and oracle/build".to_string()),
+        ["linked" | "damage" | "free-lists" | "convert", ..] => Err("built without crates/engine_c/out/libengine_c.a: run `tools/archive` and oracle/build".to_string()),
         ["script"] => script::print(),
         ["scripts", program, seed, count] => scripts::compare(program, number(seed)?, number(count)?),
         ["outside"] => Ok(outside::check()),

@@ -99,9 +99,9 @@
 //!
 //! # Where the library is found
 //!
-//! The build script takes the first of these: `libmityvurno.a` or `libengine.a` in the folder that the environment variable `MITYVURNO_LIB_DIR` names;
-//! `target/staticlib/libengine.a` in the repository that this crate stands in, or `lib/libmityvurno.a` in the release; the first of these two once
-//! `rt staticlib engine` has written it, where `rt` is found; the folder that pkg-config names for `mityvurno`.
+//! The build script takes the first of these: `libmityvurno.a` or `libengine_c.a` in the folder that the environment variable `MITYVURNO_LIB_DIR` names;
+//! `crates/engine_c/out/libengine_c.a` in the repository that this crate stands in, or `lib/libmityvurno.a` in the release; the first of these two once
+//! `rt lib` has written it there, where `rt` is found; the folder that pkg-config names for `mityvurno`.
 #![no_std]
 #![deny(unsafe_code)]
 #![warn(missing_docs)]
