@@ -1,1 +1,3 @@
 // The lines of the tables are the model's: mathematics only.
+
+#![tactic(auto)]

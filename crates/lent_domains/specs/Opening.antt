@@ -59,17 +59,23 @@ opens_as s m cores c e = subst (λ b. Opens (step s b)) (sym e) (opens s m cores
 
 -- the tables that an accepted call leaves are as long as their sizes ask
 sized-after : (t w t₂ w₂ : List ℕ) (c : Call) (a : Answer) → NotMake c → CallWords c → code a ≡ 0 → After t w c a t₂ w₂ → Sized t₂
-sized-after t w t₂ w₂ c a n k e (made z) = absurd n
-sized-after t w t₂ w₂ c a n k e (not_sound d m f) = absurd (omega arith)
-sized-after t w t₂ w₂ c a n k e (performed d s q l) = (words-held (step s d).1 (step-sound s d l.sound k) _ refl).sized
+sized-after t w t₂ w₂ c a n k e h = go c a t₂ w₂ n k e h
+  where
+    go : (c : Call) (a : Answer) (u v : List ℕ) → NotMake c → CallWords c → code a ≡ 0 → After t w c a u v → Sized u
+    go c a u v n k e (made z) = absurd n
+    go c a u v n k e (not_sound d m f) = absurd (omega arith)
+    go c a u v n k e (performed d s q l) = (words-held (step s d).1 (step-sound s d l.sound k) _ refl).sized
 
 opened_after : (t w t₂ w₂ : List ℕ) (m : Option state.Handle) (cores : ℕ) (c : Call) (a : Answer) → c ≡ Call.Do (Step.Open m cores) → CallWords c → After t w c a t₂ w₂
     → opened_for (view t₂) (reply_of a) ≡ domain_reply_of a
-opened_after t w t₂ w₂ m cores c a e k (made z) = absurd (subst NotMake (sym e) tt)
-opened_after t w t₂ w₂ m cores c a e k (not_sound d n f) = opens-none memory (view t) (omega arith)
-opened_after t w t₂ w₂ m cores c a e k (performed d s q l) =
-    let see = (words-held (step s d).1 (step-sound s d l.sound k) _ refl).seen in
-    ap (λ v. opened_for v (reply_of (step s d).0)) see ∙ opens_as s m cores d e
+opened_after t w t₂ w₂ m cores c a e k h = go c a t₂ w₂ e k h
+  where
+    go : (c : Call) (a : Answer) (u v : List ℕ) → c ≡ Call.Do (Step.Open m cores) → CallWords c → After t w c a u v → opened_for (view u) (reply_of a) ≡ domain_reply_of a
+    go c a u v e k (made z) = absurd (subst NotMake (sym e) tt)
+    go c a u v e k (not_sound d n f) = opens-none memory (view t) (omega arith)
+    go c a u v e k (performed d s q l) =
+        let see = (words-held (step s d).1 (step-sound s d l.sound k) _ refl).seen in
+        ap (λ v. opened_for v (reply_of (step s d).0)) see ∙ opens_as s m cores d e
 
 -- ---- as the exported functions cite it: d is the step of the call that was run
 

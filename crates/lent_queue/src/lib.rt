@@ -1,4 +1,7 @@
 // The queue of updates.
+
+#![tactic(auto)]
+
 ghost use Rattle.model.specs.Perform.{Call};
 ghost use Rattle.replies.specs.Replies.{update_reply_of, Returns};
 

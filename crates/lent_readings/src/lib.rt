@@ -1,4 +1,7 @@
 // The readings of lent memory (document 01, **Reading**). Each meets the contract of the exported function that calls it; the tables are lent to be read only.
+
+#![tactic(auto)]
+
 ghost use Rattle.std.specs.Prelude.{◌≡◌};
 ghost use Rattle.model.specs.Memory.{zeroed};
 ghost use Rattle.model.specs.Perform.{Call, Reading};
