@@ -9,7 +9,7 @@ use Rattle.script_records.specs.declared.Parsed.TheVariants.{Short, Bad, Call as
 use Rattle.script_records.specs.Script.{kind_of}
 use Rattle.byte_numbers.specs.Numbers.{number}
 use Rattle.script_records.specs.Parsed.{size_of, record_in, rights_in, judged, whole, of_kind, parsed}
-use Rattle.script_records.specs.Words.{call-size}
+use Rattle.script_records.proofs.Words.{call-size}
 
 pub record Given (r : Record) : Type 0 where
   pub least : 1 ≤ r.kind

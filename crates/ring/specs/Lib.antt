@@ -1,4 +1,3 @@
 pub mod Ring
 pub mod Turns
-pub mod Queue
 pub mod Sizes

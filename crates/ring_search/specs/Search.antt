@@ -11,7 +11,7 @@ use Rattle.ring.specs.declared.Ring.{Ring}
 use Rattle.ring.specs.Ring.{cap, no_entry, after_of, permission_of, push_of}
 use Rattle.ring_search.specs.Queueing.{names_of, place_from, place_of, gathered, found_b, queue_of}
 use Rattle.ring.specs.Turns.{after_is, away, turn-none}
-use Rattle.ring.specs.Queue.{Queues, set-queues}
+use Rattle.ring.proofs.Queue.{Queues, set-queues}
 
 -- whether a permission update of the domain is among the entries
 abbrev pub any_names : ℕ → ℕ → List Entry → Bool

@@ -7,7 +7,7 @@ use Rattle.script_records.specs.declared.Record.{Record}
 use Rattle.script_records.specs.declared.Parsed.{Parsed}
 use Rattle.script_records.specs.declared.Parsed.TheVariants as found
 use Rattle.script_records.specs.Parsed.{size_of, call_in, parsed}
-use Rattle.script_records.specs.Words.{call-size}
+use Rattle.script_records.proofs.Words.{call-size}
 use Rattle.script_progress.specs.declared.Ran.{Ran}
 use Rattle.running.specs.declared.scripts.Taken.{Taken}
 use Rattle.running.specs.declared.scripts.Taken.TheVariants.{Short, Bad, Done}

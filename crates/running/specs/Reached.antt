@@ -21,7 +21,7 @@ use Rattle.script_records.specs.declared.Parsed.TheVariants as found
 use Rattle.script_records.specs.Script.{Kind, opening, root, alias, carve, send, revoke, make_revoke, kind_of, manager_of}
 use Rattle.script_records.specs.Parsed.{handle_in, access_in, call_for, call_in, parsed}
 use Rattle.byte_numbers.specs.Numbers.{Bytes}
-use Rattle.script_records.specs.Words.{call-words}
+use Rattle.script_records.proofs.Words.{call-words}
 use Rattle.running.specs.declared.scripts.Taken.{Taken}
 use Rattle.running.specs.Takes.{Takes}
 use Rattle.running.specs.RunScript.{Fit}

@@ -14,9 +14,9 @@ use Rattle.script_records.specs.declared.Parsed.TheVariants as found
 use Rattle.script_records.specs.Script.{Kind, opening, root, alias, carve, send, revoke, make_revoke, kind_of, ahead, script_calls}
 use Rattle.script_records.specs.Parsed.{size_of, call_for, call_in, parsed}
 use Rattle.byte_numbers.specs.Numbers.{Bytes}
-use Rattle.script_records.specs.Words.{call-size, call-words, bytes_drop}
-use Rattle.script_records.specs.Scripts.{script-ended}
-use Rattle.script_records.specs.Streams.{stream-call, stream-bad, stream-cut}
+use Rattle.script_records.proofs.Words.{call-size, call-words, bytes_drop}
+use Rattle.script_records.proofs.Scripts.{script-ended}
+use Rattle.script_records.proofs.Streams.{stream-call, stream-bad, stream-cut}
 use Rattle.replies.specs.declared.Reply.{Reply}
 use Rattle.script_progress.specs.declared.Place.{Place}
 use Rattle.script_progress.specs.declared.Ran.{Ran}

@@ -1,2 +1,7 @@
 pub mod Fields
 pub mod Parses
+pub mod Fronts
+pub mod Scripts
+pub mod Streams
+pub mod Words
+pub mod Examples

@@ -17,9 +17,9 @@ use Rattle.script_records.specs.declared.Parsed.{Parsed}
 use Rattle.script_records.specs.declared.Parsed.TheVariants as found
 use Rattle.script_records.specs.Script.{Kind, opening, root, alias, carve, send, revoke, make_revoke, kind_of, ahead, script_calls}
 use Rattle.script_records.specs.Parsed.{size_of, call_for, call_in, parsed}
-use Rattle.script_records.specs.Words.{call-size}
-use Rattle.script_records.specs.Scripts.{script-ended}
-use Rattle.script_records.specs.Streams.{stream-call, stream-bad, stream-cut}
+use Rattle.script_records.proofs.Words.{call-size}
+use Rattle.script_records.proofs.Scripts.{script-ended}
+use Rattle.script_records.proofs.Streams.{stream-call, stream-bad, stream-cut}
 use Rattle.running.specs.BetweenRecords.{followed}
 use Rattle.input.specs.declared.Buffered.{Buffered}
 use Rattle.output.specs.declared.Pending.{Pending}

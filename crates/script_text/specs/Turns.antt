@@ -9,7 +9,7 @@ use Rattle.script_records.specs.declared.Record.{Record}
 use Rattle.script_records.specs.declared.Parsed.{Parsed}
 use Rattle.script_records.specs.declared.Parsed.TheVariants as found
 use Rattle.script_records.specs.Parsed.{size_of, call_in, parsed}
-use Rattle.script_records.specs.Words.{call-words}
+use Rattle.script_records.proofs.Words.{call-words}
 use Rattle.replies.specs.declared.Reply.{Reply}
 use Rattle.replies.specs.Replies.{reply_of}
 use Rattle.script_progress.specs.declared.Ran.{Ran}

@@ -14,7 +14,7 @@ use Rattle.ring.specs.Ring.{cap, no_entry, push_of, pop_of, permission_of}
 use Rattle.ring_search.specs.Queueing.{queue_of}
 use Rattle.stored_ring.specs.Fitted.{fitted, length-fitted, get_or-fitted, fitted-back}
 use Rattle.stored_ring.specs.Stored.{entries, updates_of, marks_of, ring_of, with_ring_of, length-entries, get_or-entries, entries-updates, entries-marks}
-use Rattle.ring.specs.Queue.{Queues, push-joins, push-full, pop-empty, pop-takes}
+use Rattle.ring.proofs.Queue.{Queues, push-joins, push-full, pop-empty, pop-takes}
 use Rattle.ring_search.specs.Search.{any_names, gather_first, queue-new, queue-gathers}
 use Rattle.ring.specs.Sizes.{push-size, pop-size}
 use Rattle.ring_search.specs.Sizes.{queue-size}

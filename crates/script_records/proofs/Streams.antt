@@ -5,8 +5,8 @@ use Rattle.script_records.specs.declared.Record.{Record}
 use Rattle.script_records.specs.declared.Parsed.TheVariants.{Short, Bad, Call as Whole}
 use Rattle.script_records.specs.Script.{ahead, script_calls}
 use Rattle.script_records.specs.Parsed.{size_of, call_in, parsed}
-use Rattle.script_records.specs.Fronts.{front-call, front-bad, front_cut}
-use Rattle.script_records.specs.Scripts.{script-bad, script-call}
+use Rattle.script_records.proofs.Fronts.{front-call, front-bad, front_cut}
+use Rattle.script_records.proofs.Scripts.{script-bad, script-call}
 
 module _ (b : List ℕ) where
   -- a call, whose bytes are then taken off
