@@ -3,7 +3,7 @@ use mathlib.Core.Path.{sym, ◌∙◌}
 use Rattle.replies.specs.Replies.{reply_of}
 use Rattle.frame.specs.Finish.{each_word, kept-clear}
 use Rattle.frame.specs.Law.{memory-returns, admitted-sized}
-use Rattle.lent_steps.specs.Unkept.{unkept-returns}
+use Rattle.lent_steps.proofs.Unkept.{unkept-returns}
 use Rattle.call.specs.Steps.{step_named}
 use Rattle.model.specs.Perform.{Call}
 use borrow.Author.Rules.{rules}
