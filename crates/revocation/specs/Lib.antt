@@ -1,2 +1,1 @@
 pub mod Revoke
-pub mod Walks

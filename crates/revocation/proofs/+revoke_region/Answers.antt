@@ -2,7 +2,7 @@
 use Rattle.std.proofs.Common.{arith, ◌∙◌}
 use Rattle.base.specs.Clauses.{value_left}
 use Rattle.answers.specs.Then.{same_step}
-use Rattle.revocation.specs.Walks.{revoke-out, revoke-here, revoke-on, revoke-refused}
+use Rattle.revocation.proofs.Walks.{revoke-out, revoke-here, revoke-on, revoke-refused}
 use Rattle.revocation.proofs.+revoke_region.Goals as goal
 
 pub returns-then-g-eq0 : goal.returns-then-g-eq0
