@@ -109,6 +109,7 @@
  * something takes up to 4 and 32 more, for a copy of the tables and its own work. But a revoke takes longer the more regions die by it: at
  * the largest sizes 0.1 to 1.4 milliseconds with 1,022 parts of one region, and 1.1 for the close of 31 domains with 32 aliases each. Lent
  * words that are refused take about as long as sound ones at most. bench/README.md has the measurements, and what they were made on.
+ * These figures, those of the stack below and those at each call were measured with the kit before rattle-kit-13f; not measured again.
  *
  * Of its host the archive asks for memcpy and memset, nothing else; it uses SSE registers and the red zone, the 128 bytes below the stack
  * pointer: code that interrupts a call must not write there, so it needs a stack of its own. Stack, measured at the largest sizes
@@ -308,7 +309,7 @@ typedef struct {
  *   value     what the reply has where the call is accepted: its `value`, or the fields that are named
  *   refusals  those that it can give, without MITYVURNO_, in the order in which they are tested; no other is possible (theorem
  *             `call-refusals`, with one list for both openings and one for all sends: 3 and 12 are of an opening under a manager alone,
- *             18 and 19 of a flag word alone, by the model's `openDomain` and `checkOptions`; of the converter, its contract).
+ *             18 and 19 of a flag word alone, by the model's `open_domain` and `check_options`; of the converter, its contract).
  *             13, 14 and 16 come after the others, whichever is met first. Where a listed one cannot come after all, it is said
  *   cost      "test": the tables are tested. "copy": they are copied to the work area besides, and put back where the call is refused.
  *             Microseconds (us), where the call was measured, are at the script program's sizes where no others are named, and go from

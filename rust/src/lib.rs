@@ -95,7 +95,7 @@
 //!
 //! x86-64, `memcpy` and `memset`, SSE registers, and the red zone: the 128 bytes below the stack pointer, where code that interrupts a call must not
 //! write. Stack: 41 KiB for a call and 66 for a revoke, whatever the sizes, and more for each level of the tree: 176 KiB at the largest sizes
-//! (include/mityvurno.h, which has the costs, too).
+//! (include/mityvurno.h, which has the costs, too). Measured with the kit before rattle-kit-13f; not measured again.
 //!
 //! # Where the library is found
 //!
