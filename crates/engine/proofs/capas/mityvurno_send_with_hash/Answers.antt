@@ -1,0 +1,5 @@
+-- What `run` promises of the call is promised of the step that it names, whose arguments are words.
+use Rattle.engine.proofs.capas.mityvurno_send_with_hash.Goals as goal
+
+pub returns : goal.returns
+returns c = let k = c.run.ensures in let w = c.send_with_hash.ensures.step_words in record { returns = rw c.send_with_hash.ensures.result_value at k; words = (rw c.send_with_hash.ensures.result_value at w, rw c.send_with_hash.ensures.result_value at k) }

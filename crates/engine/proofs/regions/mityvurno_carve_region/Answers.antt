@@ -1,0 +1,5 @@
+-- What `run` promises of the call is promised of the step that it names, whose arguments are words.
+use Rattle.engine.proofs.regions.mityvurno_carve_region.Goals as goal
+
+pub returns : goal.returns
+returns c = let k = c.run.ensures in let w = c.carve.ensures.step_words in record { returns = rw c.carve.ensures.result_value at k; words = (rw c.carve.ensures.result_value at w, rw c.carve.ensures.result_value at k) }

@@ -1,0 +1,9 @@
+pub mod Calls
+pub mod Domains
+pub mod Examples
+pub mod Hand
+pub mod Queue
+pub mod Reading
+pub mod Records
+pub mod Turns
+pub mod Whole

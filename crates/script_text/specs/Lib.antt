@@ -1,0 +1,4 @@
+pub mod Domains
+pub mod Records
+pub mod ScriptText
+pub mod Turns

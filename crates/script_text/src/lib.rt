@@ -1,0 +1,3 @@
+// What the script program prints, as a definition of the bytes that it reads: mathematics only.
+
+#![tactic(auto)]
