@@ -1,4 +1,4 @@
--- What demand 3 shuts out by itself (document 01, "Shut out": "3 also the first and the invented reach"): an engine whose carve with other rights
+-- Of the model demand 3 holds; of the two engines of specs/ShutOut it does not, by one list of calls each.
 use Rattle.std.specs.Prelude.{◌≡◌, refl, ℕ, List, [], ◌∷◌, map}
 use Rattle.std.proofs.Math.Option.{none}
 use Rattle.std.proofs.Common.{arith}

@@ -1,3 +1,3 @@
-// No code: the book of demand 3 and the proof of its claims, in specs/.
+// No code: the book of demand 3, in specs/, and the proof of its claims, in proofs/.
 
 #![tactic(auto)]

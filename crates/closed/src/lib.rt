@@ -1,3 +1,3 @@
-// No code: what an accepted revoke of a Management capability ends; definitions, the statement and its proof in specs/.
+// No code: what an accepted revoke of a Management capability ends; definitions and the statement in specs/, its proof in proofs/.
 
 #![tactic(auto)]

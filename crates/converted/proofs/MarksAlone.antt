@@ -1,4 +1,4 @@
--- Marks influence nothing else: from two states that are the same but for the marks of queued domains, any calls give the same answers but for a popped
+-- That marks influence nothing else, as specs/MarksAlone says it: call by call.
 use Rattle.std.specs.Prelude.{◌≡◌, refl, ◌+◌, ◌%◌, List, [], ◌∷◌, map, length}
 use Rattle.std.proofs.Common.{sym, ap, ap₂, subst, ◌∙◌, arith}
 use Rattle.std.proofs.Math.Option.{Option, some}

@@ -1,4 +1,4 @@
--- "demand 3's list goes on through them" (document 02, request 2): from a making before request 4 on, through calls, the converter and any calls since,
+-- That demand 3's list goes on through a conversion, as specs/Theorem says it.
 use Rattle.std.specs.Prelude.{◌≡◌, refl, ℕ, List, length}
 use Rattle.std.proofs.Common.{sym, ap, subst, ◌∙◌}
 use Rattle.refusals.specs.declared.Refusal.{Refusal}

@@ -1,3 +1,3 @@
-// No code: what a domain's word and its freeze do; definitions and proof in specs/.
+// No code: what a domain's word and its freeze do; definitions in specs/, proofs in proofs/.
 
 #![tactic(auto)]

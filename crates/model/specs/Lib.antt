@@ -1,5 +1,5 @@
 -- The trusted text. Read this head first. Who has questions then goes by the table in docs/STATEMENTS.md; who reads all goes on with Rights.antt of crate
--- rights, Refusals.antt of crate refusals and the files in the order given there. What module `Checked` has is proved of them.
+-- rights, Refusals.antt of crate refusals and the files in the order given there. What is in proofs/Checked is proved of them.
 --
 -- What it is about. A domain runs a supplier's program. The platform gives it roots: ranges of addresses with rights. Of a region that it owns a domain makes
 -- aliases (parent and alias both count there) and carves (the parent counts there no more), sends them to other domains, and revokes them with all below.
@@ -18,7 +18,7 @@
 --   (x : A) × P x             there is an x with P x (in other crates); a record of a value and facts says likewise: there is one for which they hold
 --   (x : A) → P x             for every x. Arguments in braces, as {A : Type 0}, are left out where f is used
 --   module _ (x : A) where    each definition below takes x first, and leaves it out where it uses another one of them
---   record R where a : A      a value with named parts, or facts that all hold; x.a is that part, also behind a call: f x .a is the part a of f x
+--   record R where a : A      a value with named parts, or facts that all hold; x.a is that part, and (f x).a that of f x; f x.a is f of x.a
 --   data D where c : A → D    a D is one of the forms listed; where D says a fact, it holds by one of the rules listed
 --   (x, y) and A × B          a pair, and the type of pairs; p.0 and p.1 are its halves. Between two facts × is "and"
 --   record { a = x; .. }      the record with these parts.  let x = e in f  is f with e for x
@@ -29,9 +29,10 @@
 --   zero, suc n               0 and n + 1
 --   x ≡ y, x ≢ y, ¬ P, ⊥, T b  equal, not equal; not; what nothing proves; the test b holds. Unit {0} is the fact that always holds, tt says so
 --   eqb, ltb, leb, &&, ||     the tests =, <, ≤; and, or of tests
--- `abbrev`, `unfoldable`, `pub`, `infix`, {ℓ}, Type 0, « » and a type's name before a form's (`Step.Open`) matter to the checker alone. `use` lines tell in
--- which file a name stands; lib, mathlib and Prim are the kit's.
--- At their edges: get_or l i d is d past the end of l, and get_elem? l i is none; set l i x is l past its end; Option·getD o d is d where o is none; m - n is 0
+--   if b then x else y        x where the test b holds, else y; cond b x y is the same
+-- `abbrev`, `unfoldable`, `pub`, `infix`, {ℓ}, Type 0 and a type's name before a form's (`Step.Open`) matter to the checker alone. `use` lines tell in
+-- which file a name stands; Rattle.std, mathlib, native, borrow and Prim are the kit's.
+-- At their edges: get_or l i d is d past the end of l, and get_elem? l i is none; set l i x is l past its end; Option.get_or o d is d where o is none; m - n is 0
 -- where n is more than m; m / n is without the rest, which is m % n. Arithmetic signs of one rank are done from left to right. flat_map f l is the lists f x one
 -- behind the other. A refusal r is its number, r.0. Records have no update: a function that changes one part says the others again, each
 -- from the old value.

@@ -1,4 +1,4 @@
--- Pieces of memory as events: each starts once and ends once. The pieces that started at or below an address, less those that ended at or
+-- What is counted of events is counted of the pieces that they begin and end (specs/Events), in whatever order they are.
 use Rattle.std.specs.Prelude.{◌≡◌, refl, ℕ, ◌+◌, ◌≤◌, ◌<◌, Bool, true, false, not, ◌&&◌, List, [], ◌∷◌, T, eqb, leb, if◌then◌else◌}
 use Rattle.std.proofs.Common.{ap, arith, eqb→eq, lt-ltb, le-ltb, eq-eqb, le-leb}
 use Rattle.std.proofs.lemmas.Bool.{lt-leb}
