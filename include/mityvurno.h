@@ -109,13 +109,14 @@
  * something takes up to 4 and 32 more, for a copy of the tables and its own work. But a revoke takes longer the more regions die by it: at
  * the largest sizes 0.1 to 1.4 milliseconds with 1,022 parts of one region, and 1.1 for the close of 31 domains with 32 aliases each. Lent
  * words that are refused take about as long as sound ones at most. bench/README.md has the measurements, and what they were made on.
- * These figures, those of the stack below and those at each call were measured with the kit before rattle-kit-13f; not measured again.
+ * These figures and those at each call were measured with the kit before rattle-kit-13f. With that kit and on another machine, where the
+ * Rust engine takes twice as long, calls take up to two and a half times as long.
  *
  * Of its host the archive asks for memcpy and memset, nothing else; it uses SSE registers and the red zone, the 128 bytes below the stack
  * pointer: code that interrupts a call must not write there, so it needs a stack of its own. Stack, measured at the largest sizes
- * (bench/stack): up to 41 KiB for a call, 66 KiB for a revoke, and some 110 bytes more for each level of the tree: 176 KiB for 1,023
- * regions, each below the other. Closing 31 domains, each below the other, takes no more: 176 KiB with 1,023 regions below the
- * innermost. Small tables take the same but for the levels: at 4 domains, 8 slots, 8 regions, 29 records and 12 updates 41 and 66 KiB. */
+ * (bench/stack): up to 61 KiB for a call, 81 KiB for a revoke, and some 64 bytes more for each level of the tree: 144 KiB for 1,023
+ * regions, each below the other. Closing 31 domains, each below the other, takes no more: 136 KiB with 1,023 regions below the
+ * innermost. Small tables take the same but for the levels: at 4 domains, 8 slots, 8 regions, 29 records and 12 updates 61 and 81 KiB. */
 #ifndef MITYVURNO_H
 #define MITYVURNO_H
 

@@ -8,7 +8,7 @@ use std::process::{Command, ExitCode};
 /// The folder that has the library, before all other places.
 const VARIABLE: &str = "MITYVURNO_LIB_DIR";
 
-/// The library's names: installed, and as `rt lib` writes it.
+/// The library's names: installed, and as tools/archive writes it.
 const NAMES: [&str; 2] = ["mityvurno", "engine_c"];
 
 fn main() -> ExitCode {
@@ -58,7 +58,7 @@ fn find() -> Result<(PathBuf, &'static str), String> {
         return Ok(found);
     }
     if repository.join("crates.txt").is_file() && prove(repository)? {
-        return in_folder(&written).ok_or_else(|| format!("`rt lib` has not written {}", library(&written, "engine_c").display()));
+        return in_folder(&written).ok_or_else(|| format!("tools/archive has not written {}", library(&written, "engine_c").display()));
     }
     installed().and_then(|folder| in_folder(&folder)).ok_or_else(|| missing(&library(&written, "engine_c")))
 }
@@ -79,20 +79,21 @@ fn missing(written: &Path) -> String {
     format!(
         "the static library is not there. Do one of these:\n  \
          - set {VARIABLE} to the folder that has libmityvurno.a or libengine_c.a;\n  \
-         - run `rt lib` in the repository's crates/engine_c, which writes {};\n  \
+         - run tools/archive in the repository, which writes {};\n  \
          - install the library so that `pkg-config --variable=libdir mityvurno` names its folder",
         written.display()
     )
 }
 
-/// Has the library proved and written; false where `rt` is not found.
+/// Has the library proved and written; false where tools/archive says with status 2 that it can't begin: `rt` is missing.
 fn prove(repository: &Path) -> Result<bool, String> {
-    match Command::new("rt").arg("lib").current_dir(repository.join("crates/engine_c")).output() {
-        Err(_) => Ok(false),
-        Ok(run) if run.status.success() => Ok(true),
-        Ok(run) => {
+    let run = Command::new(repository.join("tools/archive")).output().map_err(|e| format!("tools/archive: {e}"))?;
+    match run.status.code() {
+        Some(0) => Ok(true),
+        Some(2) => Ok(false),
+        _ => {
             let said = [run.stdout, run.stderr].concat();
-            Err(format!("`rt lib` in crates/engine_c ended with {}:\n{}", run.status, String::from_utf8_lossy(&said)))
+            Err(format!("tools/archive ended with {}:\n{}", run.status, String::from_utf8_lossy(&said)))
         }
     }
 }

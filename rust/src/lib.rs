@@ -94,14 +94,14 @@
 //! # What the library asks of its host
 //!
 //! x86-64, `memcpy` and `memset`, SSE registers, and the red zone: the 128 bytes below the stack pointer, where code that interrupts a call must not
-//! write. Stack: 41 KiB for a call and 66 for a revoke, whatever the sizes, and more for each level of the tree: 176 KiB at the largest sizes
-//! (include/mityvurno.h, which has the costs, too). Measured with the kit before rattle-kit-13f; not measured again.
+//! write. Stack: 61 KiB for a call and 81 for a revoke, whatever the sizes, and more for each level of the tree: 144 KiB at the largest sizes
+//! (include/mityvurno.h, which has the costs, too).
 //!
 //! # Where the library is found
 //!
 //! The build script takes the first of these: `libmityvurno.a` or `libengine_c.a` in the folder that the environment variable `MITYVURNO_LIB_DIR` names;
 //! `crates/engine_c/out/libengine_c.a` in the repository that this crate stands in, or `lib/libmityvurno.a` in the release; the first of these two once
-//! `rt lib` has written it there, where `rt` is found; the folder that pkg-config names for `mityvurno`.
+//! `tools/archive` has written it there, where `rt` is found; the folder that pkg-config names for `mityvurno`.
 #![no_std]
 #![deny(unsafe_code)]
 #![warn(missing_docs)]
