@@ -4,9 +4,5 @@
 
 use refusals::Refusal;
 
-// A value, 0 where there is none; or a refusal. It stands for `Result` of the source.
-#[derive(Clone, Copy)]
-pub enum Answer {
-    Done(u64),
-    Refused(Refusal),
-}
+// A value, 0 where there is none; or a refusal.
+pub type Answer = Result<u64, Refusal>;

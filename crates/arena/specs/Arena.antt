@@ -1,13 +1,11 @@
 -- The free list and the generations of a pool (free_list.rs, gen_arena.rs; document 01, "Arenas").
-use Rattle.std.specs.Prelude.{Bool, List, [], ◌∷◌, ℕ, zero, suc, ◌+◌, ◌-◌, ◌%◌, ◌^◌, ltb, eqb, length, get_or, set, replicate}
+use Rattle.std.specs.Prelude.{Bool, Option, Some, None, Result, Ok, Err, List, [], ◌∷◌, ℕ, zero, suc, ◌+◌, ◌-◌, ◌%◌, ◌^◌, ltb, eqb, length, get_or, set, replicate}
 use Rattle.base.specs.Cases.{pick}
 use Rattle.base.specs.Tests.{both}
 use Rattle.tables.specs.declared.Handle.{Handle}
 use Rattle.tables.specs.Tables.{Arena}
-use Rattle.arena.specs.declared.Given.{Given}
-use Rattle.arena.specs.declared.Given.TheVariants.{At, Full}
-use Rattle.arena.specs.declared.Freed.{Freed}
-use Rattle.arena.specs.declared.Freed.TheVariants.{Done, Spent, NotHeld}
+use Rattle.refusals.specs.declared.Refusal.{Refusal}
+use Rattle.refusals.specs.Refusals.{memory, spent}
 
 -- ---- one word changed
 
@@ -42,8 +40,12 @@ capacity_of a = length a.links - a.count
 unfoldable pub head_link : Arena → ℕ
 head_link a = pick (ltb a.count (length a.links)) (get_or a.links a.head 0) 0
 
+-- the slot that is given, none where all are in use
+abbrev pub Given : Type 0
+Given = Option Handle
+
 unfoldable pub given : Arena → Given
-given a = pick (ltb 0 (head_link a)) (At (record { slot = a.head; generation = get_or a.gens a.head 0 })) Full
+given a = pick (ltb 0 (head_link a)) (Some (record { slot = a.head; generation = get_or a.gens a.head 0 })) None
 
 -- the slot that is given is in use, and the one after it is the head
 abbrev pub taken : Arena → Arena
@@ -62,8 +64,12 @@ held_b a i = both (both (ltb i (length a.links)) (ltb a.head (length a.links))) 
 unfoldable pub raisable_b : Arena → ℕ → Bool
 raisable_b a i = ltb (get_or a.gens i 0) (2 ^ 64 - 1)
 
+-- 16 where its generation cannot be raised, 1 where it is not in use
+abbrev pub Freed : Type 0
+Freed = Result (Unit {0}) Refusal
+
 unfoldable pub answer_to : Arena → ℕ → Freed
-answer_to a i = pick (held_b a i) (pick (raisable_b a i) Done Spent) NotHeld
+answer_to a i = pick (held_b a i) (pick (raisable_b a i) (Ok tt) (Err spent)) (Err memory)
 
 -- slot i is the head, with the old head after it and the next generation
 abbrev pub pushed : Arena → ℕ → Arena

@@ -1,5 +1,6 @@
 // `FreeList` and `GenArena` over a length n, in 2 + 2n words: head, count, n links, n generations (document 01, "Arenas").
 // A link is 0 where the slot is in use, and k + 1 where it is free and slot k comes after it. What allocates and frees is crate `free_list`'s.
+// Words and number of slots stay two arguments: a struct with a `&mut` owes in each contract that it keeps the borrow.
 
 #![tactic(auto)]
 
@@ -9,21 +10,6 @@ ghost use Rattle.sizes.specs.Sizes.{pool_width};
 ghost use Rattle.arena.specs.Arena.{with_top, with_link, with_gen, is_free_b, live_b, capacity_of};
 
 use tables::Handle;
-
-// What allocating answers.
-#[derive(Clone, Copy)]
-pub enum Given {
-    At(Handle),
-    Full,
-}
-
-// What freeing answers: `Spent` where the generation cannot be raised, `NotHeld` where the slot is not in use.
-#[derive(Clone, Copy)]
-pub enum Freed {
-    Done,
-    Spent,
-    NotHeld,
-}
 
 // ---- The words by their meaning
 
@@ -85,7 +71,7 @@ pub fn is_live(p: &[u64], n: usize, h: Handle) -> bool
     let i = h.slot as usize;
     let used = link(p, n, i) == 0;
     let same = generation(p, n, i) == h.generation;
-    words::both(i < n, words::both(used, same))
+    i < n && (used && same)
 }
 
 // How many slots are left.
@@ -94,5 +80,5 @@ pub fn capacity(p: &[u64], n: usize) -> usize
     ensures { result ≡ capacity_of (arena_of n p.now) }
 {
     let count = words::size(p, 1);
-    if count < n { n - count } else { 0 }
+    n.saturating_sub(count)
 }

@@ -1,5 +1,5 @@
 -- What an exported step answers and leaves: the engine's step where the length is right, else nothing.
-use Rattle.std.specs.Prelude.{ℕ, ◌≡◌, refl, Bool, true, false, List, eqb, length}
+use Rattle.std.specs.Prelude.{ℕ, ◌≡◌, refl, Bool, true, false, List, eqb, length, Option, Some, None, Ok, Err}
 use Rattle.std.proofs.Common.{sym, ◌∙◌}
 use borrow.Author.Tests.{eq-eqb, ne_eqb}
 use Rattle.base.specs.Cases.{pick}
@@ -12,13 +12,10 @@ use Rattle.sizes.specs.Tests.{sized_b}
 use Rattle.sizes.specs.Sizes.{total}
 use Rattle.tables.specs.View.{layout, Left}
 use Rattle.tables.specs.Layout.{words_are}
-use Rattle.arena.specs.declared.Given.{Given}
-use Rattle.arena.specs.declared.Given.TheVariants.{At as AtHandle, Full as NoneFree}
-use Rattle.arena.specs.declared.Freed.{Freed}
-use Rattle.arena.specs.declared.Freed.TheVariants.{Done, Spent, NotHeld}
+use Rattle.tables.specs.declared.Handle.{Handle}
+use Rattle.arena.specs.Arena.{Freed}
+use Rattle.ring.specs.declared.Entry.{Entry}
 use Rattle.making.specs.Empty.{empty}
-use Rattle.slot_list.specs.declared.Inserted.{Inserted}
-use Rattle.slot_list.specs.declared.Inserted.TheVariants.{At, Full}
 
 -- the answer where there is none
 abbrev pub nothing : ℕ
@@ -29,18 +26,21 @@ nothing = 18446744073709551615
 abbrev pub flag_of : Bool → ℕ
 flag_of b = pick b 1 0
 
-abbrev pub inserted_of : Inserted → ℕ
-inserted_of (At i) = i
-inserted_of Full = nothing
+abbrev pub inserted_of : Option ℕ → ℕ
+inserted_of (Some i) = i
+inserted_of None = nothing
 
-abbrev pub given_of : Given → ℕ
-given_of (AtHandle h) = h.slot
-given_of NoneFree = nothing
+abbrev pub given_of : Option Handle → ℕ
+given_of (Some h) = h.slot
+given_of None = nothing
 
 abbrev pub freed_of : Freed → ℕ
-freed_of Done = 1
-freed_of Spent = 0
-freed_of NotHeld = 0
+freed_of (Ok u) = 1
+freed_of (Err r) = 0
+
+abbrev pub popped_of : Option Entry → ℕ
+popped_of (Some e) = e.update.kind
+popped_of None = 0
 
 abbrev pub capa_of : ℕ → ℕ → ℕ → Slot
 capa_of k s g = record { kind = k; handle = record { slot = s; generation = g } }

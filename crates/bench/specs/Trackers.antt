@@ -1,19 +1,18 @@
 -- What the steps on a domain's tracker answer and leave.
-use Rattle.std.specs.Prelude.{◌≡◌, Bool, true, false, List, [], ◌∷◌, ℕ}
+use Rattle.std.specs.Prelude.{◌≡◌, Bool, true, false, List, [], ◌∷◌, ℕ, Ok, Err}
 use Rattle.std.proofs.Math.Path.{refl}
 use Rattle.std.proofs.Common.{sym, ◌∙◌}
 use Rattle.base.specs.Cases.{pick}
 use Rattle.sizes.specs.Tests.{sized_b}
-use Rattle.answers.specs.declared.Answer.{Answer}
-use Rattle.answers.specs.declared.Answer.TheVariants.{Done, Refused}
+use Rattle.answers.specs.Answers.{Answer}
 use Rattle.region.specs.declared.AccessRights.{AccessRights}
 use Rattle.readings.specs.declared.Permission.{Permission}
 use Rattle.readings.specs.Readings.{fill_run}
 use Rattle.bench.specs.Steps.{nothing, reply}
 
 abbrev pub change_of : Answer → ℕ
-change_of (Done v) = v
-change_of (Refused r) = nothing
+change_of (Ok v) = v
+change_of (Err r) = nothing
 
 abbrev pub access_of : ℕ → ℕ → ℕ → AccessRights
 access_of s e r = record { start = s; end = e; ops = record { 0 = r } }

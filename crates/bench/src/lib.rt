@@ -5,7 +5,6 @@
 
 ghost use Rattle.std.specs.Prelude.{◌≡◌, length, replicate};
 ghost use Rattle.words.specs.Copies.{copied};
-ghost use Rattle.sizes.specs.Limits.{limits_b};
 ghost use Rattle.tables.specs.Tables.{with_region_pool};
 ghost use Rattle.tables.specs.View.{view};
 ghost use Rattle.arena.specs.Arena.{given, allocated, answer_to};
@@ -17,14 +16,15 @@ ghost use Rattle.slots.specs.Capas.{with_capa, without_capa};
 ghost use Rattle.ring.specs.Ring.{cleanup_of, push_of, pop_of};
 ghost use Rattle.ring_search.specs.Queueing.{queue_of};
 ghost use Rattle.stored_ring.specs.Stored.{ring_of, with_ring_of};
-ghost use Rattle.bench.specs.Steps.{nothing, flag_of, inserted_of, given_of, freed_of, capa_of, sizes_of, reply, left, makes, made};
+ghost use Rattle.bench.specs.Steps.{flag_of, inserted_of, given_of, freed_of, popped_of, capa_of, sizes_of, reply, left, makes, made};
 
 pub mod trackers;
 
-use arena::{Freed, Given};
+use pools::Pool;
+use refusals::Refusal;
+use ring::Entry;
 use sizes::Sizes;
-use slot_list::Inserted;
-use tables::{Handle, Slot};
+use tables::{Handle, Slot, Update};
 
 pub const NOTHING: u64 = 18446744073709551615;
 
@@ -36,31 +36,39 @@ fn flag(b: bool) -> u64
     if b { 1 } else { 0 }
 }
 
-fn inserted(x: Inserted) -> u64
+fn inserted(x: Option<usize>) -> u64
     ensures { result ≡ inserted_of x }
 {
     match x {
-        Inserted::At(i) => i as u64,
-        Inserted::Full => NOTHING,
+        Some(i) => i as u64,
+        None => NOTHING,
     }
 }
 
-fn given_slot(x: Given) -> u64
+fn given_slot(x: Option<Handle>) -> u64
     ensures { result ≡ given_of x }
 {
     match x {
-        Given::At(h) => h.slot,
-        Given::Full => NOTHING,
+        Some(h) => h.slot,
+        None => NOTHING,
     }
 }
 
-fn freed(x: Freed) -> u64
+fn freed(x: Result<(), Refusal>) -> u64
     ensures { result ≡ freed_of x }
 {
     match x {
-        Freed::Done => 1,
-        Freed::Spent => 0,
-        Freed::NotHeld => 0,
+        Ok(()) => 1,
+        Err(_) => 0,
+    }
+}
+
+fn popped(x: Option<Entry>) -> u64
+    ensures { result ≡ popped_of x }
+{
+    match x {
+        Some(e) => e.update.kind,
+        None => Update::NOTHING,
     }
 }
 
@@ -128,12 +136,11 @@ pub extern "C" fn bench_push(t: &mut [u64], start: u64, end: u64) -> u64
 // The kind of the update that is popped, 0 for none.
 #[unsafe(no_mangle)]
 pub extern "C" fn bench_pop(t: &mut [u64]) -> u64
-    ensures { (result ≡ reply t.old (pop_of (ring_of (view t.old))).item.entry.update.kind)
+    ensures { (result ≡ reply t.old (popped_of (pop_of (ring_of (view t.old))).item))
         × (t.new ≡ left t.old (with_ring_of (view t.old) (pop_of (ring_of (view t.old))).ring)) }
 {
     if sizes::is_sized(t) {
-        let item = update::pop_update(t);
-        return item.entry.update.kind;
+        return popped(update::pop_update(t));
     }
     NOTHING
 }
@@ -146,7 +153,7 @@ pub extern "C" fn bench_allocate(t: &mut [u64]) -> u64
         × (t.new ≡ left t.old (with_region_pool (view t.old) (allocated (view t.old).region_pool))) }
 {
     if sizes::is_sized(t) {
-        return given_slot(pools::allocate_region(t));
+        return given_slot(pools::allocate(t, Pool::Regions));
     }
     NOTHING
 }
@@ -157,7 +164,7 @@ pub extern "C" fn bench_free(t: &mut [u64], i: usize) -> u64
         × (t.new ≡ left t.old (slot_freed (view t.old) Pool.Regions i)) }
 {
     if sizes::is_sized(t) {
-        return freed(pools::free_region(t, i));
+        return freed(pools::free(t, Pool::Regions, i));
     }
     NOTHING
 }

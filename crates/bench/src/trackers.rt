@@ -17,8 +17,8 @@ fn change(x: Answer) -> u64
     ensures { result ≡ change_of x }
 {
     match x {
-        Answer::Done(v) => v,
-        Answer::Refused(r) => NOTHING,
+        Ok(v) => v,
+        Err(r) => NOTHING,
     }
 }
 
@@ -76,15 +76,11 @@ fn list(t: &[u64], d: usize, run: &mut [u64]) -> u64
     ensures { (result ≡ length (permission_list (view t.now) d)) × (run.new ≡ fill_run (words_of (permission_list (view t.now) d)) run.old) }
 {
     let p = readings::plan_of(t, d, 1024);
-    let mut left = p.turns;
     let mut at = p.at;
-    let mut i: usize = 0;
-    while 0 < left {
+    for k in 0..p.turns {
         let f = readings::found_at(t, at);
-        put_permission(run, i, f.p);
+        put_permission(run, 3 * k, f.p);
         at = f.next;
-        i += 3;
-        left -= 1;
     }
     p.answer
 }

@@ -1,7 +1,6 @@
--- A number of some bytes, byte by byte and half by half. Past the end every byte counts as 0, so no law asks how many bytes there are.
-use Rattle.std.specs.Prelude.{◌≡◌, refl, ℕ, zero, suc, ◌+◌, ◌*◌, ◌<◌, ◌^◌, List, [], ◌∷◌, get_or, take, drop}
-use Rattle.std.proofs.Common.{add-one, arith}
-use Rattle.std.proofs.Math.Numerals.{add-two, add-four}
+-- A number of some bytes, byte by byte. Past the end every byte counts as 0, so no law asks how many bytes there are.
+use Rattle.std.specs.Prelude.{◌≡◌, refl, ℕ, zero, suc, ◌+◌, ◌-◌, ◌*◌, ◌≤◌, ◌<◌, ◌^◌, List, [], ◌∷◌, get_or, take, drop}
+use Rattle.std.proofs.Common.{arith, pow-suc}
 
 -- The lowest byte stands first.
 abbrev pub number : List ℕ → ℕ
@@ -26,26 +25,20 @@ number_at n (suc a) [] = none-at n
 number_at n zero (x ∷ l) = refl
 number_at n (suc a) (x ∷ l) = number_at n a l
 
-module _ (a : ℕ) (l : List ℕ) where
-  pub number-two : number (take 2 (drop a l)) ≡ get_or l a 0 + 256 * get_or l (a + 1) 0
-  number-two = rw (add-one a) (omega (arith, number_at 1 a l, number_at 0 (suc a) l))
+-- read from the last byte on: a byte more in front of e - k bytes
+pub number_more : (l : List ℕ) (e k n x : ℕ) → 0 < k → k ≤ e → x ≡ get_or l (k - 1) 0 → n ≡ number (take (e - k) (drop k l)) → 256 * n + x ≡ number (take (e - (k - 1)) (drop (k - 1) l))
+number_more l e k n x low high h g =
+    let f : e - (k - 1) ≡ suc (e - k) = omega arith in
+    let s : suc (k - 1) ≡ k = omega arith in
+    let t = number_at (e - k) (k - 1) l in
+    rw f (omega (arith, rw s at t))
 
-  pub number-four : number (take 4 (drop a l)) ≡ number (take 2 (drop a l)) + 65536 * number (take 2 (drop (a + 2) l))
-  number-four = rw (add-two a) (omega (arith, number_at 3 a l, number_at 2 (suc a) l, number_at 1 a l, number_at 0 (suc a) l))
-
-  pub number-eight : number (take 8 (drop a l)) ≡ number (take 4 (drop a l)) + 4294967296 * number (take 4 (drop (a + 4) l))
-  number-eight =
-      rw (add-four a)
-      (omega (arith, number_at 7 a l, number_at 6 (suc a) l, number_at 5 (suc (suc a)) l, number_at 4 (suc (suc (suc a))) l, number_at 3 a l, number_at 2 (suc a) l, number_at 1 (suc (suc a)) l, number_at 0 (suc (suc (suc a))) l))
-
--- ---- what two, four and eight bytes can say
+-- ---- what n bytes can say
 
 module _ (l : List ℕ) (h : Bytes l) where
-  two_fits : (a : ℕ) → number (take 2 (drop a l)) < 2 ^ 16
-  two_fits a = omega (arith, number-two a l, h a, h (a + 1))
-
-  four-fits : (a : ℕ) → number (take 4 (drop a l)) < 2 ^ 32
-  four-fits a = omega (arith, number-four a l, two_fits a, two_fits (a + 2))
+  pub number_fits : (n a : ℕ) → number (take n (drop a l)) < 256 ^ n
+  number_fits zero a = omega arith
+  number_fits (suc n) a = rw (number_at n a l, pow-suc) (omega (arith, number_fits n (suc a), h a))
 
   pub eight_fits : (a : ℕ) → number (take 8 (drop a l)) < 2 ^ 64
-  eight_fits a = omega (arith, number-eight a l, four-fits a, four-fits (a + 4))
+  eight_fits a = number_fits 8 a

@@ -45,10 +45,10 @@ fn hash_of(h: &[u8; 32]) -> Hash
     ensures { result ≡ record { word0 = (hash_in h.now).word0; word1 = (hash_in h.now).word1; word2 = (hash_in h.now).word2; word3 = (hash_in h.now).word3 } }
 {
     Hash {
-        word0: byte_numbers::eight(h, 0),
-        word1: byte_numbers::eight(h, 8),
-        word2: byte_numbers::eight(h, 16),
-        word3: byte_numbers::eight(h, 24),
+        word0: byte_numbers::number_at::<8>(h, 0),
+        word1: byte_numbers::number_at::<8>(h, 8),
+        word2: byte_numbers::number_at::<8>(h, 16),
+        word3: byte_numbers::number_at::<8>(h, 24),
     }
 }
 

@@ -27,7 +27,7 @@ fn number_of(wrong: usize, base: usize, n: usize, i: u64) -> usize
 fn names(l: u64, d: usize) -> bool
     ensures { result ≡ names_b l d }
 {
-    if 0 < l { l - 1 == d as u64 } else { false }
+    0 < l && l - 1 == d as u64
 }
 
 fn wrong_of(z: Sizes) -> usize
@@ -38,61 +38,70 @@ fn wrong_of(z: Sizes) -> usize
 }
 
 // Whether the handle's slot is in use and has its generation.
+#[tactic(auto, unfolding(arena::specs::Arena::live_b))]
 fn is_live(l: &[u64], g: &[u64], h: Handle) -> bool
     ensures { result ≡ live_b (pooled l.now g.now) h }
 {
     let i = h.slot as usize;
-    let used = words::word(l, i) == 0;
-    let same = words::word(g, i) == h.generation;
-    words::both(i < l.len(), words::both(used, same))
+    i < l.len() && words::word(l, i) == 0 && words::word(g, i) == h.generation
 }
 
 // What a handle claims, `live` where it is live.
+#[tactic(auto, unfolding(crate::specs::CapaClaims::claim_by))]
 fn claim_by(l: &[u64], g: &[u64], wrong: usize, h: Handle, live: usize) -> usize
     ensures { result ≡ claim_by wrong (pooled l.now g.now) h live }
 {
-    let lives = is_live(l, g, h);
-    let older = h.generation < words::word(g, h.slot as usize);
-    claims::select(lives, live, claims::select(older, 0, wrong))
+    if is_live(l, g, h) {
+        live
+    } else if h.generation < words::word(g, h.slot as usize) {
+        0
+    } else {
+        wrong
+    }
 }
 
+#[tactic(auto, unfolding(crate::specs::CapaClaims::region_claim))]
 fn region_claim(z: Sizes, rl: &[u64], rg: &[u64], r: &[u64], d: usize, h: Handle) -> usize
     requires { Limits z }
     ensures { result ≡ region_claim z (pooled rl.now rg.now) (region_in r.now) d h }
 {
     let bad = wrong_of(z);
-    let row = sections::region_in(r, h.slot as usize);
-    let own = names(row.owner, d);
-    let it = number_of(bad, 0, z.regions, h.slot);
-    claim_by(rl, rg, bad, h, claims::select(own, it, bad))
+    let row = sections::row_in::<RegionCapa>(r, h.slot as usize);
+    let own = if names(row.owner, d) {
+        number_of(bad, 0, z.regions, h.slot)
+    } else {
+        bad
+    };
+    claim_by(rl, rg, bad, h, own)
 }
 
+#[tactic(auto, unfolding(crate::specs::CapaClaims::revoke_claim))]
 fn revoke_claim(z: Sizes, rl: &[u64], rg: &[u64], r: &[u64], h: Handle) -> usize
     requires { Limits z }
     ensures { result ≡ revoke_claim z (pooled rl.now rg.now) (region_in r.now) h }
 {
     let bad = wrong_of(z);
-    let row = sections::region_in(r, h.slot as usize);
-    claim_by(
-        rl,
-        rg,
-        bad,
-        h,
-        claims::select(row.kind == RegionCapa::ROOT, bad, 0),
-    )
+    let row = sections::row_in::<RegionCapa>(r, h.slot as usize);
+    let own = if row.kind == RegionCapa::ROOT { bad } else { 0 };
+    claim_by(rl, rg, bad, h, own)
 }
 
+#[tactic(auto, unfolding(crate::specs::CapaClaims::management_claim))]
 fn management_claim(z: Sizes, dl: &[u64], dg: &[u64], p: &[u64], d: usize, h: Handle) -> usize
     requires { Limits z }
     ensures { result ≡ management_claim z (pooled dl.now dg.now) (manager_in z p.now) d h }
 {
     let bad = wrong_of(z);
     let manager = managers::manager_in(z, p, h.slot as usize);
-    let own = names(manager, d);
-    let it = number_of(bad, z.regions, z.domains, h.slot);
-    claim_by(dl, dg, bad, h, claims::select(own, it, bad))
+    let own = if names(manager, d) {
+        number_of(bad, z.regions, z.domains, h.slot)
+    } else {
+        bad
+    };
+    claim_by(dl, dg, bad, h, own)
 }
 
+#[tactic(auto, unfolding(crate::specs::CapaClaims::slot_claim))]
 pub fn slot_claim(
     z: Sizes,
     rl: &[u64],
@@ -107,30 +116,28 @@ pub fn slot_claim(
     requires { Limits z }
     ensures { result ≡ slot_claim (lent z rl.now rg.now r.now dl.now dg.now p.now) d x }
 {
-    let kind = x.kind;
     let h = x.handle;
-    if kind == Slot::REGION {
-        return region_claim(z, rl, rg, r, d, h);
+    match x.kind {
+        Slot::REGION => region_claim(z, rl, rg, r, d, h),
+        Slot::REGION_REVOKE => revoke_claim(z, rl, rg, r, h),
+        Slot::MANAGEMENT => management_claim(z, dl, dg, p, d, h),
+        Slot::CHANNEL => claim_by(dl, dg, wrong_of(z), h, 0),
+        _ => 0,
     }
-    if kind == Slot::REGION_REVOKE {
-        return revoke_claim(z, rl, rg, r, h);
-    }
-    if kind == Slot::MANAGEMENT {
-        return management_claim(z, dl, dg, p, d, h);
-    }
-    if kind == Slot::CHANNEL {
-        return claim_by(dl, dg, wrong_of(z), h, 0);
-    }
-    0
 }
 
+#[tactic(auto, unfolding(crate::specs::CapaClaims::head_claim))]
 pub fn head_claim(z: Sizes, p: &[u64], d: usize) -> usize
     requires { Limits z }
     ensures { result ≡ head_claim z (manager_in z p.now) d }
 {
     let bad = wrong_of(z);
     let manager = managers::manager_in(z, p, d);
-    let end = managers::climb(z, p, z.domains, manager);
-    let it = number_of(bad, z.regions, z.domains, d as u64);
-    claims::select(end == 0, claims::select(manager == 0, it, 0), bad)
+    if managers::climb(z, p, z.domains, manager) != 0 {
+        bad
+    } else if manager == 0 {
+        number_of(bad, z.regions, z.domains, d as u64)
+    } else {
+        0
+    }
 }

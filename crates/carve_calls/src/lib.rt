@@ -20,12 +20,10 @@ fn exchange_rights(t: &mut [u64], d: usize, old: u64, a: AccessRights) -> Answer
 {
     let ops = a.ops;
     if old == ops.0 as u64 {
-        return Answer::Done(0);
+        return Ok(0);
     }
-    match domain::deactivate_region(t, d, segment::access(a.start, a.end, old), 0) {
-        Answer::Done(v) => domain::activate_region(t, d, a, 0),
-        Answer::Refused(r) => Answer::Refused(r),
-    }
+    domain::deactivate_region(t, d, segment::access(a.start, a.end, old), 0)?;
+    domain::activate_region(t, d, a, 0)
 }
 
 // 8, and the carve of region p.
@@ -35,16 +33,12 @@ fn carve(t: &mut [u64], d: usize, p: usize, a: AccessRights) -> Answer
     ensures left { Left t.new (carved d p a (view t.old)).tables }
 {
     if !children::check_carve(t, p, a) {
-        return Answer::Refused(Refusal::BEYOND);
+        return Err(Refusal::Beyond);
     }
-    let parent = region_rows::load_region(t, p);
-    match region_calls::add_child(t, d, p, RegionCapa::CARVE, a) {
-        Answer::Done(n) => match exchange_rights(t, d, parent.rights, a) {
-            Answer::Done(v) => Answer::Done(n),
-            Answer::Refused(r) => Answer::Refused(r),
-        },
-        Answer::Refused(r) => Answer::Refused(r),
-    }
+    let parent = rows::load::<RegionCapa>(t, p);
+    let n = region_calls::add_child(t, d, p, RegionCapa::CARVE, a)?;
+    exchange_rights(t, d, parent.rights, a)?;
+    Ok(n)
 }
 
 pub fn carve_region(t: &mut [u64], h: Handle, l: usize, a: AccessRights) -> Answer
@@ -52,14 +46,8 @@ pub fn carve_region(t: &mut [u64], h: Handle, l: usize, a: AccessRights) -> Answ
     ensures value { result ≡ (carve_region h l a (view t.old)).answer }
     ensures left { Left t.new (carve_region h l a (view t.old)).tables }
 {
-    match checks::caller_with(t, h, Interface::CARVE) {
-        Answer::Done(d) => match checks::region_held(t, d as usize, l) {
-            Answer::Done(p) => match checks::room_for_region(t, d as usize, a) {
-                Answer::Done(u) => carve(t, d as usize, p as usize, a),
-                Answer::Refused(r) => Answer::Refused(r),
-            },
-            Answer::Refused(r) => Answer::Refused(r),
-        },
-        Answer::Refused(r) => Answer::Refused(r),
-    }
+    let d = checks::caller_with(t, h, Interface::CARVE)?;
+    let p = checks::region_held(t, d as usize, l)?;
+    checks::room_for_region(t, d as usize, a)?;
+    carve(t, d as usize, p as usize, a)
 }

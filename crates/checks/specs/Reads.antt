@@ -1,5 +1,5 @@
 -- The checks that only read: the tables stay.
-use Rattle.std.specs.Prelude.{◌≡◌, Bool, true, false, List, ℕ, eqb}
+use Rattle.std.specs.Prelude.{◌≡◌, Bool, true, false, List, ℕ, eqb, Ok, Err}
 use Rattle.std.proofs.Math.Path.{refl}
 use Rattle.std.proofs.Common.{sym, ◌∙◌}
 use Rattle.base.specs.Cases.{pick}
@@ -8,11 +8,9 @@ use Rattle.tables.specs.declared.Slot.{Slot}
 use Rattle.tables.specs.Tables.{Tables, interface_at}
 use Rattle.tables.specs.View.{view, Sized}
 use Rattle.arena.specs.Arena.{live_b}
-use Rattle.answers.specs.declared.Answer.{Answer}
+use Rattle.answers.specs.Answers.{Answer, Effect, done, refused, and_then, then-done}
 use Rattle.rights.specs.Rights.{has}
-use Rattle.answers.specs.declared.Answer.TheVariants.{Done, Refused}
 use Rattle.refusals.specs.Refusals.{not_allowed}
-use Rattle.answers.specs.Answers.{Effect, done, refused, and_then, then-done}
 use Rattle.slots.specs.Capas.{capa_at}
 use Rattle.answers.specs.Then.{Realizes, read}
 use Rattle.checks.specs.Checks.{live_domain, caller_with, live_region, as_region, as_target, region_held, target_held}
@@ -27,8 +25,8 @@ domain-kept h s = either (live_b s.domain_pool h) _ _ s refl refl
 
 then-kept : (a : Answer) (s : Tables) (f : ℕ → Tables → Effect) → ((v : ℕ) → (f v s).tables ≡ s) → (and_then (record { answer = a; tables = s }) f).tables ≡ s
 unfolding and_then
-then-kept (Done v) s f h = h v
-then-kept (Refused r) s f h = refl
+then-kept (Ok v) s f h = h v
+then-kept (Err r) s f h = refl
 
 caller-kept : (bit : ℕ) (h : Handle) (s : Tables) → (caller_with bit h s).tables ≡ s
 unfolding caller_with and_then
@@ -36,7 +34,7 @@ caller-kept bit h s =
     rw (domain-kept h s) (then-kept (live_domain h s).answer s _ (λ v. either (has (interface_at s v).word bit) _ _ s refl refl))
 
 -- the caller is live: the bit decides
-pub caller-live : (bit : ℕ) (h : Handle) (s : Tables) (a : Answer) (d : ℕ) → a ≡ (live_domain h s).answer → a ≡ Done d
+pub caller-live : (bit : ℕ) (h : Handle) (s : Tables) (a : Answer) (d : ℕ) → a ≡ (live_domain h s).answer → a ≡ Ok d
     → caller_with bit h s ≡ pick (has (interface_at s d).word bit) (done d s) (refused not_allowed s)
 unfolding caller_with
 caller-live bit h s a d e y = then-done (live_domain h s) _ d (sym e ∙ y) ∙ rw (domain-kept h s)

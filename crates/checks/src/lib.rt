@@ -8,19 +8,20 @@ ghost use Rattle.rights.specs.Rights.{has};
 ghost use Rattle.checks.specs.Checks.{live_domain, caller_with, live_region, as_region, as_target, region_held, target_held, room_for_region};
 
 use answers::Answer;
+use pools::Pool;
 use refusals::Refusal;
 use region::AccessRights;
-use tables::{Handle, Slot};
+use tables::{Handle, Interface, Slot};
 
 // 3; the answer is the domain's slot.
 pub fn live_domain(t: &[u64], h: Handle) -> Answer
     requires { Sized t.now }
     ensures { result ≡ (live_domain h (view t.now)).answer }
 {
-    if pools::domain_is_live(t, h) {
-        Answer::Done(h.slot)
+    if pools::is_live(t, Pool::Domains, h) {
+        Ok(h.slot)
     } else {
-        Answer::Refused(Refusal::NO_DOMAIN)
+        Err(Refusal::NoDomain)
     }
 }
 
@@ -39,16 +40,12 @@ pub fn caller_with(t: &[u64], h: Handle, bit: u64) -> Answer
     requires { Sized t.now }
     ensures { result ≡ (caller_with bit h (view t.now)).answer }
 {
-    match live_domain(t, h) {
-        Answer::Done(d) => {
-            let interface = interface_rows::load_interface(t, d as usize);
-            if has(interface.word, bit) {
-                return Answer::Done(d);
-            }
-            Answer::Refused(Refusal::NOT_ALLOWED)
-        }
-        Answer::Refused(r) => Answer::Refused(r),
+    let d = live_domain(t, h)?;
+    let interface = rows::load::<Interface>(t, d as usize);
+    if has(interface.word, bit) {
+        return Ok(d);
     }
+    Err(Refusal::NotAllowed)
 }
 
 // 6; the answer is the region's slot.
@@ -56,10 +53,10 @@ pub fn live_region(t: &[u64], h: Handle) -> Answer
     requires { Sized t.now }
     ensures { result ≡ (live_region h (view t.now)).answer }
 {
-    if pools::region_is_live(t, h) {
-        Answer::Done(h.slot)
+    if pools::is_live(t, Pool::Regions, h) {
+        Ok(h.slot)
     } else {
-        Answer::Refused(Refusal::STALE)
+        Err(Refusal::Stale)
     }
 }
 
@@ -68,11 +65,10 @@ fn as_region(t: &[u64], x: Slot) -> Answer
     requires { Sized t.now }
     ensures { result ≡ (as_region x (view t.now)).answer }
 {
-    let handle = x.handle;
-    if x.kind == Slot::REGION {
-        return live_region(t, handle);
+    match x.kind {
+        Slot::REGION => live_region(t, x.handle),
+        _ => Err(Refusal::WrongKind),
     }
-    Answer::Refused(Refusal::WRONG_KIND)
 }
 
 // 5, 3: as a live domain to send to, by a Management or a Channel capability.
@@ -80,14 +76,10 @@ fn as_target(t: &[u64], x: Slot) -> Answer
     requires { Sized t.now }
     ensures { result ≡ (as_target x (view t.now)).answer }
 {
-    let handle = x.handle;
-    if x.kind == Slot::MANAGEMENT {
-        return live_domain(t, handle);
+    match x.kind {
+        Slot::MANAGEMENT | Slot::CHANNEL => live_domain(t, x.handle),
+        _ => Err(Refusal::WrongKind),
     }
-    if x.kind == Slot::CHANNEL {
-        return live_domain(t, handle);
-    }
-    Answer::Refused(Refusal::WRONG_KIND)
 }
 
 // 4, 5, 6: the live region that local slot l of domain d holds.
@@ -97,7 +89,7 @@ pub fn region_held(t: &[u64], d: usize, l: usize) -> Answer
 {
     let x = slots::capa_at(t, d, l);
     if x.kind == Slot::FREE {
-        return Answer::Refused(Refusal::NO_SLOT);
+        return Err(Refusal::NoSlot);
     }
     as_region(t, x)
 }
@@ -109,7 +101,7 @@ pub fn target_held(t: &[u64], d: usize, l: usize) -> Answer
 {
     let x = slots::capa_at(t, d, l);
     if x.kind == Slot::FREE {
-        return Answer::Refused(Refusal::NO_SLOT);
+        return Err(Refusal::NoSlot);
     }
     as_target(t, x)
 }
@@ -120,16 +112,12 @@ pub fn room_for_region(t: &mut [u64], d: usize, a: AccessRights) -> Answer
     ensures value { result ≡ (room_for_region d a (view t.old)).answer }
     ensures left { Left t.new (room_for_region d a (view t.old)).tables }
 {
-    if pools::region_capacity(t) == 0 {
-        return Answer::Refused(Refusal::NO_REGION);
+    if pools::capacity(t, Pool::Regions) == 0 {
+        return Err(Refusal::NoRegion);
     }
-    match domain::reserve(t, d) {
-        Answer::Done(v) => {
-            if a.start < a.end {
-                return Answer::Done(0);
-            }
-            Answer::Refused(Refusal::BAD_RANGE)
-        }
-        Answer::Refused(r) => Answer::Refused(r),
+    domain::reserve(t, d)?;
+    if a.start < a.end {
+        return Ok(0);
     }
+    Err(Refusal::BadRange)
 }

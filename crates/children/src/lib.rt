@@ -27,7 +27,7 @@ pub struct Overlap {
 }
 
 // What ends a search of a child list: a child that starts after an address, the child with that link, a child that
-// overlaps a range.
+// overlaps a range. An enum and no closure: the definition of the search takes it as a value.
 #[derive(Clone, Copy)]
 pub enum Search {
     After(u64),
@@ -38,15 +38,11 @@ pub enum Search {
 // ---- Searches
 
 // Whether the range and region r overlap; ranges that only touch do not.
+#[tactic(auto, unfolding(crate::specs::Children::overlaps_b))]
 fn overlaps(o: Overlap, r: RegionCapa) -> bool
     ensures { result ≡ overlaps_b o r }
 {
-    let counts = if o.carves {
-        r.kind == RegionCapa::CARVE
-    } else {
-        true
-    };
-    words::both(counts, words::both(o.start < r.end, r.start < o.end))
+    (!o.carves || r.kind == RegionCapa::CARVE) && o.start < r.end && r.start < o.end
 }
 
 // Whether the child with that link, region r, ends the search.
@@ -65,23 +61,25 @@ fn find(t: &[u64], p: usize, search: Search) -> Place
     requires { Sized t.now }
     ensures { result ≡ find search (view t.now) p }
 {
-    let parent = region_rows::load_region(t, p);
-    let mut prev = 0;
-    let mut at = parent.child;
-    let mut left = words::size(t, sizes::REGIONS);
-    while 0 < left {
-        if at == 0 {
-            return Place { prev, at };
+    let parent = rows::load::<RegionCapa>(t, p);
+    let mut place = Place {
+        prev: 0,
+        at: parent.child,
+    };
+    for _ in 0..words::size(t, sizes::REGIONS) {
+        if place.at == 0 {
+            return place;
         }
-        let r = region_rows::load_region(t, tables::slot_to(at));
-        if ends(search, at, r) {
-            return Place { prev, at };
+        let r = rows::load::<RegionCapa>(t, tables::slot_to(place.at));
+        if ends(search, place.at, r) {
+            return place;
         }
-        prev = at;
-        at = r.next;
-        left -= 1;
+        place = Place {
+            prev: place.at,
+            at: r.next,
+        };
     }
-    Place { prev, at }
+    place
 }
 
 // ---- A child joins, and leaves
@@ -92,14 +90,14 @@ fn link_child(t: &mut [u64], p: usize, prev: u64, link: u64)
     ensures { Left t.new (link_child (view t.old) p prev link) }
 {
     if prev == 0 {
-        let mut r = region_rows::load_region(t, p);
+        let mut r = rows::load::<RegionCapa>(t, p);
         r.child = link;
-        region_rows::store_region(t, p, r);
+        rows::store(t, p, r);
     } else {
         let i = tables::slot_to(prev);
-        let mut r = region_rows::load_region(t, i);
+        let mut r = rows::load::<RegionCapa>(t, i);
         r.next = link;
-        region_rows::store_region(t, i, r);
+        rows::store(t, i, r);
     }
 }
 
@@ -108,10 +106,10 @@ pub fn insert_child(t: &mut [u64], p: usize, i: usize)
     requires { Sized t.old }
     ensures { Left t.new (insert_child (view t.old) p i) }
 {
-    let mut r = region_rows::load_region(t, i);
+    let mut r = rows::load::<RegionCapa>(t, i);
     let c = find(t, p, Search::After(r.start));
     r.next = c.at;
-    region_rows::store_region(t, i, r);
+    rows::store(t, i, r);
     link_child(t, p, c.prev, tables::link_to(i as u64));
 }
 
@@ -120,11 +118,11 @@ pub fn remove_child(t: &mut [u64], p: usize, i: usize)
     requires { Sized t.old }
     ensures { Left t.new (remove_child (view t.old) p i) }
 {
-    let mut r = region_rows::load_region(t, i);
+    let mut r = rows::load::<RegionCapa>(t, i);
     let next = r.next;
     let c = find(t, p, Search::Link(tables::link_to(i as u64)));
     r.next = 0;
-    region_rows::store_region(t, i, r);
+    rows::store(t, i, r);
     link_child(t, p, c.prev, next);
 }
 
@@ -138,25 +136,25 @@ pub fn rights_of(word: u64) -> Rights
 }
 
 // Whether the range lies in region r's, and the rights are allowed under it.
+#[tactic(auto, unfolding(crate::specs::Children::fits_b))]
 fn fits(a: AccessRights, r: RegionCapa) -> bool
     ensures { result ≡ fits_b a r }
 {
-    let inside = words::both(r.start <= a.start, a.end <= r.end);
-    words::both(inside, rights_of(r.rights).allows(a.ops))
+    r.start <= a.start && a.end <= r.end && rights_of(r.rights).allows(a.ops)
 }
 
+#[tactic(auto, unfolding(crate::specs::Children::check_child))]
 fn check_child(t: &[u64], p: usize, a: AccessRights, carves: bool) -> bool
     requires { Sized t.now }
     ensures { result ≡ check_child carves (view t.now) p a }
 {
-    let r = region_rows::load_region(t, p);
+    let r = rows::load::<RegionCapa>(t, p);
     let o = Overlap {
         start: a.start,
         end: a.end,
         carves,
     };
-    let c = find(t, p, Search::Overlap(o));
-    words::both(fits(a, r), c.at == 0)
+    fits(a, r) && find(t, p, Search::Overlap(o)).at == 0
 }
 
 // An alias may overlap other aliases, and no carve (document 01, **Alias**).

@@ -5,38 +5,27 @@
 ghost use Rattle.std.specs.Prelude.{◌≡◌};
 ghost use Rattle.clear_rows.specs.Clear.{head_clear, slot_clear, slot_well_formed, slot_fits, region_clear, record_clear};
 
-use tables::{DomainHead, Region, RegionCapa, Slot};
+use tables::{DomainHead, Handle, Region, RegionCapa, Slot};
 
 pub fn head_clear(h: DomainHead) -> bool
     ensures { result ≡ head_clear h }
 {
-    let first = words::both(h.manager == 0, h.cores == 0);
-    words::both(
-        first,
-        words::both(h.tracker == 0, words::both(h.head == 0, h.count == 0)),
-    )
+    h == DomainHead::default()
 }
 
 fn slot_clear(x: Slot) -> bool
     ensures { result ≡ slot_clear x }
 {
-    words::both(
-        x.kind == 0,
-        words::both(x.handle.slot == 0, x.handle.generation == 0),
-    )
+    x == Slot::default()
 }
 
 fn slot_well_formed(x: Slot) -> bool
     ensures { result ≡ slot_well_formed x }
 {
-    if x.kind <= Slot::FREE {
-        if x.kind == Slot::NONE {
-            words::both(x.handle.generation == 0, x.handle.slot == 0)
-        } else {
-            x.handle.generation == 0
-        }
-    } else {
-        x.kind <= Slot::CHANNEL
+    match x.kind {
+        Slot::NONE => x.handle == Handle::default(),
+        Slot::FREE => x.handle.generation == 0,
+        kind => kind <= Slot::CHANNEL,
     }
 }
 
@@ -53,28 +42,11 @@ pub fn slot_fits(free: bool, x: Slot) -> bool
 pub fn region_clear(r: RegionCapa) -> bool
     ensures { result ≡ region_clear r }
 {
-    let a = words::both(
-        words::both(r.kind == 0, r.owner == 0),
-        words::both(r.parent == 0, r.start == 0),
-    );
-    let b = words::both(
-        words::both(r.end == 0, r.rights == 0),
-        words::both(r.child == 0, r.next == 0),
-    );
-    words::both(a, b)
+    r == RegionCapa::default()
 }
 
 pub fn record_clear(r: Region) -> bool
     ensures { result ≡ record_clear r }
 {
-    let a = words::both(
-        words::both(r.start == 0, r.end == 0),
-        words::both(r.ref_count == 0, r.read_count == 0),
-    );
-    let c = words::both(
-        r.super_count == 0,
-        words::both(r.uncache_count == 0, r.next == 0),
-    );
-    let b = words::both(words::both(r.write_count == 0, r.exec_count == 0), c);
-    words::both(a, b)
+    r == Region::default()
 }

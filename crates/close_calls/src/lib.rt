@@ -18,10 +18,10 @@ fn close_unless_held(t: &mut [u64], d: usize) -> Answer
     ensures left { Left t.new (close_unless_held d (view t.old)).tables }
 {
     if closing_checks::closes_root(t, d) {
-        return Answer::Refused(Refusal::HOLDS_ROOT);
+        return Err(Refusal::HoldsRoot);
     }
     if closing_checks::closes_running(t, d) {
-        return Answer::Refused(Refusal::RUNNING);
+        return Err(Refusal::Running);
     }
     closing::close(t, d)
 }
@@ -32,8 +32,6 @@ pub fn close_managed(t: &mut [u64], h: Handle) -> Answer
     ensures value { result ≡ (close_managed h (view t.old)).answer }
     ensures left { Left t.new (close_managed h (view t.old)).tables }
 {
-    match checks::live_domain(t, h) {
-        Answer::Done(d) => close_unless_held(t, d as usize),
-        Answer::Refused(r) => Answer::Refused(r),
-    }
+    let d = checks::live_domain(t, h)?;
+    close_unless_held(t, d as usize)
 }

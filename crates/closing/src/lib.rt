@@ -9,7 +9,7 @@ ghost use Rattle.tables.specs.View.{view, Sized, Left};
 ghost use Rattle.closing.specs.Close.{revoke_live, freed_domain, revoke_slot, close_domain, close};
 
 use answers::Answer;
-use arena::Freed;
+use pools::Pool;
 use refusals::Refusal;
 use tables::{Handle, Slot};
 
@@ -19,10 +19,10 @@ fn revoke_live(t: &mut [u64], h: Handle, closing: u64) -> Answer
     ensures value { result ≡ (revoke_live closing h (view t.old)).answer }
     ensures left { Left t.new (revoke_live closing h (view t.old)).tables }
 {
-    if pools::region_is_live(t, h) {
+    if pools::is_live(t, Pool::Regions, h) {
         return revocation::revoke(t, h.slot as usize, closing);
     }
-    Answer::Done(0)
+    Ok(0)
 }
 
 // 16 where its generation is spent.
@@ -31,11 +31,8 @@ fn free_domain(t: &mut [u64], d: usize) -> Answer
     ensures value { result ≡ (freed_domain d (view t.old)).answer }
     ensures left { Left t.new (freed_domain d (view t.old)).tables }
 {
-    match pools::free_domain(t, d) {
-        Freed::Done => Answer::Done(0),
-        Freed::Spent => Answer::Refused(Refusal::SPENT),
-        Freed::NotHeld => Answer::Refused(Refusal::MEMORY),
-    }
+    pools::free(t, Pool::Domains, d)?;
+    Ok(0)
 }
 
 // What slot j of domain d holds.
@@ -46,20 +43,13 @@ fn revoke_slot(t: &mut [u64], d: usize, j: usize, closing: u64, waiting: u64) ->
     ensures left { Left t.new (revoke_slot waiting closing d j (view t.old)).tables }
 {
     let x = slots::capa_at(t, d, j);
-    let handle = x.handle;
-    if x.kind == Slot::REGION {
-        return revoke_live(t, handle, closing);
+    match x.kind {
+        Slot::REGION | Slot::REGION_REVOKE => revoke_live(t, x.handle, closing),
+        Slot::MANAGEMENT if pools::is_live(t, Pool::Domains, x.handle) => {
+            close_domain(t, x.handle.slot as usize, closing, waiting)
+        }
+        _ => Ok(0),
     }
-    if x.kind == Slot::REGION_REVOKE {
-        return revoke_live(t, handle, closing);
-    }
-    if x.kind != Slot::MANAGEMENT {
-        return Answer::Done(0);
-    }
-    if pools::domain_is_live(t, handle) {
-        return close_domain(t, handle.slot as usize, closing, waiting);
-    }
-    Answer::Done(0)
 }
 
 // Domain d is closing from here on.
@@ -70,17 +60,12 @@ fn close_domain(t: &mut [u64], d: usize, closing: u64, waiting: u64) -> Answer
     ensures left { Left t.new (close_domain waiting closing d (view t.old)).tables }
 {
     if waiting == 0 {
-        return Answer::Refused(Refusal::MEMORY);
+        return Err(Refusal::Memory);
     }
     let now_closing = closing_set::add(closing, d);
     let n = words::size(t, sizes::SLOTS);
-    let mut j = 0;
-    while j < n {
-        match revoke_slot(t, d, j, now_closing, waiting - 1) {
-            Answer::Done(v) => {}
-            Answer::Refused(r) => return Answer::Refused(r),
-        }
-        j += 1;
+    for j in 0..n {
+        revoke_slot(t, d, j, now_closing, waiting - 1)?;
     }
     free_domain(t, d)
 }
@@ -91,6 +76,6 @@ pub fn close(t: &mut [u64], d: usize) -> Answer
     ensures value { result ≡ (close d (view t.old)).answer }
     ensures left { Left t.new (close d (view t.old)).tables }
 {
-    let n = pools::domain_count(t);
+    let n = pools::count(t, Pool::Domains);
     close_domain(t, d, 0, n)
 }

@@ -1,5 +1,5 @@
 -- One turn of each loop.
-use Prim.Native.Nat.{ℕ, zero, suc, ◌+◌, ◌-◌, ◌≤◌, ◌<◌}
+use Prim.Native.Nat.{ℕ, zero, suc, ◌-◌, ◌<◌}
 use Rattle.std.specs.Prelude.{◌≡◌, Bool, true, false, eqb}
 use native.Mathlib.Omega.{arith}
 use borrow.Author.Tests.{eq-eqb, ne_eqb}
@@ -40,20 +40,3 @@ module _ (s : Tables) (d n e : ℕ) where
 
 pub some-start : (p : ℕ → Bool) (n m : ℕ) → n ≡ m → some_from p 0 (n - 0) ≡ some_from p 0 m
 some-start p n m e = let z : n - 0 ≡ m = omega arith in rw z
-
-module _ (p : ℕ → Bool) (n i : ℕ) (z : Bool) (inv : some_from p i (n - i) ≡ z) where
-  pub some-none : n ≤ i → false ≡ z
-  unfolding some_from
-  some-none h = let k : n - i ≡ 0 = omega arith in rw k at inv
-
-  module _ (b : Bool) (h : i < n) (eb : b ≡ p i) where
-    rest : n - i ≡ suc (n - (i + 1))
-    rest = omega arith
-
-    pub some-here : b ≡ true → true ≡ z
-    unfolding some_from
-    some-here t = rw (rest, ← eb, t) at inv
-
-    pub some-on : b ≡ false → some_from p (i + 1) (n - (i + 1)) ≡ z
-    unfolding some_from
-    some-on f = let e : i + 1 ≡ suc i = omega arith in rw e (rw (rest, ← eb, f, e) at inv)

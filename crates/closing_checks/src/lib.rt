@@ -7,7 +7,7 @@ ghost use Rattle.std.specs.Prelude.{◌≡◌};
 ghost use Rattle.tables.specs.View.{view, Sized};
 ghost use Rattle.closing_checks.specs.Closes.{closes_with_b, root_to_close_b, closes_root_b, running_to_close_b, closes_running_b};
 
-use tables::RegionCapa;
+use tables::{DomainHead, RegionCapa};
 
 // Whether domain e is closed with domain d: it is d, or its managers lead there. It has no more managers above it than there
 // are domains, or they go round.
@@ -16,32 +16,28 @@ pub fn closes_with(t: &[u64], d: usize, e: usize) -> bool
     ensures { result ≡ closes_with_b (view t.now) d e }
 {
     let mut at = e;
-    let mut left = words::size(t, sizes::DOMAINS);
-    while 0 < left {
+    for _ in 0..words::size(t, sizes::DOMAINS) {
         if at == d {
             return true;
         }
-        let head = domain_rows::load_head(t, at);
+        let head = rows::load::<DomainHead>(t, at);
         if head.manager == 0 {
             return false;
         }
         at = tables::slot_to(head.manager);
-        left -= 1;
     }
     at == d
 }
 
 // ---- 22
 
+#[tactic(auto, unfolding(crate::specs::Closes::root_to_close_b))]
 fn root_to_close(t: &[u64], d: usize, i: usize) -> bool
     requires { Sized t.now }
     ensures { result ≡ root_to_close_b (view t.now) d i }
 {
-    let g = region_rows::load_region(t, i);
-    if g.kind == RegionCapa::ROOT {
-        return closes_with(t, d, tables::slot_to(g.owner));
-    }
-    false
+    let g = rows::load::<RegionCapa>(t, i);
+    g.kind == RegionCapa::ROOT && closes_with(t, d, tables::slot_to(g.owner))
 }
 
 // Whether a domain that is closed with domain d owns a root.
@@ -49,28 +45,18 @@ pub fn closes_root(t: &[u64], d: usize) -> bool
     requires { Sized t.now }
     ensures { result ≡ closes_root_b (view t.now) d }
 {
-    let n = words::size(t, sizes::REGIONS);
-    let mut i = 0;
-    while i < n {
-        if root_to_close(t, d, i) {
-            return true;
-        }
-        i += 1;
-    }
-    false
+    (0..words::size(t, sizes::REGIONS)).any(|i| root_to_close(t, d, i))
 }
 
 // ---- 23
 
+#[tactic(auto, unfolding(crate::specs::Closes::running_to_close_b))]
 fn running_to_close(t: &[u64], d: usize, e: usize) -> bool
     requires { Sized t.now }
     ensures { result ≡ running_to_close_b (view t.now) d e }
 {
-    let head = domain_rows::load_head(t, e);
-    if head.cores == 0 {
-        return false;
-    }
-    closes_with(t, d, e)
+    let head = rows::load::<DomainHead>(t, e);
+    head.cores != 0 && closes_with(t, d, e)
 }
 
 // Whether a domain that is closed with domain d has a core map.
@@ -78,13 +64,5 @@ pub fn closes_running(t: &[u64], d: usize) -> bool
     requires { Sized t.now }
     ensures { result ≡ closes_running_b (view t.now) d }
 {
-    let n = words::size(t, sizes::DOMAINS);
-    let mut e = 0;
-    while e < n {
-        if running_to_close(t, d, e) {
-            return true;
-        }
-        e += 1;
-    }
-    false
+    (0..words::size(t, sizes::DOMAINS)).any(|e| running_to_close(t, d, e))
 }

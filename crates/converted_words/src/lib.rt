@@ -13,13 +13,15 @@ use tables::Update;
 const ALL_MARKS: u64 = 31;
 
 // The marks beside an update: all five where a domain is queued, since former tables kept none (document 02, request 4).
+#[tactic(auto, unfolding(crate::specs::Built::marks_beside))]
 fn marks_beside(u: Update) -> u64
     ensures { result ≡ marks_beside u }
 {
     if u.kind == Update::PERMISSION {
-        return ALL_MARKS;
+        ALL_MARKS
+    } else {
+        0
     }
-    0
 }
 
 // Gives every place of the ring its marks.
@@ -28,11 +30,9 @@ fn mark_all(v: &mut [u64])
     ensures { Left v.new (marked_all (view v.old)) }
 {
     let n = words::size(v, sizes::UPDATES) + 1;
-    let mut i = 0;
-    while i < n {
-        let u = ring_rows::load_update(v, i);
-        ring_rows::store_mark(v, i, marks_beside(u));
-        i += 1;
+    for i in 0..n {
+        let u = rows::load::<Update>(v, i);
+        rows::store_mark(v, i, marks_beside(u));
     }
 }
 
@@ -46,9 +46,9 @@ pub fn build(old: &[u64], v: &mut [u64]) -> bool
         return false;
     }
     let z = sizes::read_sizes(v);
-    if old.len() == sizes::marks_at(z) {
-        mark_all(v);
-        return true;
+    if old.len() != sizes::marks_at(z) {
+        return false;
     }
-    false
+    mark_all(v);
+    true
 }

@@ -1,5 +1,5 @@
 -- Why the converter keeps its promise, `Converts` (Replies.antt of crate frame): what its code finds is exact.
-use Rattle.std.specs.Prelude.{◌≡◌, refl, Bool, true, false, List, ℕ, length, replicate}
+use Rattle.std.specs.Prelude.{◌≡◌, refl, Bool, true, false, List, ℕ, length, replicate, Err}
 use Rattle.std.proofs.Common.{sym, ap, subst, ◌∙◌}
 use Rattle.base.specs.Tests.{true-false}
 use Rattle.refusals.specs.Refusals.{memory}
@@ -11,7 +11,6 @@ use Rattle.model.specs.Memory.{zeroed}
 use Rattle.model.specs.Converting.{Converted, not_convertible, converted}
 use Rattle.laws.specs.Words.Length.{words-length}
 use Rattle.words.specs.Copies.{copied}
-use Rattle.answers.specs.declared.Answer.TheVariants.{Refused}
 use Rattle.replies.specs.declared.Reply.{Reply}
 use Rattle.replies.specs.Replies.{reply_of, Converts}
 use Rattle.frame.specs.Finish.{copy-back}
@@ -33,7 +32,7 @@ module _ (o t v w : List ℕ) (known : Each Word o) (b : Bool) (e : b ≡ conver
       let s : w₂ ≡ zeroed w = cw ∙ ap (λ k. replicate k 0) lw in
       record { answer = a; converts = subst (λ x. Converted o t v w a t' v₂ x) (sym s) (subst (λ x. Converted o t v w a t' x (zeroed w)) (sym p) (subst (λ x. Converted o t v w a x (zeroed v) (zeroed w)) (sym q) c)); reply = g }
 
-  pub refused-converts : b ≡ false → (r : Reply) → r ≡ reply_for (Refused memory) → Converts o t v w r t v₂ w₂
+  pub refused-converts : b ≡ false → (r : Reply) → r ≡ reply_for (Err memory) → Converts o t v w r t v₂ w₂
   refused-converts h r g = left (Answer.no memory) t t refl r g (not_convertible (λ s c. true-false (convertible-test o t v w s c) (sym e ∙ h)))
 
   -- v₁ is what is built

@@ -39,5 +39,5 @@ pub fn convert(old: &[u64], t: &mut [u64], v: &mut [u64], w: &mut [u64]) -> Repl
     }
     words::clear(v);
     words::clear(w);
-    replies::refused(Refusal::MEMORY)
+    Reply::from(Refusal::Memory)
 }

@@ -5,28 +5,23 @@
 
 ghost use Rattle.std.specs.Prelude.{◌≡◌, ltb};
 ghost use Rattle.base.specs.Cases.{pick};
-ghost use Rattle.counts.specs.Counts.{up, down, raised, lowered, crosses_b, mark_if, crossings_of, mergeable_b, made};
+ghost use Rattle.counts.specs.Counts.{up, raised, lowered, mark_if, crossings_of, mergeable_b, made};
 
 use rights::Rights;
 use tables::Region;
 
+#[tactic(auto, unfolding(crate::specs::Counts::up))]
 fn plus(n: u64, k: u64) -> u64
     ensures { result ≡ up n k }
 {
-    if k <= u64::MAX - n { n + k } else { n }
-}
-
-fn minus(n: u64, k: u64) -> u64
-    ensures { result ≡ down n k }
-{
-    if k <= n { n - k } else { 0 }
+    n.checked_add(k).unwrap_or(n)
 }
 
 // The smaller of two numbers.
 pub fn least(a: u64, b: u64) -> u64
     ensures { result ≡ pick (ltb a b) a b }
 {
-    if a < b { a } else { b }
+    a.min(b)
 }
 
 // A new record (`Region::new`), with `next` behind it.
@@ -53,15 +48,12 @@ pub fn increase(q: Region, ops: Rights) -> Region
 {
     let c = ops.counters();
     Region {
-        start: q.start,
-        end: q.end,
         ref_count: plus(q.ref_count, 1),
         read_count: plus(q.read_count, c.read_count),
         write_count: plus(q.write_count, c.write_count),
         exec_count: plus(q.exec_count, c.exec_count),
         super_count: plus(q.super_count, c.super_count),
-        uncache_count: q.uncache_count,
-        next: q.next,
+        ..q
     }
 }
 
@@ -71,23 +63,13 @@ pub fn decrease(q: Region, ops: Rights) -> Region
 {
     let c = ops.counters();
     Region {
-        start: q.start,
-        end: q.end,
-        ref_count: minus(q.ref_count, 1),
-        read_count: minus(q.read_count, c.read_count),
-        write_count: minus(q.write_count, c.write_count),
-        exec_count: minus(q.exec_count, c.exec_count),
-        super_count: minus(q.super_count, c.super_count),
-        uncache_count: q.uncache_count,
-        next: q.next,
+        ref_count: q.ref_count.saturating_sub(1),
+        read_count: q.read_count.saturating_sub(c.read_count),
+        write_count: q.write_count.saturating_sub(c.write_count),
+        exec_count: q.exec_count.saturating_sub(c.exec_count),
+        super_count: q.super_count.saturating_sub(c.super_count),
+        ..q
     }
-}
-
-// Whether a count left or came to 0.
-fn crosses(a: u64, b: u64) -> bool
-    ensures { result ≡ crosses_b a b }
-{
-    if a == 0 { b != 0 } else { b == 0 }
 }
 
 // ---- Marks (document 02, request 4)
@@ -107,7 +89,7 @@ pub const SUPER: u64 = 16;
 fn mark_if(a: u64, b: u64, mark: u64) -> u64
     ensures { result ≡ mark_if a b mark }
 {
-    if crosses(a, b) { mark } else { 0 }
+    if (a == 0) != (b == 0) { mark } else { 0 }
 }
 
 // The marks of the counts that left or came to 0, from p's to q's.
@@ -123,15 +105,15 @@ pub fn crossings(p: Region, q: Region) -> u64
 }
 
 // Touching neighbours with six equal counts (`same_counts`).
+#[tactic(auto, unfolding(crate::specs::Counts::mergeable_b))]
 pub fn mergeable(q: Region, n: Region) -> bool
     ensures { result ≡ mergeable_b q n }
 {
-    let touch = q.end == n.start;
-    let reach = words::both(
-        q.ref_count == n.ref_count,
-        q.uncache_count == n.uncache_count,
-    );
-    let first = words::both(q.read_count == n.read_count, q.write_count == n.write_count);
-    let last = words::both(q.exec_count == n.exec_count, q.super_count == n.super_count);
-    words::both(words::both(touch, reach), words::both(first, last))
+    q.end == n.start
+        && q.ref_count == n.ref_count
+        && q.uncache_count == n.uncache_count
+        && q.read_count == n.read_count
+        && q.write_count == n.write_count
+        && q.exec_count == n.exec_count
+        && q.super_count == n.super_count
 }

@@ -1,5 +1,5 @@
 -- Steps on a domain: room in its list, a capability put there, and a range gained or lost with the update that this queues (domain.rs).
-use Rattle.std.specs.Prelude.{Bool, true, false, ◌||◌, ℕ, eqb, get_or}
+use Rattle.std.specs.Prelude.{Bool, true, false, ◌||◌, ℕ, eqb, get_or, Ok, Err, Option, Some, None}
 use Rattle.base.specs.Cases.{pick}
 use Rattle.tables.specs.declared.Slot.{Slot}
 use Rattle.tables.specs.Tables.{Tables, head_at}
@@ -8,13 +8,9 @@ use Rattle.ring_search.specs.Queueing.{queue_of}
 use Rattle.stored_ring.specs.Stored.{ring_of, with_ring_of}
 use Rattle.region.specs.declared.AccessRights.{AccessRights}
 use Rattle.tracker.specs.Walks.{add_region, remove_region}
-use Rattle.answers.specs.declared.Answer.{Answer}
-use Rattle.answers.specs.declared.Answer.TheVariants.{Done, Refused}
+use Rattle.answers.specs.Answers.{Answer, Effect, done, and_then}
 use Rattle.refusals.specs.declared.Refusal.{Refusal}
 use Rattle.refusals.specs.Refusals.{no_local, ring_full}
-use Rattle.answers.specs.Answers.{Effect, done, and_then}
-use Rattle.slot_list.specs.declared.Inserted.{Inserted}
-use Rattle.slot_list.specs.declared.Inserted.TheVariants.{At, Full}
 use Rattle.slot_list.specs.Lists.{give_slot}
 use Rattle.stored_slots.specs.Record.{list_at}
 use Rattle.closing_set.specs.Closing.{closing_b}
@@ -22,16 +18,16 @@ use Rattle.slots.specs.Capas.{room_b, with_capacity, with_capa}
 
 -- done where the test holds
 abbrev pub or_refused : Refusal → Bool → Answer
-or_refused r true = Done 0
-or_refused r false = Refused r
+or_refused r true = Ok 0
+or_refused r false = Err r
 
 -- a free slot in domain d's list, which is swept where it is full (the model's has_capacity)
 unfoldable pub reserve : ℕ → Tables → Effect
 reserve d s = record { answer = or_refused no_local (room_b (with_capacity s d) d); tables = with_capacity s d }
 
-abbrev pub inserted_answer : Inserted → Answer
-inserted_answer (At i) = Done i
-inserted_answer Full = Refused no_local
+abbrev pub inserted_answer : Option ℕ → Answer
+inserted_answer (Some i) = Ok i
+inserted_answer None = Err no_local
 
 -- a capability in the first free slot; the answer is the slot (the model's insert_capa)
 unfoldable pub insert : ℕ → Slot → Tables → Effect

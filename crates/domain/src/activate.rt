@@ -5,19 +5,15 @@ ghost use Rattle.tables.specs.View.{view, Sized, Left};
 ghost use Rattle.domain.specs.Activate.{or_refused, reserve, insert, notify, cleanup, notify_if, activate, deactivate};
 
 use answers::Answer;
+use pools::Pool;
 use refusals::Refusal;
 use region::AccessRights;
-use slot_list::Inserted;
-use tables::Slot;
+use tables::{DomainHead, Slot};
 
 fn or_refused(ok: bool, r: Refusal) -> Answer
     ensures { result ≡ or_refused r ok }
 {
-    if ok {
-        Answer::Done(0)
-    } else {
-        Answer::Refused(r)
-    }
+    if ok { Ok(0) } else { Err(r) }
 }
 
 // 12 where no slot is free after a sweep.
@@ -27,7 +23,7 @@ pub fn reserve(t: &mut [u64], d: usize) -> Answer
     ensures left { Left t.new (reserve d (view t.old)).tables }
 {
     let room = slots::has_capacity_for(t, d);
-    or_refused(room, Refusal::NO_LOCAL)
+    or_refused(room, Refusal::NoLocal)
 }
 
 // The answer is the slot.
@@ -36,10 +32,8 @@ pub fn insert(t: &mut [u64], d: usize, capa: Slot) -> Answer
     ensures value { result ≡ (insert d capa (view t.old)).answer }
     ensures left { Left t.new (insert d capa (view t.old)).tables }
 {
-    match slots::insert_capa(t, d, capa) {
-        Inserted::At(i) => Answer::Done(i as u64),
-        Inserted::Full => Answer::Refused(Refusal::NO_LOCAL),
-    }
+    let i = slots::insert_capa(t, d, capa).ok_or(Refusal::NoLocal)?;
+    Ok(i as u64)
 }
 
 // ---- Updates
@@ -50,10 +44,10 @@ fn notify(t: &mut [u64], d: usize, marks: u64) -> Answer
     ensures value { result ≡ (notify d marks (view t.old)).answer }
     ensures left { Left t.new (notify d marks (view t.old)).tables }
 {
-    let head = domain_rows::load_head(t, d);
-    let generation = pools::domain_generation(t, d);
+    let head = rows::load::<DomainHead>(t, d);
+    let generation = pools::generation(t, Pool::Domains, d);
     let queued = update::queue_domain(t, d as u64, generation, head.cores, marks);
-    or_refused(queued, Refusal::RING_FULL)
+    or_refused(queued, Refusal::RingFull)
 }
 
 pub fn cleanup(t: &mut [u64], start: u64, end: u64) -> Answer
@@ -62,7 +56,7 @@ pub fn cleanup(t: &mut [u64], start: u64, end: u64) -> Answer
     ensures left { Left t.new (cleanup start end (view t.old)).tables }
 {
     let queued = update::push_cleanup(t, start, end);
-    or_refused(queued, Refusal::RING_FULL)
+    or_refused(queued, Refusal::RingFull)
 }
 
 // Where a count left or came to 0 (`PermissionChange`). A closing domain queues nothing (document 02, request 5).
@@ -72,10 +66,10 @@ fn notify_if(t: &mut [u64], d: usize, marks: u64, closing: u64) -> Answer
     ensures left { Left t.new (notify_if closing d marks (view t.old)).tables }
 {
     if closing_set::is_closing(closing, d) {
-        return Answer::Done(0);
+        return Ok(0);
     }
     if marks == 0 {
-        return Answer::Done(0);
+        return Ok(0);
     }
     notify(t, d, marks)
 }
@@ -87,10 +81,8 @@ pub fn activate_region(t: &mut [u64], d: usize, a: AccessRights, closing: u64) -
     ensures value { result ≡ (activate closing d a (view t.old)).answer }
     ensures left { Left t.new (activate closing d a (view t.old)).tables }
 {
-    match tracker::add_region(t, d, a) {
-        Answer::Done(marks) => notify_if(t, d, marks, closing),
-        Answer::Refused(r) => Answer::Refused(r),
-    }
+    let marks = tracker::add_region(t, d, a)?;
+    notify_if(t, d, marks, closing)
 }
 
 pub fn deactivate_region(t: &mut [u64], d: usize, a: AccessRights, closing: u64) -> Answer
@@ -98,8 +90,6 @@ pub fn deactivate_region(t: &mut [u64], d: usize, a: AccessRights, closing: u64)
     ensures value { result ≡ (deactivate closing d a (view t.old)).answer }
     ensures left { Left t.new (deactivate closing d a (view t.old)).tables }
 {
-    match tracker::remove_region(t, d, a) {
-        Answer::Done(marks) => notify_if(t, d, marks, closing),
-        Answer::Refused(r) => Answer::Refused(r),
-    }
+    let marks = tracker::remove_region(t, d, a)?;
+    notify_if(t, d, marks, closing)
 }

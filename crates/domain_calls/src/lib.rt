@@ -8,7 +8,8 @@ ghost use Rattle.domain_calls.specs.Calls.{open_domain, open_under, open_channel
 ghost use Rattle.domain_calls.specs.Parts.{managed};
 
 use answers::Answer;
-use tables::{Handle, Slot};
+use pools::Pool;
+use tables::{DomainHead, Handle, Slot};
 
 // A domain without a manager; the answer is its slot.
 pub fn open_domain(t: &mut [u64], cores: u64) -> Answer
@@ -25,23 +26,17 @@ fn manage(t: &mut [u64], m: usize, i: u64) -> Answer
     ensures value { result ≡ (managed m i (view t.old)).answer }
     ensures left { Left t.new (managed m i (view t.old)).tables }
 {
-    match domain::reserve(t, m) {
-        Answer::Done(v) => {
-            let handle = Handle {
-                slot: i,
-                generation: pools::domain_generation(t, i as usize),
-            };
-            let capa = Slot {
-                kind: Slot::MANAGEMENT,
-                handle,
-            };
-            match domain::insert(t, m, capa) {
-                Answer::Done(l) => Answer::Done(i),
-                Answer::Refused(r) => Answer::Refused(r),
-            }
-        }
-        Answer::Refused(r) => Answer::Refused(r),
-    }
+    domain::reserve(t, m)?;
+    let handle = Handle {
+        slot: i,
+        generation: pools::generation(t, Pool::Domains, i as usize),
+    };
+    let capa = Slot {
+        kind: Slot::MANAGEMENT,
+        handle,
+    };
+    domain::insert(t, m, capa)?;
+    Ok(i)
 }
 
 // A domain under a manager, which gets a Management capability.
@@ -50,13 +45,9 @@ pub fn open_under(t: &mut [u64], h: Handle, cores: u64) -> Answer
     ensures value { result ≡ (open_under h cores (view t.old)).answer }
     ensures left { Left t.new (open_under h cores (view t.old)).tables }
 {
-    match checks::live_domain(t, h) {
-        Answer::Done(m) => match new_domain::new_domain(t, tables::link_to(m), cores) {
-            Answer::Done(i) => manage(t, m as usize, i),
-            Answer::Refused(r) => Answer::Refused(r),
-        },
-        Answer::Refused(r) => Answer::Refused(r),
-    }
+    let m = checks::live_domain(t, h)?;
+    let i = new_domain::new_domain(t, tables::link_to(m), cores)?;
+    manage(t, m as usize, i)
 }
 
 // A Channel capability to domain `to`; the answer, here and below, is the local slot.
@@ -65,22 +56,14 @@ pub fn open_channel(t: &mut [u64], h: Handle, to: Handle) -> Answer
     ensures value { result ≡ (open_channel h to (view t.old)).answer }
     ensures left { Left t.new (open_channel h to (view t.old)).tables }
 {
-    match checks::live_domain(t, h) {
-        Answer::Done(d) => match checks::live_domain(t, to) {
-            Answer::Done(e) => match domain::reserve(t, d as usize) {
-                Answer::Done(v) => {
-                    let capa = Slot {
-                        kind: Slot::CHANNEL,
-                        handle: to,
-                    };
-                    domain::insert(t, d as usize, capa)
-                }
-                Answer::Refused(r) => Answer::Refused(r),
-            },
-            Answer::Refused(r) => Answer::Refused(r),
-        },
-        Answer::Refused(r) => Answer::Refused(r),
-    }
+    let d = checks::live_domain(t, h)?;
+    checks::live_domain(t, to)?;
+    domain::reserve(t, d as usize)?;
+    let capa = Slot {
+        kind: Slot::CHANNEL,
+        handle: to,
+    };
+    domain::insert(t, d as usize, capa)
 }
 
 pub fn set_core_map(t: &mut [u64], h: Handle, cores: u64) -> Answer
@@ -88,13 +71,9 @@ pub fn set_core_map(t: &mut [u64], h: Handle, cores: u64) -> Answer
     ensures value { result ≡ (set_core_map h cores (view t.old)).answer }
     ensures left { Left t.new (set_core_map h cores (view t.old)).tables }
 {
-    match checks::live_domain(t, h) {
-        Answer::Done(d) => {
-            let mut head = domain_rows::load_head(t, d as usize);
-            head.cores = cores;
-            domain_rows::store_head(t, d as usize, head);
-            Answer::Done(0)
-        }
-        Answer::Refused(r) => Answer::Refused(r),
-    }
+    let d = checks::live_domain(t, h)?;
+    let mut head = rows::load::<DomainHead>(t, d as usize);
+    head.cores = cores;
+    rows::store(t, d as usize, head);
+    Ok(0)
 }

@@ -1,5 +1,5 @@
 -- The law for words: what lent memory holds are words, so the starts and ends of the regions are, and their hashes.
-use Rattle.std.specs.Prelude.{◌≡◌, refl, true, List, ℕ, zero, suc, ◌+◌, ◌<◌, length, get_or}
+use Rattle.std.specs.Prelude.{◌≡◌, true, List, ℕ, zero, suc, ◌+◌, ◌<◌, length, get_or}
 use Rattle.std.proofs.Common.{subst, arith}
 use Rattle.base.specs.Cases.{lt, ge, cmp}
 use Rattle.model.specs.Lists.{Each}
@@ -29,14 +29,14 @@ hash-words (suc n) x a b c d = (a, b, c, d)
 
 row_words : (t : List ℕ) → Sized t → Each Word t → (i : ℕ) → HashWords (hash_from (hash_at (view t) i))
 row_words t s h i =
-    let e = hash-loaded t s i (hash_place t i) (fetched t (hash_place t i) 5) refl refl in
+    let e = hash-loaded t s i in
     let word : (k : ℕ) → k < 5 → Word (get_or (fetched t (hash_place t i) 5) k 0) = fetched-word t h (hash_place t i) 5 in
     subst (λ (x : RegionHash). HashWords (hash_from x)) e (hash-words (get_or (fetched t (hash_place t i) 5) 0 0) _ (word 1 (omega arith)) (word 2 (omega arith)) (word 3 (omega arith)) (word 4 (omega arith)))
 
 pub region-words : (t : List ℕ) → Sized t → Each Word t → RegionWords (view t)
 unfolding region_at hash_at
 region-words t s h i =
-    let e = region-loaded t s i (region_place t i) (fetched t (region_place t i) 8) refl refl in (
+    let e = region-loaded t s i in (
       subst (λ (r : RegionCapa). Word r.start) e (fetched-word t h (region_place t i) 8 3 (omega arith)),
       subst (λ (r : RegionCapa). Word r.end) e (fetched-word t h (region_place t i) 8 4 (omega arith)),
       row_words t s h i,

@@ -1,5 +1,5 @@
 -- The frame of a call: whether the lent memory is admitted, what the work area keeps meanwhile, and what a finished call leaves.
-use Rattle.std.specs.Prelude.{◌≡◌, refl, Bool, true, false, ℕ, suc, List, [], ◌∷◌, eqb, length, get_or, replicate}
+use Rattle.std.specs.Prelude.{◌≡◌, refl, Bool, true, false, ℕ, suc, List, [], ◌∷◌, eqb, length, get_or, replicate, Ok, Err}
 use Rattle.std.proofs.Common.{sym, ap, ◌∙◌, Fits, eq-eqb, ne_eqb, eqb-true}
 use Rattle.std.specs.Int.{w64}
 use Rattle.std.proofs.lemmas.List.{length-replicate}
@@ -9,8 +9,7 @@ use Rattle.model.specs.Lists.{Each}
 use Rattle.model.specs.State.{Word}
 use Rattle.model.specs.Memory.{zeroed}
 use Rattle.words.specs.Copies.{copied}
-use Rattle.answers.specs.declared.Answer.{Answer}
-use Rattle.answers.specs.declared.Answer.TheVariants.{Done, Refused}
+use Rattle.answers.specs.Answers.{Answer}
 use Rattle.sound.specs.Test.{is_sound}
 use Rattle.replies.specs.declared.Reply.{Reply}
 use Rattle.replies.specs.declared.DomainReply.{DomainReply}
@@ -25,8 +24,8 @@ kept t w = pick (admitted t w) t (zeroed w)
 
 -- the tables when a call ends: of a refused one, the copy
 abbrev pub finished : Answer → List ℕ → List ℕ → List ℕ
-finished (Done v) t w = t
-finished (Refused r) t w = copied w t
+finished (Ok v) t w = t
+finished (Err r) t w = copied w t
 
 -- the reply to an opening: the slot with its generation in the tables v
 unfoldable pub opened_for : Tables → Reply → DomainReply

@@ -37,14 +37,14 @@ pub fn finish(t: &mut [u64], w: &mut [u64], a: Answer) -> Reply
     ensures { (result ≡ reply_for a) × (t.new ≡ finished a t.old w.old) × (w.new ≡ zeroed w.old) }
 {
     match a {
-        Answer::Done(value) => {
+        Ok(value) => {
             words::clear(w);
             Reply { refusal: 0, value }
         }
-        Answer::Refused(r) => {
+        Err(r) => {
             words::copy(w, t);
             words::clear(w);
-            replies::refused(r)
+            Reply::from(r)
         }
     }
 }

@@ -1,12 +1,11 @@
 -- The steps of the functions on a pool: what the values that they read make of their tests and their stores.
-use Rattle.std.specs.Prelude.{◌≡◌, Bool, true, false, ℕ, ◌+◌, ◌-◌, ◌^◌, ◌≤◌, ◌<◌, ltb, length, get_or}
+use Rattle.std.specs.Prelude.{◌≡◌, Bool, true, false, ℕ, ◌+◌, ◌-◌, ◌^◌, ◌≤◌, ◌<◌, ltb, length, get_or, Some, None, Ok, Err}
 use Rattle.std.proofs.Common.{sym, ◌∙◌}
 use borrow.Author.Tests.{lt-ltb, le-ltb, ltb-true}
 use Rattle.base.specs.Cases.{cmp, lt, ge}
 use Rattle.base.specs.Tests.{both, both_true}
 use Rattle.tables.specs.Tables.{Arena}
-use Rattle.arena.specs.declared.Given.TheVariants.{At, Full}
-use Rattle.arena.specs.declared.Freed.TheVariants.{Done, Spent, NotHeld}
+use Rattle.refusals.specs.Refusals.{memory, spent}
 use Rattle.arena.specs.Arena.{with_top, with_link, with_gen, head_link, given, allocated, held_b, raisable_b, answer_to, frees_b, freed}
 
 -- ---- allocating
@@ -31,11 +30,11 @@ module _ (a : Arena) where
 
   pub allocate-some : (a₁ a₂ : Arena) (l s c g : ℕ) → l ≡ head_link a → 0 < l → s ≡ a.head → c ≡ a.count → g ≡ get_or a.gens s 0
       → a₁ ≡ with_link a s 0 → a₂ ≡ with_top a₁ (l - 1) (c + 1)
-      → (At (record { slot = s; generation = g }) ≡ given a) × (a₂ ≡ allocated a)
+      → (Some (record { slot = s; generation = g }) ≡ given a) × (a₂ ≡ allocated a)
   unfolding given allocated
   allocate-some a₁ a₂ l s c g el hl es ec eg e₁ e₂ = (rw (← el, lt-ltb 0 l hl, eg, es), rw (← el, lt-ltb 0 l hl, e₂, e₁, es, ec))
 
-  pub allocate-none : (l : ℕ) → l ≡ head_link a → l ≤ 0 → (Full ≡ given a) × (a ≡ allocated a)
+  pub allocate-none : (l : ℕ) → l ≡ head_link a → l ≤ 0 → (None ≡ given a) × (a ≡ allocated a)
   unfolding given allocated
   allocate-none l el hl = (rw (← el, le-ltb 0 l hl), rw (← el, le-ltb 0 l hl))
 
@@ -51,16 +50,16 @@ module _ (a : Arena) where
 
   pub free-done : (a₁ a₂ a₃ : Arena) (i g h c : ℕ) (b : Bool) → b ≡ held_b a i → b ≡ true → g ≡ get_or a.gens i 0 → g < 2 ^ 64 - 1
       → h ≡ a.head → c ≡ a.count → a₁ ≡ with_link a i (h + 1) → a₂ ≡ with_gen a₁ i (g + 1) → a₃ ≡ with_top a₂ i (c - 1)
-      → (Done ≡ answer_to a i) × (a₃ ≡ freed a i)
+      → (Ok tt ≡ answer_to a i) × (a₃ ≡ freed a i)
   unfolding answer_to freed frees_b raisable_b
   free-done a₁ a₂ a₃ i g h c b eb t eg hg eh ec e₁ e₂ e₃ =
       (rw (← eb, t, ← eg, lt-ltb g (2 ^ 64 - 1) hg), rw (← eb, t, ← eg, lt-ltb g (2 ^ 64 - 1) hg, e₃, e₂, e₁, eh, ec))
 
   pub free-spent : (i g : ℕ) (b : Bool) → b ≡ held_b a i → b ≡ true → g ≡ get_or a.gens i 0 → 2 ^ 64 - 1 ≤ g
-      → (Spent ≡ answer_to a i) × (a ≡ freed a i)
+      → (Err spent ≡ answer_to a i) × (a ≡ freed a i)
   unfolding answer_to freed frees_b raisable_b
   free-spent i g b eb t eg hg = (rw (← eb, t, ← eg, le-ltb g (2 ^ 64 - 1) hg), rw (← eb, t, ← eg, le-ltb g (2 ^ 64 - 1) hg))
 
-  pub free-not : (i : ℕ) (b : Bool) → b ≡ held_b a i → b ≡ false → (NotHeld ≡ answer_to a i) × (a ≡ freed a i)
+  pub free-not : (i : ℕ) (b : Bool) → b ≡ held_b a i → b ≡ false → (Err memory ≡ answer_to a i) × (a ≡ freed a i)
   unfolding answer_to freed frees_b
   free-not i b eb t = (rw (← eb, t), rw (← eb, t))

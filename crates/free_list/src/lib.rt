@@ -8,7 +8,7 @@ ghost use Rattle.tables.specs.View.{arena_of};
 ghost use Rattle.sizes.specs.Sizes.{pool_width};
 ghost use Rattle.arena.specs.Arena.{head_link, given, allocated, held_b, answer_to, freed, new_arena};
 
-use arena::{Freed, Given};
+use refusals::Refusal;
 use tables::Handle;
 
 // ---- Allocating and freeing
@@ -26,7 +26,7 @@ fn head_link(p: &[u64], n: usize) -> u64
 }
 
 // Takes the slot at the head of the free list.
-pub fn allocate(p: &mut [u64], n: usize) -> Given
+pub fn allocate(p: &mut [u64], n: usize) -> Option<Handle>
     requires { length p.old ≡ pool_width n }
     ensures value { result ≡ given (arena_of n p.old) }
     ensures p_after { arena_of n p.new ≡ allocated (arena_of n p.old) }
@@ -39,9 +39,9 @@ pub fn allocate(p: &mut [u64], n: usize) -> Given
         let generation = arena::generation(p, n, i);
         arena::set_link(p, n, i, 0);
         arena::set_top(p, n, link - 1, count + 1);
-        return Given::At(Handle { slot, generation });
+        return Some(Handle { slot, generation });
     }
-    Given::Full
+    None
 }
 
 // Whether slot i is in use, and the head and the count are such that it can be freed.
@@ -49,30 +49,31 @@ fn is_held(p: &[u64], n: usize, i: usize) -> bool
     requires { length p.now ≡ pool_width n }
     ensures { result ≡ held_b (arena_of n p.now) i }
 {
-    let inside = words::both(i < n, words::size(p, 0) < n);
-    let used = words::both(0 < words::size(p, 1), arena::link(p, n, i) == 0);
-    words::both(inside, used)
+    let head = words::size(p, 0);
+    let count = words::size(p, 1);
+    let used = arena::link(p, n, i) == 0;
+    i < n && (head < n && (0 < count && used))
 }
 
 // Puts slot i at the front of the free list, with the next generation.
-pub fn free(p: &mut [u64], n: usize, i: usize) -> Freed
+pub fn free(p: &mut [u64], n: usize, i: usize) -> Result<(), Refusal>
     requires { length p.old ≡ pool_width n }
     ensures value { result ≡ answer_to (arena_of n p.old) i }
     ensures p_after { arena_of n p.new ≡ freed (arena_of n p.old) i }
 {
     if is_held(p, n, i) {
         let generation = arena::generation(p, n, i);
-        if generation < 0xffff_ffff_ffff_ffff {
+        if generation < u64::MAX {
             let head = words::word(p, 0);
             let count = words::word(p, 1);
             arena::set_link(p, n, i, head + 1);
             arena::set_generation(p, n, i, generation + 1);
             arena::set_top(p, n, i as u64, count - 1);
-            return Freed::Done;
+            return Ok(());
         }
-        return Freed::Spent;
+        return Err(Refusal::Spent);
     }
-    Freed::NotHeld
+    Err(Refusal::Memory)
 }
 
 // ---- Making
@@ -83,11 +84,9 @@ pub fn fresh(p: &mut [u64], n: usize)
     ensures { arena_of n p.new ≡ new_arena n }
 {
     arena::set_top(p, n, 0, 0);
-    let mut i = 0;
-    while i < n {
+    for i in 0..n {
         let next = (i + 1) % n;
         arena::set_link(p, n, i, (next + 1) as u64);
         arena::set_generation(p, n, i, 0);
-        i += 1;
     }
 }

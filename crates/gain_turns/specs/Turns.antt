@@ -5,7 +5,7 @@ use Rattle.tables.specs.Tables.{Tables, no_record, with_record}
 use Rattle.region.specs.declared.AccessRights.{AccessRights}
 use Rattle.region.specs.Turns.{Turn, to, onward}
 use Rattle.walk_cursors.specs.declared.Cursor.{Cursor}
-use Rattle.walk_cursors.specs.declared.Progress.TheVariants.{Going}
+use Rattle.std.proofs.Common.{Continue}
 use Rattle.walk_cursors.specs.Cursors.{noted, next_of}
 use Rattle.counts.specs.Counts.{made, raised, crossings_of}
 use Rattle.tables.specs.Links.{slot_to}
@@ -20,4 +20,4 @@ fill_turn s d a c e =
 unfoldable pub raise_turn : Tables → AccessRights → Cursor → Region → Turn
 raise_turn s a c q =
     let p = raised a.ops.0 q in
-    to (Going (next_of c q.next q.end (crossings_of q p))) (with_record s (slot_to c.at) p)
+    to (Continue (next_of c q.next q.end (crossings_of q p))) (with_record s (slot_to c.at) p)

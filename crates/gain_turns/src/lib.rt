@@ -6,8 +6,8 @@ ghost use Rattle.std.specs.Prelude.{◌≡◌};
 ghost use Rattle.tables.specs.View.{view, Sized, Left};
 ghost use Rattle.gain_turns.specs.Turns.{fill_turn, raise_turn};
 
-use answers::Answer;
 use region::AccessRights;
+use std::ops::ControlFlow;
 use tables::Region;
 use tracker_records::links;
 use walk_cursors::{Cursor, Progress};
@@ -20,13 +20,13 @@ pub fn fill(t: &mut [u64], d: usize, a: AccessRights, c: Cursor, end: u64) -> Pr
 {
     let q = counts::new(c.start, end, a.ops, c.at);
     match links::insert(t, d, c.prev, q) {
-        Answer::Done(link) => Progress::Going(Cursor {
+        Ok(link) => ControlFlow::Continue(Cursor {
             prev: link,
             at: c.at,
             start: end,
-            marks: c.marks | counts::crossings(tables::no_record(), q),
+            marks: c.marks | counts::crossings(Region::default(), q),
         }),
-        Answer::Refused(r) => Progress::Over(Answer::Refused(r)),
+        Err(r) => ControlFlow::Break(Err(r)),
     }
 }
 
@@ -37,6 +37,6 @@ pub fn raise(t: &mut [u64], a: AccessRights, c: Cursor, q: Region) -> Progress
     ensures left { Left t.new (raise_turn (view t.old) a c q).tables }
 {
     let p = counts::increase(q, a.ops);
-    record_rows::store_record(t, tables::slot_to(c.at), p);
+    rows::store(t, tables::slot_to(c.at), p);
     walk_cursors::going(c, q.next, q.end, counts::crossings(q, p))
 }

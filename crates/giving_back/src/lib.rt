@@ -16,9 +16,9 @@ pub fn give_back(t: &mut [u64], g: RegionCapa, closing: u64) -> Answer
     ensures left { Left t.new (give_back closing g (view t.old)).tables }
 {
     if g.kind == RegionCapa::CARVE {
-        let p = region_rows::load_region(t, tables::slot_to(g.parent));
+        let p = rows::load::<RegionCapa>(t, tables::slot_to(g.parent));
         let a = segment::access(g.start, g.end, p.rights);
         return domain::activate_region(t, tables::slot_to(p.owner), a, closing);
     }
-    Answer::Done(0)
+    Ok(0)
 }

@@ -16,17 +16,13 @@ pub fn set_interface(t: &mut [u64], h: Handle, word: u64) -> Answer
     ensures value { result ≡ (set_interface h word (view t.old)).answer }
     ensures left { Left t.new (set_interface h word (view t.old)).tables }
 {
-    match checks::live_domain(t, h) {
-        Answer::Done(d) => {
-            let old = interface_rows::load_interface(t, d as usize);
-            if old.frozen == 0 {
-                interface_rows::store_interface(t, d as usize, Interface { word, frozen: 0 });
-                return Answer::Done(0);
-            }
-            Answer::Refused(Refusal::FROZEN)
-        }
-        Answer::Refused(r) => Answer::Refused(r),
+    let d = checks::live_domain(t, h)?;
+    let old = rows::load::<Interface>(t, d as usize);
+    if old.frozen == 0 {
+        rows::store(t, d as usize, Interface { word, frozen: 0 });
+        return Ok(0);
     }
+    Err(Refusal::Frozen)
 }
 
 // 3: the word stays. One that is frozen is frozen again.
@@ -35,13 +31,9 @@ pub fn freeze_interface(t: &mut [u64], h: Handle) -> Answer
     ensures value { result ≡ (freeze_interface h (view t.old)).answer }
     ensures left { Left t.new (freeze_interface h (view t.old)).tables }
 {
-    match checks::live_domain(t, h) {
-        Answer::Done(d) => {
-            let mut interface = interface_rows::load_interface(t, d as usize);
-            interface.frozen = 1;
-            interface_rows::store_interface(t, d as usize, interface);
-            Answer::Done(0)
-        }
-        Answer::Refused(r) => Answer::Refused(r),
-    }
+    let d = checks::live_domain(t, h)?;
+    let mut interface = rows::load::<Interface>(t, d as usize);
+    interface.frozen = 1;
+    rows::store(t, d as usize, interface);
+    Ok(0)
 }

@@ -16,7 +16,7 @@ fn leave_parent(t: &mut [u64], i: usize)
     requires { Sized t.old }
     ensures { Left t.new (leave_parent i (view t.old)) }
 {
-    let g = region_rows::load_region(t, i);
+    let g = rows::load::<RegionCapa>(t, i);
     if g.kind == RegionCapa::ROOT {
         return;
     }
@@ -32,7 +32,7 @@ fn cleanup_if(t: &mut [u64], g: RegionCapa) -> Answer
     if ops.contains(Rights::CLEANUP) {
         return domain::cleanup(t, g.start, g.end);
     }
-    Answer::Done(0)
+    Ok(0)
 }
 
 // A region that has left its parent's list and its domain's tracker. Cleanup is queued last, after the tracker's updates.
@@ -41,13 +41,9 @@ fn free_leaf(t: &mut [u64], i: usize, g: RegionCapa, closing: u64) -> Answer
     ensures value { result ≡ (free_leaf closing i g (view t.old)).answer }
     ensures left { Left t.new (free_leaf closing i g (view t.old)).tables }
 {
-    match giving_back::give_back(t, g, closing) {
-        Answer::Done(v) => match segment::free_region(t, i) {
-            Answer::Done(w) => cleanup_if(t, g),
-            Answer::Refused(r) => Answer::Refused(r),
-        },
-        Answer::Refused(r) => Answer::Refused(r),
-    }
+    giving_back::give_back(t, g, closing)?;
+    segment::free_region(t, i)?;
+    cleanup_if(t, g)
 }
 
 // A region without children.
@@ -56,11 +52,9 @@ pub fn revoke_leaf(t: &mut [u64], i: usize, closing: u64) -> Answer
     ensures value { result ≡ (revoke_leaf closing i (view t.old)).answer }
     ensures left { Left t.new (revoke_leaf closing i (view t.old)).tables }
 {
-    let g = region_rows::load_region(t, i);
+    let g = rows::load::<RegionCapa>(t, i);
     let a = segment::access(g.start, g.end, g.rights);
     leave_parent(t, i);
-    match domain::deactivate_region(t, tables::slot_to(g.owner), a, closing) {
-        Answer::Done(u) => free_leaf(t, i, g, closing),
-        Answer::Refused(r) => Answer::Refused(r),
-    }
+    domain::deactivate_region(t, tables::slot_to(g.owner), a, closing)?;
+    free_leaf(t, i, g, closing)
 }

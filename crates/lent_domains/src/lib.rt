@@ -10,6 +10,7 @@ ghost use Rattle.call.specs.Arguments.{handle};
 ghost use Rattle.replies.specs.Replies.{domain_reply_of, Returns};
 ghost use Rattle.frame.specs.Finish.{opened_for};
 
+use pools::Pool;
 use replies::{DomainReply, Reply};
 
 // An accepted opening's slot, with the generation that it has.
@@ -21,7 +22,7 @@ fn opened(t: &[u64], r: Reply) -> DomainReply
         return DomainReply {
             refusal: 0,
             slot: r.value,
-            generation: pools::domain_generation(t, r.value as usize),
+            generation: pools::generation(t, Pool::Domains, r.value as usize),
         };
     }
     replies::no_domain(r.refusal)

@@ -1,5 +1,5 @@
 -- Making: the exported function returns and leaves what `After` says.
-use Rattle.std.specs.Prelude.{◌≡◌, refl, ℕ, Bool, true, false, not, ◌&&◌, List, eqb, length}
+use Rattle.std.specs.Prelude.{◌≡◌, refl, ℕ, Bool, true, false, not, ◌&&◌, List, eqb, length, Err}
 use Rattle.std.proofs.Common.{sym, ap, subst, ◌∙◌, eq-eqb}
 use Rattle.std.proofs.lemmas.Bool.{not-true, not-false}
 use Rattle.refusals.specs.Refusals as refusals
@@ -21,7 +21,6 @@ use Rattle.tables.specs.View.{layout}
 use Rattle.sizes.specs.Sizes.{total}
 use Rattle.tables.specs.Header.{sizes-seen}
 use Rattle.making.specs.Empty.{empty}
-use Rattle.answers.specs.declared.Answer.TheVariants.{Refused}
 use Rattle.decoded.specs.Sizes.{and_both, good-sizes}
 use Rattle.decoded.specs.Tables.{sizes_for, tables_of}
 use Rattle.decoded.specs.Words.{view-words, words-sized}
@@ -51,7 +50,7 @@ module _ (t w w₂ : List ℕ) (z : Sizes) (clear : w₂ ≡ zeroed w) (b : Bool
     reply = g;
   }
 
-  pub sizes-refused : not b ≡ true → (r : replies.Reply) → r ≡ reply_for (Refused refusals.sizes) → Returns reply_of t w (Call.Make z) r t w₂
+  pub sizes-refused : not b ≡ true → (r : replies.Reply) → r ≡ reply_for (Err refusals.sizes) → Returns reply_of t w (Call.Make z) r t w₂
   sizes-refused h r g = ends (refuse refusals.sizes) (make-sizes _ _ z (good-sizes z ∙ sym e ∙ not-true b h)) r g t refl
 
   module _ (h : not b ≡ false) (n : ℕ) (m : n ≡ total (sizes_for z)) where
@@ -69,7 +68,7 @@ module _ (t w w₂ : List ℕ) (z : Sizes) (clear : w₂ ≡ zeroed w) (b : Bool
       tested : (eqb (length t) (length_for z) && eqb (length w) (length_for z)) ≡ d
       tested = and_both (eqb (length t) (length_for z)) (eqb (length w) (length_for z)) ∙ sym (f ∙ ap (λ k. both (eqb (length t) k) (eqb (length w₂) k)) long ∙ ap (λ k. both (eqb (length t) (length_for z)) (eqb k (length_for z))) (ap length clear ∙ zeroed-long w))
 
-      pub lengths-refused : d ≡ false → (r : replies.Reply) → r ≡ reply_for (Refused refusals.memory) → Returns reply_of t w (Call.Make z) r t w₂
+      pub lengths-refused : d ≡ false → (r : replies.Reply) → r ≡ reply_for (Err refusals.memory) → Returns reply_of t w (Call.Make z) r t w₂
       lengths-refused q r g = ends (refuse refusals.memory) (make-lengths _ _ z good (tested ∙ q)) r g t refl
 
       pub tables-made : d ≡ true → (u : List ℕ) → u ≡ layout (empty (sizes_for z)) → Returns reply_of t w (Call.Make z) (record { refusal = 0; value = 0 }) u w₂

@@ -30,15 +30,15 @@ pub fn make_tables(
         updates: updates as usize,
     };
     if !sizes::limits_hold(z) {
-        return replies::refused(Refusal::SIZES);
+        return Reply::from(Refusal::Sizes);
     }
     let n = sizes::total_of(z);
-    if words::both(t.len() == n, w.len() == n) {
+    if t.len() == n && w.len() == n {
         making::make_empty(t, z);
         return Reply {
             refusal: 0,
             value: 0,
         };
     }
-    replies::refused(Refusal::MEMORY)
+    Reply::from(Refusal::Memory)
 }

@@ -7,26 +7,25 @@ ghost use Rattle.replies.specs.Replies.{update_reply_of, Returns};
 
 use refusals::Refusal;
 use replies::UpdateReply;
-use tables::Update;
 
 // The oldest update leaves the queue; none where it is empty.
 pub fn pop(t: &mut [u64], w: &mut [u64]) -> UpdateReply
     ensures { Returns update_reply_of t.old w.old Call.Pop result t.new w.new }
 {
     if frame::admits(t, w) {
-        let item = update::pop_update(t);
-        let u = item.entry.update;
+        let entry = update::pop_update(t).unwrap_or_default();
+        let u = entry.update;
         return UpdateReply {
             refusal: 0,
             kind: u.kind,
             a: u.a,
             b: u.b,
             c: u.c,
-            marks: item.entry.marks,
+            marks: entry.marks,
         };
     }
     UpdateReply {
-        refusal: Refusal::MEMORY.0,
+        refusal: u64::from(Refusal::Memory),
         kind: 0,
         a: 0,
         b: 0,

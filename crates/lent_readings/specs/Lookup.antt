@@ -1,6 +1,6 @@
 -- A domain whose tables are to be read: the lent memory is tested, then the handle. Either the slot holds the live domain of a sound state whose words
 -- were lent, or every reading of the domain is refused with the same refusal.
-use Rattle.std.specs.Prelude.{◌≡◌, refl, ℕ, Bool, List}
+use Rattle.std.specs.Prelude.{◌≡◌, refl, ℕ, Bool, List, Ok, Err}
 use Rattle.std.proofs.Math.Path.{sym, ap, subst}
 use Rattle.std.proofs.Common.{◌∙◌, arith}
 use Rattle.std.proofs.Math.Bool.{true, false}
@@ -17,8 +17,7 @@ use Rattle.laws.specs.Keep.Base.{sound-base}
 use Rattle.laws.specs.Keep.Checks.{domain-live}
 use Rattle.tables.specs.declared.Handle as tables
 use Rattle.tables.specs.View.{view, Sized}
-use Rattle.answers.specs.declared.Answer as code
-use Rattle.answers.specs.declared.Answer.TheVariants.{Done, Refused}
+use Rattle.answers.specs.Answers as code
 use Rattle.refusals.specs.declared.Refusal.{Refusal}
 use Rattle.refusals.specs.Refusals.{memory}
 use Rattle.answers.specs.Answers.{Effect}
@@ -36,7 +35,7 @@ named domain generation = record { slot = domain; generation = generation }
 
 -- 1, 3; the answer is the domain's slot
 unfoldable pub domain_read : List ℕ → List ℕ → ℕ → ℕ → code.Answer
-domain_read t w domain generation = pick (admitted t w) (live_domain (named domain generation) (view t)).answer (Refused memory)
+domain_read t w domain generation = pick (admitted t w) (live_domain (named domain generation) (view t)).answer (Err memory)
 
 -- ---- what the test and the handle say
 
@@ -58,8 +57,8 @@ abbrev pub Refuses : List ℕ → List ℕ → Handle → Refusal → Type 0
 Refuses t w h r = (q : Reading) (f : State → ℕ → Value) → Reads q h f → After t w (Call.Read q) (Answer.no r) t (zeroed w)
 
 abbrev pub Says : List ℕ → List ℕ → Handle → code.Answer → Type 0
-Says t w h (Done d) = Live t w h d
-Says t w h (Refused r) = Refuses t w h r
+Says t w h (Ok d) = Live t w h d
+Says t w h (Err r) = Refuses t w h r
 
 -- a reading on the sound state whose words were lent
 pub after-step : (t w : List ℕ) (r : Reading) (s : State) → Lent t w s → (a : Answer) → step s (Call.Read r) ≡ (a, s) → After t w (Call.Read r) a t (zeroed w)
@@ -105,11 +104,11 @@ live-after t w h d y r f p =
     after-step t w r s y.lent (Answer.yes (f s d)) (ap (seen_of s) (p s ∙ ap (λ (o : Outcome ℕ). o >>= λ i. ok (f s i)) y.found))
 
 -- the tables that a live domain is read in are as long as their sizes ask
-pub read-sized : (t w : List ℕ) (domain generation : ℕ) (a : code.Answer) → a ≡ domain_read t w domain generation → (d : ℕ) → a ≡ Done d → Sized t
+pub read-sized : (t w : List ℕ) (domain generation : ℕ) (a : code.Answer) → a ≡ domain_read t w domain generation → (d : ℕ) → a ≡ Ok d → Sized t
 unfolding domain_read
 read-sized t w domain generation a said d e = elim (test (admitted t w)) [
   | holds p ↦ admitted-sized t w (admitted t w) refl p
-  | fails p ↦ let f : a ≡ Refused memory = rw p at said in absurd (let z : ◌≡◌ {A = ℕ} 0 1 = cc in omega arith)
+  | fails p ↦ let f : a ≡ Err memory = rw p at said in absurd (let z : ◌≡◌ {A = ℕ} 0 1 = cc in omega arith)
 ]
 
 -- ---- as `domain_read` cites it: b is what the first test said
@@ -119,6 +118,6 @@ module _ (t w : List ℕ) (domain generation : ℕ) (b : Bool) (said : b ≡ adm
   unfolding domain_read
   read-admitted e a h = let p : admitted t w ≡ true = sym said ∙ e in rw p h
 
-  pub read-not-admitted : b ≡ false → Refused memory ≡ domain_read t w domain generation
+  pub read-not-admitted : b ≡ false → Err memory ≡ domain_read t w domain generation
   unfolding domain_read
   read-not-admitted e = let p : admitted t w ≡ false = sym said ∙ e in rw p

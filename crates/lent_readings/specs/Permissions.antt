@@ -1,5 +1,5 @@
 -- The permission list of a live domain into a lent run: the records that the code finds along the links, stored one by one, are the model's list.
-use Rattle.std.specs.Prelude.{◌≡◌, refl, ℕ, ◌<◌, ◌≤◌, List, [], ◌∷◌, map, length}
+use Rattle.std.specs.Prelude.{◌≡◌, refl, ℕ, ◌<◌, ◌≤◌, List, [], ◌∷◌, map, length, Ok, Err}
 use Rattle.std.proofs.Common.{sym, ap, subst, ◌∙◌, arith}
 use Rattle.std.proofs.lemmas.List.{length-map}
 use Rattle.model.specs.Lists.{Each}
@@ -11,8 +11,7 @@ use Rattle.model.specs.Perform.{Reading, Value, Answer, read_tables}
 use Rattle.model.specs.Memory.{Filled, AfterPermissions, zeroed}
 use Rattle.laws.specs.Tree.Steps.{domain-at}
 use Rattle.tables.specs.View.{view, Sized}
-use Rattle.answers.specs.declared.Answer as code
-use Rattle.answers.specs.declared.Answer.TheVariants.{Done, Refused}
+use Rattle.answers.specs.Answers as code
 use Rattle.refusals.specs.declared.Refusal.{Refusal}
 use Rattle.readings.specs.declared.Permission.{Permission}
 use Rattle.readings.specs.declared.Plan.{Plan}
@@ -74,7 +73,7 @@ module _ (t w : List ℕ) (h : Handle) (d : ℕ) (y : Live t w h d) where
         reply = ap (λ (m : ℕ). record { refusal = 0; value = m }) (en ∙ sym (length-map (permission_list (view t) d) access_of) ∙ ap length list_same);
       }
 
-list-refused : (t w : List ℕ) (h : Handle) (r : Refusal) → Refuses t w h r → (run : List Permission) (x : replies.Reply) (w₂ : List ℕ) → x ≡ reply_for (Refused r) → w₂ ≡ zeroed w
+list-refused : (t w : List ℕ) (h : Handle) (r : Refusal) → Refuses t w h r → (run : List Permission) (x : replies.Reply) (w₂ : List ℕ) → x ≡ reply_for (Err r) → w₂ ≡ zeroed w
     → ListsPermissions t w h run x w₂ run
 list-refused t w h r y run x w₂ ex ew = record {
   answer = Answer.no r;
@@ -89,7 +88,7 @@ module _ (t w : List ℕ) (known : Each Word t) (domain generation : ℕ) (a : c
   abbrev h : Handle
   h = handle domain generation
 
-  pub plans-live : (d : ℕ) → a ≡ Done d → (p : Plan) → p ≡ plan_of (view t) d room → Plans t w h room (record { turns = p.turns; at = p.at; reply = record { refusal = 0; value = p.answer } }) w₂
+  pub plans-live : (d : ℕ) → a ≡ Ok d → (p : Plan) → p ≡ plan_of (view t) d room → Plans t w h room (record { turns = p.turns; at = p.at; reply = record { refusal = 0; value = p.answer } }) w₂
   plans-live d e p ep =
       let y = is_live_lem t w known domain generation a said w₂ ew d e in
       record {
@@ -100,7 +99,7 @@ module _ (t w : List ℕ) (known : Each Word t) (domain generation : ℕ) (a : c
             (ap (λ (z : Plan). z.answer) ep) ew;
       }
 
-  pub plans-refused : (r : Refusal) → a ≡ Refused r → (x : replies.Reply) → x ≡ reply_for (Refused r) → Plans t w h room (record { turns = 0; at = 0; reply = x }) w₂
+  pub plans-refused : (r : Refusal) → a ≡ Err r → (x : replies.Reply) → x ≡ reply_for (Err r) → Plans t w h room (record { turns = 0; at = 0; reply = x }) w₂
   plans-refused r e x ex = record {
     sized = λ n. absurd (omega (arith, n));
     within = omega arith;

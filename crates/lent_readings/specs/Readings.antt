@@ -1,5 +1,5 @@
 -- The readings return and leave what `After` says: what is read of the tables of a live domain is what the model reads of the domain.
-use Rattle.std.specs.Prelude.{◌≡◌, refl, ℕ, Bool, true, false, List, length}
+use Rattle.std.specs.Prelude.{◌≡◌, refl, ℕ, Bool, true, false, List, length, Ok, Err}
 use Rattle.std.proofs.Common.{sym, ap, subst, ◌∙◌}
 use Rattle.model.specs.Lists.{Each}
 use Rattle.refusals.specs.Refusals.{memory}
@@ -12,8 +12,7 @@ use Rattle.model.specs.Memory.{Lent, After, Filled, AfterHolders, zeroed}
 use Rattle.laws.specs.Tree.Steps.{domain-at}
 use Rattle.tables.specs.Tables.{head_at}
 use Rattle.tables.specs.View.{view}
-use Rattle.answers.specs.declared.Answer as code
-use Rattle.answers.specs.declared.Answer.TheVariants.{Done, Refused}
+use Rattle.answers.specs.Answers as code
 use Rattle.refusals.specs.declared.Refusal.{Refusal}
 use Rattle.readings.specs.Readings as readings
 use Rattle.holders.specs.Holders.{holders_of}
@@ -42,7 +41,7 @@ number-returns t w h d y q n p v w₂ e ew = record {
 
 -- the reading is refused
 refused-returns : (t w : List ℕ) (h : Handle) (r : Refusal) (y : Refuses t w h r) (q : Reading) (f : State → ℕ → Value) → Reads q h f
-    → (x : replies.Reply) (w₂ : List ℕ) → x ≡ reply_for (Refused r) → w₂ ≡ zeroed w → Returns reply_of t w (Call.Read q) x t w₂
+    → (x : replies.Reply) (w₂ : List ℕ) → x ≡ reply_for (Err r) → w₂ ≡ zeroed w → Returns reply_of t w (Call.Read q) x t w₂
 refused-returns t w h r y q f p x w₂ e ew = record {
   answer = Answer.no r;
   after = subst (λ u. After t w (Call.Read q) (Answer.no r) t u) (sym ew) (y q f p);
@@ -83,27 +82,27 @@ module _ (t w : List ℕ) (known : Each Word t) (domain generation : ℕ) (a : c
   abbrev h : Handle
   h = handle domain generation
 
-  pub is_live_lem : (d : ℕ) → a ≡ Done d → Live t w h d
+  pub is_live_lem : (d : ℕ) → a ≡ Ok d → Live t w h d
   is_live_lem d e = subst (Says t w h) (sym said ∙ e) (read-says t w known domain generation)
 
-  pub is-refused : (r : Refusal) → a ≡ Refused r → Refuses t w h r
+  pub is-refused : (r : Refusal) → a ≡ Err r → Refuses t w h r
   is-refused r e = subst (Says t w h) (sym said ∙ e) (read-says t w known domain generation)
 
-  pub refcount-returns : (d from to v : ℕ) → a ≡ Done d → v ≡ readings.largest_reach from to (readings.records_of (view t) d)
+  pub refcount-returns : (d from to v : ℕ) → a ≡ Ok d → v ≡ readings.largest_reach from to (readings.records_of (view t) d)
       → Returns reply_of t w (Call.Read (Reading.Refcount h from to)) (record { refusal = 0; value = v }) t w₂
   refcount-returns d from to v e ev =
       let y = is_live_lem d e in
       number-returns t w h d y (Reading.Refcount h from to) (reach_in from to) (refcount-reads h from to) v w₂ (ev ∙ reach-same t w h d y from to) ew
 
-  pub refcount-refused : (from to : ℕ) (r : Refusal) → a ≡ Refused r → (x : replies.Reply) → x ≡ reply_for (Refused r) → Returns reply_of t w (Call.Read (Reading.Refcount h from to)) x t w₂
+  pub refcount-refused : (from to : ℕ) (r : Refusal) → a ≡ Err r → (x : replies.Reply) → x ≡ reply_for (Err r) → Returns reply_of t w (Call.Read (Reading.Refcount h from to)) x t w₂
   refcount-refused from to r e x ex = refused-returns t w h _ (is-refused r e) (Reading.Refcount h from to) _ (refcount-reads h from to) x w₂ ex ew
 
-  pub cores-returns : (d v : ℕ) → a ≡ Done d → v ≡ (head_at (view t) d).cores → Returns reply_of t w (Call.Read (Reading.CoreMap h)) (record { refusal = 0; value = v }) t w₂
+  pub cores-returns : (d v : ℕ) → a ≡ Ok d → v ≡ (head_at (view t) d).cores → Returns reply_of t w (Call.Read (Reading.CoreMap h)) (record { refusal = 0; value = v }) t w₂
   cores-returns d v e ev =
       let y = is_live_lem d e in
       number-returns t w h d y (Reading.CoreMap h) cores_in (cores-reads h) v w₂ (ev ∙ cores-same t w h d y) ew
 
-  pub cores-refused : (r : Refusal) → a ≡ Refused r → (x : replies.Reply) → x ≡ reply_for (Refused r) → Returns reply_of t w (Call.Read (Reading.CoreMap h)) x t w₂
+  pub cores-refused : (r : Refusal) → a ≡ Err r → (x : replies.Reply) → x ≡ reply_for (Err r) → Returns reply_of t w (Call.Read (Reading.CoreMap h)) x t w₂
   cores-refused r e x ex = refused-returns t w h _ (is-refused r e) (Reading.CoreMap h) _ (cores-reads h) x w₂ ex ew
 
 -- ---- the holders of an address: b is what the test said, run₂ and w₂ what was left
@@ -128,7 +127,7 @@ module _ (t w : List ℕ) (a : ℕ) (run : List ℕ) (b : Bool) (said : b ≡ ad
         reply = ap (λ (m : ℕ). record { refusal = 0; value = m }) (en ∙ ap length same);
       }
 
-  pub holders-refused : b ≡ false → (x : replies.Reply) → x ≡ reply_for (Refused memory) → ListsHolders t w a run x w₂ run
+  pub holders-refused : b ≡ false → (x : replies.Reply) → x ≡ reply_for (Err memory) → ListsHolders t w a run x w₂ run
   holders-refused e x ex = record {
     answer = Answer.no memory;
     after = subst (λ u. AfterHolders t w a run (Answer.no memory) t u run) (sym ew) (Filled.untouched memory t (zeroed w) (not-admitted t w (Call.Read (Reading.Holders a)) tt (sym said ∙ e)));

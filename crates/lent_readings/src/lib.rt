@@ -13,7 +13,7 @@ ghost use Rattle.lent_readings.specs.Permissions.{Plans};
 use answers::Answer;
 use refusals::Refusal;
 use replies::Reply;
-use tables::Handle;
+use tables::{DomainHead, Handle};
 
 // How many records fill a run, the link of the first, and the reply.
 #[derive(Clone, Copy)]
@@ -34,7 +34,7 @@ fn domain_read(t: &[u64], w: &mut [u64], domain: u64, generation: u64) -> Answer
         };
         return checks::live_domain(t, h);
     }
-    Answer::Refused(Refusal::MEMORY)
+    Err(Refusal::Memory)
 }
 
 pub fn get_refcount(
@@ -48,11 +48,11 @@ pub fn get_refcount(
     ensures { Returns reply_of t.now w.old (Call.Read (Reading.Refcount (handle domain generation) start end)) result t.now w.new }
 {
     match domain_read(t, w, domain, generation) {
-        Answer::Done(d) => Reply {
+        Ok(d) => Reply {
             refusal: 0,
             value: readings::get_refcount(t, d as usize, start, end),
         },
-        Answer::Refused(r) => replies::refused(r),
+        Err(r) => Reply::from(r),
     }
 }
 
@@ -60,14 +60,14 @@ pub fn core_map(t: &[u64], w: &mut [u64], domain: u64, generation: u64) -> Reply
     ensures { Returns reply_of t.now w.old (Call.Read (Reading.CoreMap (handle domain generation))) result t.now w.new }
 {
     match domain_read(t, w, domain, generation) {
-        Answer::Done(d) => {
-            let x = domain_rows::load_head(t, d as usize);
+        Ok(d) => {
+            let x = rows::load::<DomainHead>(t, d as usize);
             Reply {
                 refusal: 0,
                 value: x.cores,
             }
         }
-        Answer::Refused(r) => replies::refused(r),
+        Err(r) => Reply::from(r),
     }
 }
 
@@ -76,7 +76,7 @@ pub fn listing_of(t: &[u64], w: &mut [u64], domain: u64, generation: u64, room: 
     ensures { Plans t.now w.old (handle domain generation) room result w.new }
 {
     match domain_read(t, w, domain, generation) {
-        Answer::Done(d) => {
+        Ok(d) => {
             let p = readings::plan_of(t, d as usize, room);
             let reply = Reply {
                 refusal: 0,
@@ -88,8 +88,8 @@ pub fn listing_of(t: &[u64], w: &mut [u64], domain: u64, generation: u64, room: 
                 reply,
             }
         }
-        Answer::Refused(r) => {
-            let reply = replies::refused(r);
+        Err(r) => {
+            let reply = Reply::from(r);
             Listing {
                 turns: 0,
                 at: 0,
@@ -109,5 +109,5 @@ pub fn holders(t: &[u64], w: &mut [u64], address: u64, run: &mut [u64]) -> Reply
             value: holders::holders(t, address, run),
         };
     }
-    replies::refused(Refusal::MEMORY)
+    Reply::from(Refusal::Memory)
 }

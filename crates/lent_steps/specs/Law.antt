@@ -1,6 +1,6 @@
 -- A call that is one step does what the model's `After` says: admitted tables are the words of one sound state, on which the code's step does what the
 -- model's step does (`call-refines`).
-use Rattle.std.specs.Prelude.{◌≡◌, ℕ, Bool, true, List, length, replicate}
+use Rattle.std.specs.Prelude.{◌≡◌, ℕ, Bool, true, List, length, replicate, Ok, Err}
 use Rattle.std.proofs.Math.Path.{refl, ap, subst}
 use Rattle.std.proofs.Common.{sym, ◌∙◌}
 use Rattle.model.specs.Lists.{Each}
@@ -12,8 +12,7 @@ use Rattle.model.specs.CallWords.{StepWords}
 use Rattle.model.specs.Layout.{words}
 use Rattle.model.specs.Memory.{Lent, zeroed}
 use Rattle.tables.specs.View.{view, Left}
-use Rattle.answers.specs.declared.Answer as code
-use Rattle.answers.specs.declared.Answer.TheVariants.{Done, Refused}
+use Rattle.answers.specs.Answers as code
 use Rattle.answers.specs.Answers.{Effect}
 use Rattle.decoded.specs.Tables.{tables_of}
 use Rattle.decoded.specs.Words.{words-held, held-words}
@@ -42,11 +41,11 @@ module _ (t w : List ℕ) (s : State) (l : Lent t w s) (c : model.Step) (a : cod
   by-outcome : (x : Effect) → a ≡ x.answer → Left u x.tables → (o : Outcome (Value × State)) → perform_step s c ≡ o → Agrees x (o >>= λ y. ok (slot_from y.0, y.1)) → Ends (step s (Call.Do c))
   unfolding step perform ◌>>=◌ Ends
   by-outcome x e v (ok y) p g =
-      let b : a ≡ Done (slot_from y.0) = e ∙ g.0 in
+      let b : a ≡ Ok (slot_from y.0) = e ∙ g.0 in
       subst Ends (sym (ap (outcome-after s) p))
       (ap reply_for b, ap (λ z. finished z u t) b ∙ held-words y.1 u (subst (Left u) g.1 v))
   by-outcome x e v (refuse r) p g =
-      let b : a ≡ Refused r = e ∙ g in
+      let b : a ≡ Err r = e ∙ g in
       subst Ends (sym (ap (outcome-after s) p))
       (ap reply_for b, ap (λ z. finished z u t) b ∙ copy-back t u long ∙ l.tables)
 

@@ -3,8 +3,7 @@ use Rattle.std.specs.Prelude.{◌≡◌, refl, ℕ, List}
 use Rattle.std.proofs.Common.{ap, subst, ◌∙◌}
 use Rattle.tables.specs.Tables.{Tables}
 use Rattle.tables.specs.View.{Left}
-use Rattle.answers.specs.declared.Answer.{Answer}
-use Rattle.answers.specs.Answers.{Effect}
+use Rattle.answers.specs.Answers.{Answer, Effect}
 use Rattle.send_options.specs.declared.SendOptions.TheVariants as options
 use Rattle.call.specs.declared.Call.{Call}
 use Rattle.call.specs.declared.Call.TheVariants.{Open, OpenUnder, Channel, SetCoreMap, SetInterface, FreezeInterface, Root, Alias, Carve, Send, Revoke, CreateRevokeCapa}

@@ -21,7 +21,7 @@ pub fn run(t: &mut [u64], w: &mut [u64], call: call::Call) -> Reply
         let a = calls::step(t, call);
         return frame::finish(t, w, a);
     }
-    replies::refused(Refusal::MEMORY)
+    Reply::from(Refusal::Memory)
 }
 
 // The same for a call that is refused, if at all, before its first change: nothing has to be put back, so no copy is kept.
@@ -32,7 +32,7 @@ pub fn run_unkept(t: &mut [u64], w: &mut [u64], call: call::Call) -> Reply
 {
     if frame::admits(t, w) {
         let answer = calls::step(t, call);
-        return replies::reply_for(answer);
+        return Reply::from(answer);
     }
-    replies::refused(Refusal::MEMORY)
+    Reply::from(Refusal::Memory)
 }

@@ -47,9 +47,6 @@ module _ (d : ℕ) where
     pub filled : fill_from (5 * n) (flat (line_of d) l) run ≡ fill_run (flat (line_of d) l₀) run₀
     pub room : length run ≡ length run₀
 
-  pub filling-start : (l : List Region) (run : List ℕ) → Filling 0 l run l run
-  filling-start l run = record { seen = omega arith; filled = refl; room = refl }
-
   end_none : (n : ℕ) (run : List ℕ) (l₀ : List Region) (run₀ : List ℕ) → Filling n [] run l₀ run₀ → (n ≡ length l₀) × (run ≡ fill_run (flat (line_of d) l₀) run₀)
   unfolding flat
   end_none n run l₀ run₀ f = (omega (arith, f.seen), sym (fill_none (5 * n) run) ∙ f.filled)

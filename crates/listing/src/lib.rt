@@ -8,6 +8,7 @@ ghost use Rattle.tables.specs.View.{view, Sized};
 ghost use Rattle.readings.specs.Readings.{fill_run};
 ghost use Rattle.listing.specs.Listed.{line_of, listed_of, with_line};
 
+use pools::Pool;
 use tables::Region;
 use tracker_records::links;
 
@@ -29,21 +30,18 @@ pub fn fill_lines(t: &[u64], d: usize, run: &mut [u64]) -> usize
     ensures value { result ≡ length (listed_of (view t.now) d) }
     ensures run_after { run.new ≡ fill_run (flat (line_of d) (listed_of (view t.now) d)) run.old }
 {
-    if pools::domain_is_free(t, d) {
+    if pools::is_free(t, Pool::Domains, d) {
         return 0;
     }
-    let mut n: usize = 0;
-    let mut left = words::size(t, sizes::RECORDS);
+    let records = words::size(t, sizes::RECORDS);
     let mut k = links::first(t, d);
-    while 0 < left {
+    for n in 0..records {
         if k == 0 {
             return n;
         }
-        let q = record_rows::load_record(t, tables::slot_to(k));
+        let q = rows::load::<Region>(t, tables::slot_to(k));
         put_line(run, 5 * n, d as u64, q);
         k = q.next;
-        n += 1;
-        left -= 1;
     }
-    n
+    records
 }

@@ -6,7 +6,7 @@ use Rattle.tables.specs.Tables.{Tables, no_record, with_record}
 use Rattle.region.specs.declared.AccessRights.{AccessRights}
 use Rattle.region.specs.Turns.{Turn, to, onward}
 use Rattle.walk_cursors.specs.declared.Cursor.{Cursor}
-use Rattle.walk_cursors.specs.declared.Progress.TheVariants.{Going}
+use Rattle.std.proofs.Common.{Continue}
 use Rattle.walk_cursors.specs.Cursors.{next_of, dropped_of}
 use Rattle.counts.specs.Counts.{lowered, crossings_of}
 use Rattle.tables.specs.Links.{slot_to}
@@ -17,4 +17,4 @@ unfoldable pub lower_turn : Tables → ℕ → AccessRights → Cursor → Regio
 lower_turn s d a c q =
     let p = lowered a.ops.0 q in
     pick (eqb p.ref_count 0) (onward (freed_record (with_next s d c.prev q.next) (slot_to c.at)) (λ v. dropped_of c q.next (crossings_of q no_record)))
-    (to (Going (next_of c q.next c.start (crossings_of q p))) (with_record s (slot_to c.at) p))
+    (to (Continue (next_of c q.next c.start (crossings_of q p))) (with_record s (slot_to c.at) p))

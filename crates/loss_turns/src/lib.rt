@@ -6,8 +6,8 @@ ghost use Rattle.std.specs.Prelude.{◌≡◌};
 ghost use Rattle.tables.specs.View.{view, Sized, Left};
 ghost use Rattle.loss_turns.specs.Turns.{lower_turn};
 
-use answers::Answer;
 use region::AccessRights;
+use std::ops::ControlFlow;
 use tables::Region;
 use tracker_records::links;
 use walk_cursors::{Cursor, Progress};
@@ -21,16 +21,12 @@ pub fn lower(t: &mut [u64], d: usize, a: AccessRights, c: Cursor, q: Region) -> 
     let p = counts::decrease(q, a.ops);
     let i = tables::slot_to(c.at);
     if p.ref_count != 0 {
-        record_rows::store_record(t, i, p);
+        rows::store(t, i, p);
         return walk_cursors::going(c, q.next, c.start, counts::crossings(q, p));
     }
     links::set_next(t, d, c.prev, q.next);
     match links::free(t, i) {
-        Answer::Done(v) => walk_cursors::dropped(
-            c,
-            q.next,
-            counts::crossings(q, tables::no_record()),
-        ),
-        Answer::Refused(r) => Progress::Over(Answer::Refused(r)),
+        Ok(v) => walk_cursors::dropped(c, q.next, counts::crossings(q, Region::default())),
+        Err(r) => ControlFlow::Break(Err(r)),
     }
 }

@@ -1,5 +1,5 @@
 -- Cleared words with the sizes in their header are blank, and blank words with three new pools are the empty tables.
-use Rattle.std.specs.Prelude.{◌≡◌, ℕ, ◌+◌, ◌-◌, ◌*◌, ◌<◌, get_or, replicate}
+use Rattle.std.specs.Prelude.{◌≡◌, ℕ, ◌+◌, ◌-◌, ◌<◌, get_or, replicate}
 use Rattle.std.proofs.Common.{sym, ◌∙◌, arith, get_or-append-add}
 use Rattle.std.proofs.Math.Path.{ap}
 use mathlib.Core.List.{List, [], ◌∷◌, ◌++◌, map}

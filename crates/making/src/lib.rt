@@ -37,7 +37,7 @@ pub fn make_empty(t: &mut [u64], z: Sizes)
     ensures { t.new ≡ layout (empty z) }
 {
     blank(t, z);
-    pools::fresh_in(t, Pool::Domains);
-    pools::fresh_in(t, Pool::Regions);
-    pools::fresh_in(t, Pool::Records);
+    pools::fresh(t, Pool::Domains);
+    pools::fresh(t, Pool::Regions);
+    pools::fresh(t, Pool::Records);
 }

@@ -18,25 +18,29 @@ pub fn domains_of<'a>(t: &'a [u64]) -> &'a [u64]
     words::run(t, sizes::domains_at(z), z.domains * sizes::domain_width(z))
 }
 
+#[tactic(auto, unfolding(crate::specs::Managers::manager_in))]
 pub fn manager_in(z: Sizes, p: &[u64], i: usize) -> u64
     requires { Limits z }
     ensures { result ≡ manager_in z p.now i }
 {
     if i < z.domains {
-        return words::word(p, i * sizes::domain_width(z));
+        words::word(p, i * sizes::domain_width(z))
+    } else {
+        0
     }
-    0
 }
 
 // The manager's link of the domain that a link names.
+#[tactic(auto, unfolding(crate::specs::Managers::above))]
 fn above_of(z: Sizes, p: &[u64], l: u64) -> u64
     requires { Limits z }
     ensures { result ≡ above (manager_in z p.now) l }
 {
     if 0 < l {
-        return manager_in(z, p, (l - 1) as usize);
+        manager_in(z, p, (l - 1) as usize)
+    } else {
+        0
     }
-    0
 }
 
 // n steps up from a link, or fewer where there is nobody above.
@@ -45,13 +49,11 @@ pub fn climb(z: Sizes, p: &[u64], n: usize, l: u64) -> u64
     ensures { result ≡ climbed (manager_in z p.now) n l }
 {
     let mut at = l;
-    let mut i = 0;
-    while i < n {
+    for _ in 0..n {
         if at == 0 {
             return 0;
         }
         at = above_of(z, p, at);
-        i += 1;
     }
     at
 }

@@ -1,11 +1,10 @@
 -- One slot more is marked, and no other; what was marked in words that were all zero is cleared again.
-use Rattle.std.specs.Prelude.{◌≡◌, refl, ◌≢◌, ℕ, ◌+◌, ◌-◌, ◌*◌, ◌/◌, ◌%◌, ◌^◌, ◌≤◌, ◌<◌, Bool, true, false, ◌||◌, List, ◌++◌, eqb, length, get_or, drop}
+use Rattle.std.specs.Prelude.{◌≡◌, refl, ◌≢◌, ℕ, ◌+◌, ◌-◌, ◌*◌, ◌/◌, ◌%◌, ◌^◌, ◌≤◌, ◌<◌, min, Bool, true, false, ◌||◌, List, ◌++◌, eqb, length, get_or, drop}
 use Rattle.std.proofs.Common.{sym, ◌∙◌, arith, length-drop, get_or-set_same, get_or-drop, ext_get_or, shl_exact}
 use Rattle.std.proofs.Math.Path.{ap}
 use Rattle.std.proofs.Math.Nat.{zero-div}
 use Rattle.std.proofs.Math.Decide.{ℕ_discrete}
 use borrow.Author.Tests.{eq-eqb, ne_eqb, le-leb, lt-leb}
-use borrow.Rule.Slice.PartMut.{put_mid}
 use Rattle.std.proofs.Math.ListN.{replicate, length-set}
 use Rattle.std.proofs.lemmas.List.{length-replicate, replicate-append-replicate}
 use Rattle.std.proofs.Math.Seq.{get_or-set_other}
@@ -78,14 +77,14 @@ unmarked-zero w n b h =
 -- ---- as the code clears
 
 -- n / 64, rounded up
-pub rounded : (n : ℕ) → n / 64 + (n % 64 + 63) / 64 ≡ words_for n
+pub rounded : (n : ℕ) → n / 64 + min 1 (n % 64) ≡ words_for n
 rounded n = omega arith
 
 module _ (w : List ℕ) (n k : ℕ) (ek : k ≡ words_for n) where
-  pub cleared : (m : ℕ) (p : List ℕ) → m ≡ k → k ≤ length w → p ≡ replicate k 0 → put_mid 0 m w p ≡ unmarked w n
+  pub cleared : (p : List ℕ) → k ≤ length w → p ≡ replicate k 0 → p ++ drop k w ≡ unmarked w n
   unfolding unmarked
-  cleared m p em h ep =
-      ap (λ x. put_mid 0 x w p) (em ∙ ek) ∙ ap (put_mid 0 (words_for n) w) (ep ∙ ap (λ x. replicate x 0) ek) ∙ rw (le-leb (words_for n) (length w) (omega arith))
+  cleared p h ep =
+      ap (λ x. x ++ drop k w) ep ∙ ap (λ x. replicate x 0 ++ drop x w) ek ∙ rw (le-leb (words_for n) (length w) (omega arith))
 
   pub not-cleared : length w < k → w ≡ unmarked w n
   unfolding unmarked

@@ -19,12 +19,12 @@ pub fn mark(w: &mut [u64], i: usize)
     words::put(w, i / 64, x | bit);
 }
 
-// Clears the words that the marks of n slots stand in: n / 64, rounded up with no sum that could wrap.
+// Clears the words that the marks of n slots stand in.
 pub fn clear(w: &mut [u64], n: usize)
     ensures { w.new ≡ unmarked w.old n }
 {
-    let k = n / 64 + (n % 64 + 63) / 64;
+    let k = n.div_ceil(64);
     if k <= w.len() {
-        words::clear(&mut w[0..k]);
+        w[..k].fill(0);
     }
 }

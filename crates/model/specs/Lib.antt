@@ -34,7 +34,7 @@
 -- which file a name stands; Rattle.std, mathlib, native, borrow and Prim are the kit's.
 -- At their edges: get_or l i d is d past the end of l, and get_elem? l i is none; set l i x is l past its end; Option.get_or o d is d where o is none; m - n is 0
 -- where n is more than m; m / n is without the rest, which is m % n. Arithmetic signs of one rank are done from left to right. flat_map f l is the lists f x one
--- behind the other. A refusal r is its number, r.0. Records have no update: a function that changes one part says the others again, each
+-- behind the other. A refusal r has the number `number r`. Records have no update: a function that changes one part says the others again, each
 -- from the old value.
 -- A name with a capital first is a type, a fact or a form, all capitals a flag: `hash_words` gives words, `HashWords` says that they are below 2^64. The parts
 -- of a fact begin small, as those of any record: `RegionSound` has a part hash_words. So do some forms: `ok`, `refuse`, `region`, `permission`, `domain`, `yes`.

@@ -8,9 +8,10 @@ use Rattle.model.specs.CallWords.{StepWords}
 use Rattle.region.specs.declared.AccessRights.{AccessRights}
 use Rattle.call.specs.declared.Call as code
 use Rattle.call.specs.Steps.{step_named}
+use Rattle.script_records.specs.declared.Kind.{Kind}
 use Rattle.script_records.specs.declared.Record.{Record}
-use Rattle.script_records.specs.Script.{kind_of, handle, manager_of}
-use Rattle.script_records.specs.Parsed.{rights_for, rights_in, call_for, call_in}
+use Rattle.script_records.specs.Script.{handle, manager_of}
+use Rattle.script_records.specs.Parsed.{named, rights_for, rights_in, call_for, call_in}
 use Rattle.naming.specs.Given.{Given}
 
 abbrev pub access_named : ℕ → ℕ → ℕ → AccessRights
@@ -23,15 +24,15 @@ pub record Names (r : Record) (x : code.Call) : Type 0 where
 
 -- ---- where the kind is known
 
-module _ (k : ℕ) (r : Record) (e : r.kind ≡ k) where
-  pub rights-at : Given r → rights_for (kind_of k) r < 256
+module _ (k : Kind) (r : Record) (e : r.kind ≡ k) where
+  pub rights-at : Given r → rights_for (named k) r < 256
   unfolding rights_in
-  rights-at g = subst (λ (n : ℕ). rights_for (kind_of n) r < 256) e g.rights
+  rights-at g = subst (λ (n : Kind). rights_for (named n) r < 256) e g.rights
 
   -- the call that kind k names is the record's
-  pub names_at : (x : code.Call) → Call.Do (step_named x) ≡ call_for (kind_of k) r → StepWords (step_named x) → Names r x
+  pub names_at : (x : code.Call) → Call.Do (step_named x) ≡ call_for (named k) r → StepWords (step_named x) → Names r x
   unfolding call_in
-  names_at x h w = record { call = h ∙ ap (λ (n : ℕ). call_for (kind_of n) r) (sym e); words = w }
+  names_at x h w = record { call = h ∙ ap (λ (n : Kind). call_for (named n) r) (sym e); words = w }
 
 -- "slot 2^64 − 1 is no manager"
 pub alone-is : (slot gen cores : ℕ) → slot ≡ 2 ^ 64 - 1 → Step.Open none cores ≡ Step.Open (manager_of slot gen) cores

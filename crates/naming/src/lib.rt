@@ -12,12 +12,12 @@ ghost use Rattle.naming.specs.Named.{Names, access_named};
 
 use region::AccessRights;
 use rights::Rights;
-use script_records::Record;
+use script_records::{Kind, Record};
 use send_options::SendOptions;
 use tables::Handle;
 
 // "slot 2^64 − 1 is no manager".
-const NO_MANAGER: u64 = 18446744073709551615;
+const NO_MANAGER: u64 = u64::MAX;
 
 // A range with rights, which were tested.
 fn access(start: u64, end: u64, rights: u64) -> AccessRights
@@ -28,7 +28,7 @@ fn access(start: u64, end: u64, rights: u64) -> AccessRights
     AccessRights { start, end, ops }
 }
 
-// Kind 1: open.
+// The call of a record of kind `Open`.
 fn opening(r: Record) -> call::Call
     ensures { (step_named result ≡ Step.Open (manager_of r.a r.b) r.c) × StepWords (step_named result) }
 {
@@ -42,7 +42,7 @@ fn opening(r: Record) -> call::Call
     call::Call::OpenUnder(manager, r.c)
 }
 
-// The call that a record names: root, alias, carve, send, revoke and RegionRevoke are kinds 2 to 7.
+// The call that a record names.
 pub fn call_of(r: Record) -> call::Call
     requires { Given r }
     ensures { Names r result }
@@ -52,22 +52,21 @@ pub fn call_of(r: Record) -> call::Call
         generation: r.b,
     };
     let local = r.c as usize;
-    let kind = r.kind;
-    match kind {
-        1 => opening(r),
-        2 => call::Call::Root(domain, access(r.c, r.d, r.e)),
-        3 => call::Call::Alias(call::Child {
+    match r.kind {
+        Kind::Open => opening(r),
+        Kind::Root => call::Call::Root(domain, access(r.c, r.d, r.e)),
+        Kind::Alias => call::Call::Alias(call::Child {
             domain,
             local,
             access: access(r.d, r.e, r.f),
         }),
-        4 => call::Call::Carve(call::Child {
+        Kind::Carve => call::Call::Carve(call::Child {
             domain,
             local,
             access: access(r.d, r.e, r.f),
         }),
-        5 => call::Call::Send(domain, local, r.d as usize, SendOptions::None),
-        6 => call::Call::Revoke(domain, local),
-        _ => call::Call::CreateRevokeCapa(domain, local),
+        Kind::Send => call::Call::Send(domain, local, r.d as usize, SendOptions::None),
+        Kind::Revoke => call::Call::Revoke(domain, local),
+        Kind::CreateRevokeCapa => call::Call::CreateRevokeCapa(domain, local),
     }
 }

@@ -1,6 +1,6 @@
 -- A new domain: an empty list and an empty tracker in a slot of its own (`Domain::new`), and an interface with all three bits (document 02, request
 -- 2).
-use Rattle.std.specs.Prelude.{ℕ, zero, suc, ◌+◌, List, [], ◌∷◌, ltb}
+use Rattle.std.specs.Prelude.{ℕ, zero, suc, ◌+◌, List, [], ◌∷◌, ltb, Option, Some, None}
 use Rattle.sizes.specs.Limits.{most_slots}
 use Rattle.base.specs.Cases.{pick}
 use Rattle.tables.specs.declared.Slot.{Slot}
@@ -8,8 +8,7 @@ use Rattle.tables.specs.declared.DomainHead.{DomainHead}
 use Rattle.tables.specs.declared.Interface.{Interface}
 use Rattle.tables.specs.Interface.{OPEN}
 use Rattle.tables.specs.Tables.{Tables, no_slot, with_head, with_interface, with_domain_pool}
-use Rattle.arena.specs.declared.Given.{Given}
-use Rattle.arena.specs.declared.Given.TheVariants.{At, Full}
+use Rattle.tables.specs.declared.Handle.{Handle}
 use Rattle.arena.specs.Arena.{given, allocated}
 use Rattle.refusals.specs.Refusals.{no_domain_room}
 use Rattle.answers.specs.Answers.{Effect, done, refused}
@@ -35,10 +34,10 @@ open_interface = record { word = OPEN; frozen = 0 }
 abbrev pub taken : Tables → Tables
 taken s = with_domain_pool s (allocated s.domain_pool)
 
-abbrev opened_at : Tables → ℕ → ℕ → Given → Effect
-opened_at s manager cores (At h) =
+abbrev opened_at : Tables → ℕ → ℕ → Option Handle → Effect
+opened_at s manager cores (Some h) =
     done h.slot (with_interface (with_list (with_head (taken s) h.slot (new_head manager cores)) h.slot (fresh_list s.sizes.slots)) h.slot open_interface)
-opened_at s manager cores Full = refused no_domain_room (taken s)
+opened_at s manager cores None = refused no_domain_room (taken s)
 
 -- with the link of its manager; the answer is the slot (the model's new_domain)
 unfoldable pub new_domain : ℕ → ℕ → Tables → Effect

@@ -9,7 +9,7 @@ ghost use Rattle.new_domain.specs.Opened.{fresh_list, new_domain};
 ghost use Rattle.new_domain.specs.Fresh.{fresh_slot};
 
 use answers::Answer;
-use arena::Given;
+use pools::Pool;
 use refusals::Refusal;
 use sizes::MOST_SLOTS;
 use slot_list::SlotList;
@@ -26,18 +26,16 @@ fn fresh_slot(n: usize, i: usize) -> Slot
         }
         return slot_list::free_slot(0);
     }
-    tables::no_slot()
+    Slot::default()
 }
 
 // `FreeList::new`.
 pub fn fresh_list(n: usize) -> SlotList
     ensures { result ≡ fresh_list n }
 {
-    let mut slots = [tables::no_slot(); MOST_SLOTS];
-    let mut i = 0;
-    while i < MOST_SLOTS {
+    let mut slots = [Slot::default(); MOST_SLOTS];
+    for i in 0..MOST_SLOTS {
         slots[i] = fresh_slot(n, i);
-        i += 1;
     }
     SlotList {
         slots,
@@ -54,25 +52,21 @@ pub fn new_domain(t: &mut [u64], manager: u64, cores: u64) -> Answer
     ensures left { Left t.new (new_domain manager cores (view t.old)).tables }
 {
     let n = words::size(t, sizes::SLOTS);
-    match pools::allocate_domain(t) {
-        Given::At(h) => {
-            let i = h.slot as usize;
-            let head = DomainHead {
-                manager,
-                cores,
-                tracker: 0,
-                head: 0,
-                count: 0,
-            };
-            domain_rows::store_head(t, i, head);
-            stored_slots::store_list(t, i, fresh_list(n));
-            let interface = Interface {
-                word: Interface::OPEN,
-                frozen: 0,
-            };
-            interface_rows::store_interface(t, i, interface);
-            Answer::Done(h.slot)
-        }
-        Given::Full => Answer::Refused(Refusal::NO_DOMAIN_ROOM),
-    }
+    let h = pools::allocate(t, Pool::Domains).ok_or(Refusal::NoDomainRoom)?;
+    let i = h.slot as usize;
+    let head = DomainHead {
+        manager,
+        cores,
+        tracker: 0,
+        head: 0,
+        count: 0,
+    };
+    rows::store(t, i, head);
+    stored_slots::store_list(t, i, fresh_list(n));
+    let interface = Interface {
+        word: Interface::OPEN,
+        frozen: 0,
+    };
+    rows::store(t, i, interface);
+    Ok(h.slot)
 }

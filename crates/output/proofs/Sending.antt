@@ -1,36 +1,34 @@
 -- Bytes handed to a writer one write after another.
-use Rattle.std.proofs.Common.{◌≡◌, ℕ, ◌+◌, ◌-◌, ◌≤◌, false, List, Option, Result, Ok, Err, sym, length, take, drop, arith, take-add, take-append-drop, length-drop}
-use Rattle.std.proofs.lemmas.List.{take_rest}
-use Rattle.std.specs.Result.{result_unwrap_or}
-use Rattle.std.specs.Io.{WritesAtMost}
-use Rattle.std.specs.Io.KnownBytes.{Appends, WriteAppends}
+use Rattle.std.proofs.Common.{◌≡◌, ℕ, true, false, List, [], ◌++◌, Option, refl, sym, ap, ◌∙◌, take, drop, append_assoc, append-nil, take-append-drop}
+use Rattle.std.specs.Io.KnownBytes.{Appends, Keeps}
 use Rattle.std.proofs.KnownBytes.{Appends-nil, Appends-trans, Appends-kept}
 use Rattle.output.specs.Sent.{Sent}
 
--- a write that fails takes none
-taken : {E : Type 0} (old new : Option (List ℕ)) (r : Result ℕ E) (l : List ℕ) → WriteAppends old new r l → Appends old new (take (result_unwrap_or r 0) l)
-taken old new (Ok n) l h = h
-taken old new (Err e) l h = Appends-kept old old new _ (Appends-nil old) h
+-- Of the bytes l the first went out, and `rest` are left.
+pub record Going (old now : Option (List ℕ)) (l rest : List ℕ) : Type 0 where
+  pub first : List ℕ
+  pub parts : l ≡ first ++ rest
+  pub behind : Appends old now first
 
-few : {E : Type 0} (r : Result ℕ E) (l : List ℕ) → WritesAtMost r l → result_unwrap_or r 0 ≤ length l
-few (Ok n) l h = h
-few (Err e) l h = omega arith
+pub going-none : (old : Option (List ℕ)) (l : List ℕ) → Going old old l l
+going-none old l = record { first = []; parts = refl; behind = Appends-nil old }
 
-module _ (old now : Option (List ℕ)) (l : List ℕ) (done : ℕ) (u : done ≤ length l) (h : Appends old now (take done l)) where
-  -- a write of the others
-  module _ {E : Type 0} (new : Option (List ℕ)) (r : Result ℕ E) (n : ℕ) (e : n ≡ result_unwrap_or r 0) where
-    pub sent-more : WritesAtMost r (take (length l - done) (drop done l)) → WriteAppends now new r (take (length l - done) (drop done l))
-        → (done + n ≤ length l) × Appends old new (take (done + n) l)
-    sent-more m w =
-        let b = rw take_rest at m in
-        let a = rw take_rest at w in
-        (omega (arith, few r _ b, length-drop done l), rw (e, take-add) (Appends-trans old now new _ _ h (taken now new r _ a)))
+module _ {old now : Option (List ℕ)} {l rest : List ℕ} (h : Going old now l rest) where
+  -- a write took n bytes
+  pub going-more : (new : Option (List ℕ)) (n : ℕ) → Appends now new (take n rest) → Going old new l (drop n rest)
+  going-more new n w = record {
+    first = h.first ++ take n rest;
+    parts = h.parts ∙ ap (λ (x : List ℕ). h.first ++ x) (sym (take-append-drop n rest)) ∙ sym (append_assoc h.first (take n rest) (drop n rest));
+    behind = Appends-trans old now new _ _ h.behind w;
+  }
 
-    pub sent-some : WritesAtMost r (take (length l - done) (drop done l)) → WriteAppends now new r (take (length l - done) (drop done l)) → Sent old l false new
-    sent-some m w = record {
-      first = take (done + n) l;
-      rest = drop (done + n) l;
-      parts = sym (take-append-drop (done + n) l);
-      behind = (sent-more m w).1;
-      whole = λ f. cc;
-    }
+  pub going-kept : (new : Option (List ℕ)) → Keeps now new → Going old new l rest
+  going-kept new k = record { first = h.first; parts = h.parts; behind = Appends-kept old now new h.first h.behind k }
+
+  pub sent-some : Sent old l false now
+  sent-some = record { first = h.first; rest = rest; parts = h.parts; behind = h.behind; whole = λ f. cc }
+
+  pub sent-all : rest ≡ [] → Sent old l true now
+  sent-all e =
+      let w : h.first ≡ l = sym (h.parts ∙ ap (λ (x : List ℕ). h.first ++ x) e ∙ append-nil h.first) in
+      record { first = h.first; rest = rest; parts = h.parts; behind = h.behind; whole = λ f. w }

@@ -1,12 +1,10 @@
 -- Bytes put into a run one behind another.
-use Rattle.std.specs.Prelude.{◌≡◌, refl, ℕ, ◌+◌, ◌≤◌, ◌<◌, List, [], ◌∷◌, ◌++◌, length, get_or, take, drop}
-use Rattle.std.proofs.Common.{sym, ap, subst, ◌∙◌, add-one, arith, length-append, length-take-le, take_all, take-suc, take_at}
+use Rattle.std.specs.Prelude.{◌≡◌, refl, ℕ, ◌+◌, ◌≤◌, List, ◌++◌, length, take, drop}
+use Rattle.std.proofs.Common.{sym, ap, subst, ◌∙◌, append_assoc, arith, length-append, length-take-le, take_at}
 use Rattle.std.proofs.lemmas.List.Edits.{sets, sets-eq}
+use Rattle.std.proofs.lemmas.List.{drop-drop}
 use Rattle.words.specs.Stores.{sets-append}
 use Rattle.output.specs.Text.{Puts}
-
-pub puts_none : (t : List ℕ) (n : ℕ) → Puts t n [] (n + 0) t
-puts_none t n = record { end = refl; stored = refl }
 
 pub puts_then : {t : List ℕ} {n : ℕ} {a : List ℕ} {m : ℕ} {t₁ b : List ℕ} {r : ℕ} {t₂ : List ℕ} → Puts t n a m t₁ → Puts t₁ m b r t₂ → Puts t n (a ++ b) r t₂
 puts_then {t} {n} {a} {m} {t₁} {b} {r} {t₂} h k = record {
@@ -17,17 +15,12 @@ puts_then {t} {n} {a} {m} {t₁} {b} {r} {t₂} h k = record {
 pub puts-same : {t : List ℕ} {n : ℕ} {a b : List ℕ} {r : ℕ} {t₁ : List ℕ} → a ≡ b → Puts t n a r t₁ → Puts t n b r t₁
 puts-same {t} {n} {r = r} {t₁ = t₁} e h = subst (λ (l : List ℕ). Puts t n l r t₁) e h
 
--- ---- byte by byte: i bytes of s stand there
-
-module _ (t : List ℕ) (n : ℕ) (s : List ℕ) (i : ℕ) (t₁ : List ℕ) (h : Puts t n (take i s) (n + i) t₁) where
-  pub puts-more : {r : ℕ} {t₂ : List ℕ} → i < length s → Puts t₁ (n + i) (get_or s i 0 ∷ []) r t₂ → Puts t n (take (i + 1) s) (n + (i + 1)) t₂
-  puts-more {r} {t₂} u k =
-      let e : take i s ++ (get_or s i 0 ∷ []) ≡ take (i + 1) s = sym (ap (λ (j : ℕ). take j s) (add-one i) ∙ take-suc s i 0 u) in
-      let p = puts-same e (puts_then h k) in
-      record { end = omega (arith, length-take-le (i + 1) s (omega arith)); stored = p.stored }
-
-  pub puts-all : length s ≤ i → Puts t n s (n + i) t₁
-  puts-all u = puts-same (take_all i s u) h
+-- copied into a part of the run
+pub puts-copied : (t : List ℕ) (n : ℕ) (s : List ℕ) (k : ℕ) → k ≡ length s → n + length s ≤ length t → Puts t n s (n + length s) (take n t ++ (s ++ drop k (drop n t)))
+puts-copied t n s k e room = record {
+  end = refl;
+  stored = rw (e, drop-drop) (sym (append_assoc (take n t) s (drop (n + length s) t)) ∙ sym (sets-eq s t n room));
+}
 
 -- ---- as it reads, where the bytes end in the run
 

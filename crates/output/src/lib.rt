@@ -3,14 +3,14 @@
 
 #![tactic(auto)]
 
-ghost use Rattle.std.specs.Prelude.{◌≡◌, ◌+◌, ◌≤◌, ◌<◌, true, false, [], ◌∷◌, length, take};
+ghost use Rattle.std.specs.Prelude.{◌≡◌, ◌+◌, ◌≤◌, ◌<◌, true, false, [], ◌∷◌, length};
+ghost use Rattle.std.specs.Result.{is_ok};
 ghost use Rattle.std.specs.Io.KnownBytes.{Keeps};
 ghost use Rattle.output.specs.Sent.{Sent, Hands};
-ghost use Rattle.output.specs.Text.{Puts, ended, call_line, domain_line, queue_line, numbers_at};
-ghost use Rattle.output.specs.Text.{decimal as Text·decimal};
+ghost use Rattle.output.specs.Text.{Puts, ended, call_line, domain_line, queue_line, numbers_at, decimal as Text·decimal};
 
 use replies::{Reply, UpdateReply};
-use std::io::Write;
+use std::io::{ErrorKind, Write};
 
 // ---- Parts of a line
 
@@ -26,15 +26,12 @@ fn bytes(text: &mut [u8], n: usize, s: &[u8]) -> usize
     requires { n + length s.now ≤ length text.old }
     ensures { Puts text.old n s.now result text.new }
 {
-    let mut i = 0;
-    while i < s.len() {
-        byte(text, n + i, s[i]);
-        i += 1;
-    }
-    n + i
+    let end = n + s.len();
+    text[n..end].copy_from_slice(s);
+    end
 }
 
-// A number, of at most 20 digits.
+// A number, of at most 20 digits. By crate io and not by `write!`: what that leaves in a slice no contract of std says.
 fn decimal(text: &mut [u8], n: usize, x: u64) -> usize
     requires { n + 20 ≤ length text.old }
     ensures puts { Puts text.old n (Text·decimal x) result text.new }
@@ -82,10 +79,8 @@ pub fn domain_line(text: &mut [u8], n: usize, run: &[u64], at: usize) -> usize
     ensures upper_bound { result ≤ n + 128 }
 {
     let mut m = byte(text, n, b'd');
-    let mut i = 0;
-    while i < 5 {
+    for i in 0..5 {
         m = number(text, m, words::word(run, at + i));
-        i += 1;
     }
     byte(text, m, b'\n')
 }
@@ -115,39 +110,31 @@ fn pair(text: &mut [u8], n: usize, letter: u8, x: u64, y: u64) -> usize
 
 // ---- Writing
 
-// The first n bytes of the run are yet to be written. `failed`: a write failed, and nothing is written after it.
+// The first n bytes of the run are yet to be written. `failed`: a write failed, and nothing is written after it. No `Result`:
+// lines still go into the run.
 #[derive(Clone, Copy)]
 pub struct Pending {
     pub n: usize,
     pub failed: bool,
 }
 
-// Writes these bytes and answers true, or stops at the first write that takes none or fails and answers false.
-fn write_all<W: Write>(out: &mut W, text: &[u8]) -> bool
-    ensures { Sent (W.contents out.old) text.now result (W.contents out.new) }
+// Writes these bytes, or stops at the first write that takes none or fails. Unlike std's function of this name it says which bytes went
+// out by then, and tries no write again.
+fn write_all<W: Write>(out: &mut W, text: &[u8]) -> std::io::Result<()>
+    ensures { Sent (W.contents out.old) text.now (is_ok result) (W.contents out.new) }
 {
-    let mut done = 0;
-    while done < text.len() {
-        let n = out.write(&text[done..]).unwrap_or(0);
+    let mut rest = text;
+    while !rest.is_empty() {
+        let n = out.write(rest)?;
         if n == 0 {
-            return false;
+            return Err(ErrorKind::WriteZero.into());
         }
-        done += n;
+        rest = &rest[n..];
     }
-    true
+    Ok(())
 }
 
-// Hands these bytes over. None may follow a write that failed: they would stand behind a line that was cut.
-fn hand_over<W: Write>(out: &mut W, text: &[u8], p: Pending) -> bool
-    requires n_in_bounds { p.n ≤ length text.now }
-    requires failed_value { p.failed ≡ false }
-    ensures { Sent (W.contents out.old) (take p.n text.now) result (W.contents out.new) }
-{
-    let n = p.n;
-    write_all(out, &text[..n])
-}
-
-// Writes these bytes, unless a write failed before.
+// Writes these bytes, unless a write failed before: they would stand behind a line that was cut.
 pub fn write<W: Write>(out: &mut W, text: &[u8], p: Pending) -> Pending
     requires { p.n ≤ length text.now }
     ensures n_value { result.n ≡ 0 }
@@ -159,7 +146,7 @@ pub fn write<W: Write>(out: &mut W, text: &[u8], p: Pending) -> Pending
     }
     Pending {
         n: 0,
-        failed: !hand_over(out, text, p),
+        failed: write_all(out, &text[..p.n]).is_err(),
     }
 }
 
@@ -184,5 +171,5 @@ pub fn room<W: Write>(out: &mut W, text: &[u8], p: Pending) -> Pending
 pub fn error_line<W: Write>(err: &mut W, line: &[u8])
     ensures { Sent (W.contents err.old) line.now false (W.contents err.new) }
 {
-    write_all(err, line);
+    let _ = write_all(err, line);
 }

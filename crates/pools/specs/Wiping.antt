@@ -1,5 +1,5 @@
 -- Freeing a slot also makes the words of its record 0, and those of a region's hash or a domain's interface.
-use Rattle.std.specs.Prelude.{◌≡◌, refl, Bool, true, List, ℕ}
+use Rattle.std.specs.Prelude.{◌≡◌, refl, Bool, true, List, ℕ, Ok, Err}
 use Rattle.std.proofs.Math.Path.{sym, ap}
 use Rattle.std.proofs.Common.{◌∙◌}
 use Rattle.std.proofs.Math.Bool.{false}
@@ -7,9 +7,8 @@ use Rattle.base.specs.Cases.{pick}
 use Rattle.base.specs.Tests.{both}
 use Rattle.tables.specs.Tables.{Tables, no_region, no_record, no_hash, no_interface, with_domain_pool, with_region_pool, with_record_pool, with_region, with_record, with_hash, with_interface, without_domain}
 use Rattle.tables.specs.View.{view, Left}
-use Rattle.arena.specs.declared.Freed.{Freed}
-use Rattle.arena.specs.declared.Freed.TheVariants.{Done, Spent, NotHeld}
-use Rattle.arena.specs.Arena.{held_b, raisable_b, answer_to, frees_b, freed}
+use Rattle.refusals.specs.Refusals.{memory, spent}
+use Rattle.arena.specs.Arena.{Freed, held_b, raisable_b, answer_to, frees_b, freed}
 use Rattle.pools.specs.declared.Pool.{Pool}
 use Rattle.pools.specs.declared.Pool.TheVariants.{Domains, Regions, Records}
 use Rattle.pools.specs.Pools.{pool_of, with_pool}
@@ -24,11 +23,10 @@ unfoldable pub slot_freed : Tables → Pool → ℕ → Tables
 slot_freed s q i = pick (frees_b (pool_of s q) i) (wiped (with_pool s q (freed (pool_of s q) i)) q i) s
 
 abbrev pub is_done : Freed → Bool
-is_done Done = true
-is_done Spent = false
-is_done NotHeld = false
+is_done (Ok u) = true
+is_done (Err r) = false
 
-done-tests : (b c : Bool) → is_done (pick b (pick c Done Spent) NotHeld) ≡ both b c
+done-tests : (b c : Bool) → is_done (pick b (pick c (Ok tt) (Err spent)) (Err memory)) ≡ both b c
 done-tests true true = refl
 done-tests true false = refl
 done-tests false c = refl

@@ -5,10 +5,11 @@ use mathlib.Core.List.{List, [], ◌∷◌}
 use Prim.Native.Nat.{ℕ, zero, suc, ◌+◌, ◌-◌, ◌≤◌, ◌<◌, max}
 use native.Mathlib.Numerals.{add-one}
 use native.Mathlib.Omega.{arith}
-use borrow.Author.Tests.{eq-eqb, ne_eqb, le-ltb}
-use lib.Dec.{leb, ltb, leb-suc-suc}
+use borrow.Author.Tests.{eq-eqb, ne_eqb, le-ltb, ltb-true, ltb-false}
+use lib.Dec.{eqb, leb, ltb, leb-suc-suc}
 use lib.ListN.{length, get_or, length-map}
-use Rattle.base.specs.Cases.{pick}
+use Rattle.std.proofs.Common.{◌∙◌, fold, min}
+use Rattle.base.specs.Cases.{pick, test, holds, fails}
 use Rattle.base.specs.Tests.{both}
 use Rattle.tables.specs.declared.Region.{Region}
 use Rattle.tables.specs.Tables.{Tables, record_at}
@@ -39,15 +40,24 @@ records-start t d n k en ek = rw (en, ek)
 
 -- ---- counting
 
-pub count-done : {A : Type 0} (n : ℕ) (l : List A) → l ≡ [] → n ≡ n + length l
-count-done n l h = rw h (omega arith)
-
-pub count-more : {A : Type 0} (n : ℕ) (x : A) (l m : List A) → l ≡ x ∷ m → n + 1 + length m ≡ n + length l
-count-more n x l m h = rw h (omega arith)
+-- no more than the links that may be followed
+pub records_short : (n : ℕ) (s : Tables) (k : ℕ) → length (records_from n s k) ≤ n
+unfolding records_from
+records_short zero s k = omega arith
+records_short (suc n) s k = elim (test (eqb k 0)) [
+  | holds e ↦ rw e (omega arith)
+  | fails e ↦ rw e (omega (arith, records_short n s (record_at s (slot_to k)).next))
+]
 
 pub list_length : (s : Tables) (d : ℕ) → length (permission_list s d) ≡ length (records_of s d)
 unfolding permission_list
 list_length s d = length-map (records_of s d) permission_of
+
+pub min-pick : (a b : ℕ) → min a b ≡ pick (ltb a b) a b
+min-pick a b = elim (test (ltb a b)) [
+  | holds e ↦ rw e (omega (arith, ltb-true a b e))
+  | fails e ↦ rw e (omega (arith, ltb-false a b e))
+]
 
 -- ---- the largest reach
 
@@ -56,14 +66,13 @@ pub leb-next : (a b : ℕ) → ltb a (b + 1) ≡ leb a b
 leb-next a b = rw (add-one, leb-suc-suc)
 
 module _ (s e : ℕ) where
-  pub reach-done : (most : ℕ) (l : List Region) → l ≡ [] → most ≡ max most (largest_reach s e l)
+  reach_most : (most : ℕ) (l : List Region) → fold (λ m q. max m (pick (meets s e q) q.ref_count 0)) most l ≡ max most (largest_reach s e l)
   unfolding largest_reach
-  reach-done most l h = rw h (omega arith)
+  reach_most most [] = omega arith
+  reach_most most (q ∷ l) = reach_most (max most (pick (meets s e q) q.ref_count 0)) l ∙ omega arith
 
-  pub reach-more : (most : ℕ) (q : Region) (l m : List Region) → l ≡ q ∷ m
-      → max (max most (pick (meets s e q) q.ref_count 0)) (largest_reach s e m) ≡ max most (largest_reach s e l)
-  unfolding largest_reach
-  reach-more most q l m h = rw h (omega arith)
+  pub reach_folded : (l : List Region) → fold (λ m q. max m (pick (meets s e q) q.ref_count 0)) 0 l ≡ largest_reach s e l
+  reach_folded l = reach_most 0 l ∙ omega arith
 
 both-not : (a : Bool) → both a false ≡ false
 both-not true = refl

@@ -2,10 +2,11 @@
 
 #![tactic(auto)]
 
-ghost use Rattle.std.specs.Prelude.{◌≡◌, ◌+◌, max, length};
+ghost use Rattle.std.specs.Prelude.{◌≡◌, ◌+◌, length};
+ghost use Rattle.std.specs.Iterator.{YieldsFirst, item_count};
 ghost use Rattle.base.specs.Cases.{pick};
 ghost use Rattle.tables.specs.View.{view, Sized};
-ghost use Rattle.readings.specs.Readings.{records_of, flag_if, rights_of, meets, largest_reach, permission_list, found_at, plan_of};
+ghost use Rattle.readings.specs.Readings.{records_from, records_of, flag_if, rights_of, meets, largest_reach, found_at, plan_of};
 
 use rights::Rights;
 use tables::Region;
@@ -35,13 +36,48 @@ pub struct Plan {
     pub answer: u64,
 }
 
-// ---- Numbers
-
-fn larger(a: u64, b: u64) -> u64
-    ensures { result ≡ max a b }
-{
-    if a < b { b } else { a }
+// A walk over a domain's records, in the order of their links.
+#[derive(Drop)]
+struct Records<'a> {
+    t: &'a [u64],
+    at: u64,
+    left: usize,
+    ghost sized: { Sized t.now },
 }
+
+impl<'a> Records<'a> {
+    // The records of domain d, as many as there are record slots at most.
+    fn of(t: &'a [u64], d: usize) -> Records<'a>
+        requires { Sized t.now }
+        ensures { records_from result.left (view result.t.now) result.at ≡ records_of (view t.now) d }
+    {
+        Records {
+            t,
+            at: links::first(t, d),
+            left: words::size(t, sizes::RECORDS),
+        }
+    }
+}
+
+impl<'a> Iterator for Records<'a> {
+    type Item = Region;
+
+    ghost next_gives = { YieldsFirst (λ r. records_from r.left (view r.t.now) r.at) };
+
+    ghost remaining = { item_count (λ r. records_from r.left (view r.t.now) r.at) };
+
+    fn next(&mut self) -> Option<Region> {
+        if self.left == 0 || self.at == 0 {
+            return None;
+        }
+        let q = rows::load::<Region>(self.t, tables::slot_to(self.at));
+        self.at = q.next;
+        self.left -= 1;
+        Some(q)
+    }
+}
+
+// ---- Numbers
 
 // The flag where its count is above 0, else none.
 fn flag_if(flag: Rights, n: u64) -> Rights
@@ -66,7 +102,7 @@ pub fn get_ops(q: Region) -> u64
 fn reach_in(q: Region, start: u64, last: u64) -> u64
     ensures { result ≡ pick (meets start (last + 1) q) q.ref_count 0 }
 {
-    if words::both(start < q.end, q.start <= last) {
+    if start < q.end && q.start <= last {
         q.ref_count
     } else {
         0
@@ -78,19 +114,7 @@ pub fn largest_reach(t: &[u64], d: usize, start: u64, last: u64) -> u64
     requires { Sized t.now }
     ensures { result ≡ largest_reach start (last + 1) (records_of (view t.now) d) }
 {
-    let mut most = 0;
-    let mut left = words::size(t, sizes::RECORDS);
-    let mut k = links::first(t, d);
-    while 0 < left {
-        if k == 0 {
-            return most;
-        }
-        let q = record_rows::load_record(t, tables::slot_to(k));
-        most = larger(most, reach_in(q, start, last));
-        k = q.next;
-        left -= 1;
-    }
-    most
+    Records::of(t, d).fold(0, |most, q| most.max(reach_in(q, start, last)))
 }
 
 // The largest reach of a record that begins before `end` and ends after `start`.
@@ -112,19 +136,7 @@ fn count(t: &[u64], d: usize) -> u64
     requires { Sized t.now }
     ensures { result ≡ length (records_of (view t.now) d) }
 {
-    let mut n = 0;
-    let mut left = words::size(t, sizes::RECORDS);
-    let mut k = links::first(t, d);
-    while 0 < left {
-        if k == 0 {
-            return n;
-        }
-        let q = record_rows::load_record(t, tables::slot_to(k));
-        k = q.next;
-        n += 1;
-        left -= 1;
-    }
-    n
+    Records::of(t, d).count() as u64
 }
 
 // What filling a run of `room` places goes by.
@@ -134,7 +146,7 @@ pub fn plan_of(t: &[u64], d: usize, room: usize) -> Plan
 {
     let n = count(t, d);
     Plan {
-        turns: counts::least(n, room as u64) as usize,
+        turns: n.min(room as u64) as usize,
         at: links::first(t, d),
         answer: n,
     }
@@ -145,7 +157,7 @@ pub fn found_at(t: &[u64], k: u64) -> Found
     requires { Sized t.now }
     ensures { result ≡ found_at (view t.now) k }
 {
-    let q = record_rows::load_record(t, tables::slot_to(k));
+    let q = rows::load::<Region>(t, tables::slot_to(k));
     let p = Permission {
         start: q.start,
         end: q.end,

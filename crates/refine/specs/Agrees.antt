@@ -1,21 +1,20 @@
 -- What a step of the code comes to against what the model says. A step agrees with an accepted call where it answers the call's number and leaves the
 -- words of the call's state; it agrees with a refused call where it answers the same refusal. Of the tables after a refusal nothing is said.
 -- Steps compose as calls do: `and_then` against `◌>>=◌`.
-use Rattle.std.specs.Prelude.{◌≡◌, refl, ℕ, Bool, true, false, if◌then◌else◌}
+use Rattle.std.specs.Prelude.{◌≡◌, refl, ℕ, Ok, Err}
 use Rattle.std.proofs.Common.{sym, ap, subst, ◌∙◌}
-use Rattle.model.specs.Outcome.{Outcome, ok, refuse, ◌>>=◌, ◌>>◌, require}
+use Rattle.model.specs.Outcome.{Outcome, ok, refuse, ◌>>=◌, ◌>>◌}
 use Rattle.model.specs.State.{State}
 use Rattle.tables.specs.Tables.{Tables}
 use Rattle.refusals.specs.declared.Refusal.{Refusal}
-use Rattle.answers.specs.declared.Answer.TheVariants.{Done, Refused}
 use Rattle.answers.specs.Answers.{Effect, done, refused, and_then, then-done, then-refused}
 use Rattle.decoded.specs.Tables.{tables_of}
 
 -- ---- a step and a call
 
 abbrev pub Agrees : Effect → Outcome (ℕ × State) → Type 0
-Agrees x (ok y) = (x.answer ≡ Done y.0) × (x.tables ≡ tables_of y.1)
-Agrees x (refuse r) = x.answer ≡ Refused r
+Agrees x (ok y) = (x.answer ≡ Ok y.0) × (x.tables ≡ tables_of y.1)
+Agrees x (refuse r) = x.answer ≡ Err r
 
 pub agrees-done : (v : ℕ) (t : Tables) (s : State) → t ≡ tables_of s → Agrees (done v t) (ok (v, s))
 agrees-done v t s e = (refl, e)
@@ -35,7 +34,7 @@ agrees-call x m n e h = subst (Agrees x) (sym e) h
 go_on_lem : (x : Effect) (f : ℕ → Tables → Effect) (v : ℕ) (s : State) (m : Outcome (ℕ × State)) → Agrees x (ok (v, s)) → Agrees (f v (tables_of s)) m → Agrees (and_then x f) m
 go_on_lem x f v s m h k = agrees-step (and_then x f) (f v (tables_of s)) m (then-done x f v h.0 ∙ ap (f v) h.1) k
 
-stop : (x : Effect) (f : ℕ → Tables → Effect) (r : Refusal) → x.answer ≡ Refused r → (and_then x f).answer ≡ Refused r
+stop : (x : Effect) (f : ℕ → Tables → Effect) (r : Refusal) → x.answer ≡ Err r → (and_then x f).answer ≡ Err r
 stop x f r h = ap (λ (z : Effect). z.answer) (then-refused x f r h)
 
 -- the first call gives some y, from which its number and its state are known

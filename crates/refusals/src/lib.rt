@@ -1,88 +1,75 @@
-// The refusals (document 01, "Memory and who can be refused"): each is its number, under document 01's name.
+// The refusals (document 01, "Memory and who can be refused"), under document 01's names and with its numbers.
 
 #![tactic(auto)]
 
 ghost use Rattle.std.specs.Prelude.{◌≡◌};
-ghost use Rattle.refusals.specs.Refusals.{all};
+ghost use Rattle.refusals.specs.Refusals.{number, all};
 
-#[derive(Clone, Copy)]
-pub struct Refusal(pub u64);
+#[derive(Clone, Copy, Debug, PartialEq, Eq)]
+pub enum Refusal {
+    Memory = 1,
+    Sizes = 2,
+    NoDomain = 3,
+    NoSlot = 4,
+    WrongKind = 5,
+    Stale = 6,
+    BadRange = 7,
+    Beyond = 8,
+    Root = 9,
+    NotCarried = 10,
+    NoRegion = 11,
+    NoLocal = 12,
+    NoTracker = 13,
+    RingFull = 14,
+    NoDomainRoom = 15,
+    Spent = 16,
+    BadRecord = 17,
+    BadFlag = 18,
+    NoHash = 19,
+    NotAllowed = 20,
+    Frozen = 21,
+    HoldsRoot = 22,
+    Running = 23,
+}
 
 impl Refusal {
-    pub const MEMORY: Refusal = Refusal(1);
-
-    pub const SIZES: Refusal = Refusal(2);
-
-    pub const NO_DOMAIN: Refusal = Refusal(3);
-
-    pub const NO_SLOT: Refusal = Refusal(4);
-
-    pub const WRONG_KIND: Refusal = Refusal(5);
-
-    pub const STALE: Refusal = Refusal(6);
-
-    pub const BAD_RANGE: Refusal = Refusal(7);
-
-    pub const BEYOND: Refusal = Refusal(8);
-
-    pub const ROOT: Refusal = Refusal(9);
-
-    pub const NOT_CARRIED: Refusal = Refusal(10);
-
-    pub const NO_REGION: Refusal = Refusal(11);
-
-    pub const NO_LOCAL: Refusal = Refusal(12);
-
-    pub const NO_TRACKER: Refusal = Refusal(13);
-
-    pub const RING_FULL: Refusal = Refusal(14);
-
-    pub const NO_DOMAIN_ROOM: Refusal = Refusal(15);
-
-    pub const SPENT: Refusal = Refusal(16);
-
-    pub const BAD_RECORD: Refusal = Refusal(17);
-
-    pub const BAD_FLAG: Refusal = Refusal(18);
-
-    pub const NO_HASH: Refusal = Refusal(19);
-
-    pub const NOT_ALLOWED: Refusal = Refusal(20);
-
-    pub const FROZEN: Refusal = Refusal(21);
-
-    pub const HOLDS_ROOT: Refusal = Refusal(22);
-
-    pub const RUNNING: Refusal = Refusal(23);
-
-    // All of them. The contract ties each constant to the specification's name.
+    // All of them, in the order of their numbers. The contract ties each to the specification's name.
     pub fn all() -> [Refusal; 23]
         ensures { result ≡ all }
     {
         [
-            Refusal::MEMORY,
-            Refusal::SIZES,
-            Refusal::NO_DOMAIN,
-            Refusal::NO_SLOT,
-            Refusal::WRONG_KIND,
-            Refusal::STALE,
-            Refusal::BAD_RANGE,
-            Refusal::BEYOND,
-            Refusal::ROOT,
-            Refusal::NOT_CARRIED,
-            Refusal::NO_REGION,
-            Refusal::NO_LOCAL,
-            Refusal::NO_TRACKER,
-            Refusal::RING_FULL,
-            Refusal::NO_DOMAIN_ROOM,
-            Refusal::SPENT,
-            Refusal::BAD_RECORD,
-            Refusal::BAD_FLAG,
-            Refusal::NO_HASH,
-            Refusal::NOT_ALLOWED,
-            Refusal::FROZEN,
-            Refusal::HOLDS_ROOT,
-            Refusal::RUNNING,
+            Refusal::Memory,
+            Refusal::Sizes,
+            Refusal::NoDomain,
+            Refusal::NoSlot,
+            Refusal::WrongKind,
+            Refusal::Stale,
+            Refusal::BadRange,
+            Refusal::Beyond,
+            Refusal::Root,
+            Refusal::NotCarried,
+            Refusal::NoRegion,
+            Refusal::NoLocal,
+            Refusal::NoTracker,
+            Refusal::RingFull,
+            Refusal::NoDomainRoom,
+            Refusal::Spent,
+            Refusal::BadRecord,
+            Refusal::BadFlag,
+            Refusal::NoHash,
+            Refusal::NotAllowed,
+            Refusal::Frozen,
+            Refusal::HoldsRoot,
+            Refusal::Running,
         ]
+    }
+}
+
+// "A refusal gives its number and nothing else."
+impl From<Refusal> for u64 {
+    ghost from_gives = { λ r n. n ≡ number r };
+
+    fn from(r: Refusal) -> u64 {
+        r as u64
     }
 }

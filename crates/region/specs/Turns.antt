@@ -1,16 +1,13 @@
 -- What a turn of a walk over a domain's records comes to (document 01, **Tracker**): it changes one record, or goes on to the next. Here the turns that
 -- leave the counts as they are; q is the record at hand.
-use Rattle.std.specs.Prelude.{ℕ}
+use Rattle.std.specs.Prelude.{ℕ, Ok, Err}
 use Rattle.base.specs.Cases.{pick}
 use Rattle.tables.specs.declared.Region.{Region}
 use Rattle.tables.specs.Tables.{Tables, with_record}
-use Rattle.answers.specs.declared.Answer.{Answer}
-use Rattle.answers.specs.declared.Answer.TheVariants.{Done, Refused}
-use Rattle.answers.specs.Answers.{Effect}
+use Rattle.answers.specs.Answers.{Answer, Effect}
 use Rattle.walk_cursors.specs.declared.Cursor.{Cursor}
-use Rattle.walk_cursors.specs.declared.Progress.{Progress}
-use Rattle.walk_cursors.specs.declared.Progress.TheVariants.{Going, Over}
-use Rattle.walk_cursors.specs.Cursors.{next_of}
+use Rattle.walk_cursors.specs.Cursors.{Progress, next_of}
+use Rattle.std.proofs.Common.{Continue, Break}
 use Rattle.counts.specs.Counts.{mergeable_b}
 use Rattle.tables.specs.Links.{slot_to}
 use Rattle.tracker_records.specs.Links.{with_end, split, freed_record}
@@ -24,15 +21,15 @@ abbrev pub to : Progress → Tables → Turn
 to p s = record { answer = p; tables = s }
 
 abbrev after_step : Answer → (ℕ → Cursor) → Progress
-after_step (Done v) f = Going (f v)
-after_step (Refused r) f = Over (Refused r)
+after_step (Ok v) f = Continue (f v)
+after_step (Err r) f = Break (Err r)
 
 -- a step, and the cursor that its value gives
 abbrev pub onward : Effect → (ℕ → Cursor) → Turn
 onward x f = record { answer = after_step x.answer f; tables = x.tables }
 
 abbrev pub over : Cursor → Tables → Turn
-over c s = to (Over (Done c.marks)) s
+over c s = to (Break (Ok c.marks)) s
 
 -- ---- the turns
 
@@ -48,4 +45,4 @@ cut_end s c e = onward (split s (slot_to c.at) e) (λ k. c)
 unfoldable pub merge_at : Tables → Cursor → Region → Region → Turn
 merge_at s c q n =
     pick (mergeable_b q n) (onward (freed_record (with_record s (slot_to c.at) (with_end q n.end n.next)) (slot_to q.next)) (λ v. c))
-    (to (Going (next_of c q.next c.start 0)) s)
+    (to (Continue (next_of c q.next c.start 0)) s)

@@ -17,7 +17,7 @@ pub struct AccessRights {
     pub ops: Rights,
 }
 
-// What a walk does.
+// What a walk does. An enum and no closure: the definitions of the walks take it as a value.
 #[derive(Clone, Copy)]
 pub enum Way {
     Add,

@@ -3,7 +3,7 @@ ghost use Rattle.std.specs.Prelude.{◌≡◌};
 ghost use Rattle.tables.specs.View.{view, Sized, Left};
 ghost use Rattle.region.specs.Turns.{cut_start, cut_end, merge_at};
 
-use answers::Answer;
+use std::ops::ControlFlow;
 use tables::Region;
 use tracker_records::links;
 use walk_cursors::{Cursor, Progress};
@@ -15,13 +15,13 @@ pub fn cut_start(t: &mut [u64], c: Cursor) -> Progress
     ensures left { Left t.new (cut_start (view t.old) c).tables }
 {
     match links::split_region_at(t, tables::slot_to(c.at), c.start) {
-        Answer::Done(link) => Progress::Going(Cursor {
+        Ok(link) => ControlFlow::Continue(Cursor {
             prev: c.at,
             at: link,
             start: c.start,
             marks: c.marks,
         }),
-        Answer::Refused(r) => Progress::Over(Answer::Refused(r)),
+        Err(r) => ControlFlow::Break(Err(r)),
     }
 }
 
@@ -32,8 +32,8 @@ pub fn cut_end(t: &mut [u64], c: Cursor, end: u64) -> Progress
     ensures left { Left t.new (cut_end (view t.old) c end).tables }
 {
     match links::split_region_at(t, tables::slot_to(c.at), end) {
-        Answer::Done(link) => Progress::Going(c),
-        Answer::Refused(r) => Progress::Over(Answer::Refused(r)),
+        Ok(link) => ControlFlow::Continue(c),
+        Err(r) => ControlFlow::Break(Err(r)),
     }
 }
 
@@ -46,9 +46,9 @@ pub fn merge_at(t: &mut [u64], c: Cursor, q: Region, n: Region) -> Progress
     if !counts::mergeable(q, n) {
         return walk_cursors::going(c, q.next, c.start, 0);
     }
-    record_rows::store_record(t, tables::slot_to(c.at), links::bounded(q, n.end, n.next));
+    rows::store(t, tables::slot_to(c.at), links::bounded(q, n.end, n.next));
     match links::free(t, tables::slot_to(q.next)) {
-        Answer::Done(v) => Progress::Going(c),
-        Answer::Refused(r) => Progress::Over(Answer::Refused(r)),
+        Ok(v) => ControlFlow::Continue(c),
+        Err(r) => ControlFlow::Break(Err(r)),
     }
 }

@@ -8,6 +8,7 @@ ghost use Rattle.region_calls.specs.Calls.{held_region, create_root_region, add_
 ghost use Rattle.region_calls.specs.Parts.{rooted, aliased};
 
 use answers::Answer;
+use pools::Pool;
 use refusals::Refusal;
 use region::AccessRights;
 use tables::{Handle, Interface, RegionCapa, Slot};
@@ -20,7 +21,7 @@ fn hold(t: &mut [u64], d: usize, i: u64) -> Answer
 {
     let handle = Handle {
         slot: i,
-        generation: pools::region_generation(t, i as usize),
+        generation: pools::generation(t, Pool::Regions, i as usize),
     };
     let capa = Slot {
         kind: Slot::REGION,
@@ -34,16 +35,10 @@ fn root(t: &mut [u64], d: usize, a: AccessRights) -> Answer
     ensures value { result ≡ (rooted d a (view t.old)).answer }
     ensures left { Left t.new (rooted d a (view t.old)).tables }
 {
-    match segment::new_region(t, segment::capa_for(d, RegionCapa::ROOT, 0, a)) {
-        Answer::Done(i) => match hold(t, d, i) {
-            Answer::Done(l) => match domain::activate_region(t, d, a, 0) {
-                Answer::Done(v) => Answer::Done(l),
-                Answer::Refused(r) => Answer::Refused(r),
-            },
-            Answer::Refused(r) => Answer::Refused(r),
-        },
-        Answer::Refused(r) => Answer::Refused(r),
-    }
+    let i = segment::new_region(t, segment::capa_for(d, RegionCapa::ROOT, 0, a))?;
+    let l = hold(t, d, i)?;
+    domain::activate_region(t, d, a, 0)?;
+    Ok(l)
 }
 
 pub fn create_root_region(t: &mut [u64], h: Handle, a: AccessRights) -> Answer
@@ -51,13 +46,9 @@ pub fn create_root_region(t: &mut [u64], h: Handle, a: AccessRights) -> Answer
     ensures value { result ≡ (create_root_region h a (view t.old)).answer }
     ensures left { Left t.new (create_root_region h a (view t.old)).tables }
 {
-    match checks::live_domain(t, h) {
-        Answer::Done(d) => match checks::room_for_region(t, d as usize, a) {
-            Answer::Done(u) => root(t, d as usize, a),
-            Answer::Refused(r) => Answer::Refused(r),
-        },
-        Answer::Refused(r) => Answer::Refused(r),
-    }
+    let d = checks::live_domain(t, h)?;
+    checks::room_for_region(t, d as usize, a)?;
+    root(t, d as usize, a)
 }
 
 // A child of region p, of that kind, in domain d's list.
@@ -66,13 +57,9 @@ pub fn add_child(t: &mut [u64], d: usize, p: usize, kind: u64, a: AccessRights) 
     ensures value { result ≡ (add_child d p kind a (view t.old)).answer }
     ensures left { Left t.new (add_child d p kind a (view t.old)).tables }
 {
-    match segment::new_region(t, segment::capa_for(d, kind, tables::link_to(p as u64), a)) {
-        Answer::Done(i) => {
-            children::insert_child(t, p, i as usize);
-            hold(t, d, i)
-        }
-        Answer::Refused(r) => Answer::Refused(r),
-    }
+    let i = segment::new_region(t, segment::capa_for(d, kind, tables::link_to(p as u64), a))?;
+    children::insert_child(t, p, i as usize);
+    hold(t, d, i)
 }
 
 // 8, and the alias of region p: domain d gains its range.
@@ -82,15 +69,11 @@ fn alias(t: &mut [u64], d: usize, p: usize, a: AccessRights) -> Answer
     ensures left { Left t.new (aliased d p a (view t.old)).tables }
 {
     if !children::check_alias(t, p, a) {
-        return Answer::Refused(Refusal::BEYOND);
+        return Err(Refusal::Beyond);
     }
-    match add_child(t, d, p, RegionCapa::ALIAS, a) {
-        Answer::Done(n) => match domain::activate_region(t, d, a, 0) {
-            Answer::Done(v) => Answer::Done(n),
-            Answer::Refused(r) => Answer::Refused(r),
-        },
-        Answer::Refused(r) => Answer::Refused(r),
-    }
+    let n = add_child(t, d, p, RegionCapa::ALIAS, a)?;
+    domain::activate_region(t, d, a, 0)?;
+    Ok(n)
 }
 
 pub fn alias_region(t: &mut [u64], h: Handle, l: usize, a: AccessRights) -> Answer
@@ -98,14 +81,8 @@ pub fn alias_region(t: &mut [u64], h: Handle, l: usize, a: AccessRights) -> Answ
     ensures value { result ≡ (alias_region h l a (view t.old)).answer }
     ensures left { Left t.new (alias_region h l a (view t.old)).tables }
 {
-    match checks::caller_with(t, h, Interface::ALIAS) {
-        Answer::Done(d) => match checks::region_held(t, d as usize, l) {
-            Answer::Done(p) => match checks::room_for_region(t, d as usize, a) {
-                Answer::Done(u) => alias(t, d as usize, p as usize, a),
-                Answer::Refused(r) => Answer::Refused(r),
-            },
-            Answer::Refused(r) => Answer::Refused(r),
-        },
-        Answer::Refused(r) => Answer::Refused(r),
-    }
+    let d = checks::caller_with(t, h, Interface::ALIAS)?;
+    let p = checks::region_held(t, d as usize, l)?;
+    checks::room_for_region(t, d as usize, a)?;
+    alias(t, d as usize, p as usize, a)
 }

@@ -5,14 +5,15 @@
 
 ghost use Rattle.tables.specs.View.{Sized};
 
-use answers::Answer;
 use call::{Call, Child};
+use pools::Pool;
+use refusals::Refusal;
 use region::AccessRights;
 use rights::Rights;
 use send_options::SendOptions;
 use sizes::{MOST_WORDS, Sizes};
 use std::io::{Read, Write};
-use tables::{Handle, Hash};
+use tables::{DomainHead, Handle, Hash};
 
 pub mod input;
 pub mod output;
@@ -22,6 +23,7 @@ pub const MAKE: u64 = 16;
 // The first of the kinds behind making, both of them steps.
 pub const SET_INTERFACE: u64 = 17;
 
+// Ends the calls, as the end of the input does.
 pub const END: u64 = 19;
 
 // A call as it is read: its kind and its arguments, the last four of them a send's hash.
@@ -55,12 +57,10 @@ fn access(start: u64, end: u64, rights: u64) -> AccessRights {
 
 // What a send says besides: nothing, a flag word, or a flag word and a hash.
 fn options(c: Request) -> SendOptions {
-    let given = c.e;
-    let hash = c.hash;
-    match given {
+    match c.e {
         0 => SendOptions::None,
         1 => SendOptions::Flags(rights_of(c.f)),
-        _ => SendOptions::Hashed(rights_of(c.f), hash),
+        _ => SendOptions::Hashed(rights_of(c.f), c.hash),
     }
 }
 
@@ -76,8 +76,7 @@ fn child(domain: Handle, c: Request) -> Child {
 // The calls that are one step on the tables, by their kinds 0 to 9, 17 and 18.
 fn call_of(c: Request) -> Call {
     let h = handle(c.a, c.b);
-    let kind = c.kind;
-    match kind {
+    match c.kind {
         0 => Call::Open(c.a),
         1 => Call::OpenUnder(h, c.c),
         2 => Call::Root(h, access(c.c, c.d, c.e)),
@@ -96,7 +95,7 @@ fn call_of(c: Request) -> Call {
 // The generation of domain d; 0 in memory of a wrong length.
 fn generation_of(t: &[u64], d: usize) -> u64 {
     if sizes::is_sized(t) {
-        pools::domain_generation(t, d)
+        pools::generation(t, Pool::Domains, d)
     } else {
         0
     }
@@ -108,16 +107,16 @@ fn run_change<W: Write>(out: &mut W, t: &mut [u64], w: &mut [u64], c: Request)
 {
     words::copy(t, w);
     match calls::step(t, call_of(c)) {
-        Answer::Done(v) => {
+        Ok(v) => {
             output::number(out, 0);
             output::number(out, v);
             if c.kind <= 1 {
                 output::number(out, generation_of(t, v as usize));
             }
         }
-        Answer::Refused(r) => {
+        Err(r) => {
             words::copy(w, t);
-            output::number(out, r.0);
+            output::number(out, u64::from(r));
         }
     }
 }
@@ -125,30 +124,29 @@ fn run_change<W: Write>(out: &mut W, t: &mut [u64], w: &mut [u64], c: Request)
 fn run_pop<W: Write>(out: &mut W, t: &mut [u64])
     requires { Sized t.old }
 {
-    let item = update::pop_update(t);
-    let u = item.entry.update;
+    let entry = update::pop_update(t).unwrap_or_default();
+    let u = entry.update;
     output::number(out, 0);
     output::number(out, u.kind);
     output::number(out, u.a);
     output::number(out, u.b);
     output::number(out, u.c);
-    output::number(out, item.entry.marks);
+    output::number(out, entry.marks);
 }
 
 // The readings of a domain.
 fn run_reading<W: Write>(out: &mut W, t: &[u64], c: Request)
     requires { Sized t.now }
 {
-    if !pools::domain_is_live(t, handle(c.a, c.b)) {
-        output::number(out, 3);
+    if !pools::is_live(t, Pool::Domains, handle(c.a, c.b)) {
+        output::number(out, u64::from(Refusal::NoDomain));
         return;
     }
     let d = c.a as usize;
     output::number(out, 0);
-    let kind = c.kind;
-    match kind {
+    match c.kind {
         11 => {
-            let h = domain_rows::load_head(t, d);
+            let h = rows::load::<DomainHead>(t, d);
             output::number(out, h.cores);
         }
         12 => run_permissions(out, t, d),
@@ -189,17 +187,15 @@ fn raise(t: &mut [u64], i: usize, v: u64) {
 fn run<W: Write>(out: &mut W, t: &mut [u64], w: &mut [u64], c: Request)
     requires { Sized t.old }
 {
-    if c.kind <= 9 || SET_INTERFACE <= c.kind {
-        run_change(out, t, w, c);
-    } else if c.kind == 10 {
-        run_pop(out, t);
-    } else if c.kind == 14 {
-        run_holders(out, t, c.a);
-    } else if c.kind == 15 {
-        raise(t, c.a as usize, c.b);
-        output::number(out, 0);
-    } else {
-        run_reading(out, t, c);
+    match c.kind {
+        0..=9 | SET_INTERFACE.. => run_change(out, t, w, c),
+        10 => run_pop(out, t),
+        14 => run_holders(out, t, c.a),
+        15 => {
+            raise(t, c.a as usize, c.b);
+            output::number(out, 0);
+        }
+        _ => run_reading(out, t, c),
     }
 }
 
@@ -213,10 +209,8 @@ fn length_for(z: Sizes) -> usize {
 }
 
 fn make(t: &mut [u64], z: Sizes) {
-    if sizes::limits_hold(z) {
-        if sizes::total_of(z) == t.len() {
-            making::make_empty(t, z);
-        }
+    if sizes::limits_hold(z) && sizes::total_of(z) == t.len() {
+        making::make_empty(t, z);
     }
 }
 
@@ -264,10 +258,7 @@ fn length_after(n: usize, c: Request) -> usize {
 // One call on tables of n words; answers how many words they have after it.
 fn turn<W: Write>(out: &mut W, t: &mut [u64], w: &mut [u64], n: usize, c: Request) -> usize {
     let m = length_after(n, c);
-    if t.len() < m {
-        return n;
-    }
-    if w.len() < m {
+    if t.len() < m || w.len() < m {
         return n;
     }
     line(out, &mut t[..m], &mut w[..m], c);
@@ -278,10 +269,7 @@ fn turn<W: Write>(out: &mut W, t: &mut [u64], w: &mut [u64], n: usize, c: Reques
 fn run_all<R: Read, W: Write>(input: &mut R, out: &mut W, t: &mut [u64], w: &mut [u64]) {
     let mut n = 0;
     for _ in 0..u64::MAX {
-        let c = input::next(input);
-        if c.kind == END {
-            return;
-        }
+        let Some(c) = input::next(input) else { return };
         n = turn(out, t, w, n, c);
     }
 }

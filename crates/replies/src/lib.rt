@@ -3,8 +3,7 @@
 
 #![tactic(auto)]
 
-ghost use Rattle.std.specs.Prelude.{◌≡◌};
-ghost use Rattle.answers.specs.declared.Answer.TheVariants.{Refused};
+ghost use Rattle.std.specs.Prelude.{◌≡◌, Err};
 ghost use Rattle.replies.specs.ReplyFor.{reply_for};
 
 use answers::Answer;
@@ -40,21 +39,25 @@ pub struct UpdateReply {
     pub marks: u64,
 }
 
-pub fn refused(r: Refusal) -> Reply
-    ensures { result ≡ reply_for (Refused r) }
-{
-    Reply {
-        refusal: r.0,
-        value: 0,
+impl From<Refusal> for Reply {
+    ghost from_gives = { λ r reply. reply ≡ reply_for (Err r) };
+
+    fn from(r: Refusal) -> Reply {
+        Reply {
+            refusal: u64::from(r),
+            value: 0,
+        }
     }
 }
 
-pub fn reply_for(a: Answer) -> Reply
-    ensures { result ≡ reply_for a }
-{
-    match a {
-        Answer::Done(value) => Reply { refusal: 0, value },
-        Answer::Refused(r) => refused(r),
+impl From<Answer> for Reply {
+    ghost from_gives = { λ a reply. reply ≡ reply_for a };
+
+    fn from(a: Answer) -> Reply {
+        match a {
+            Ok(value) => Reply { refusal: 0, value },
+            Err(r) => Reply::from(r),
+        }
     }
 }
 

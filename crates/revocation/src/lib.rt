@@ -8,7 +8,9 @@ ghost use Rattle.tables.specs.View.{view, Sized, Left};
 ghost use Rattle.revocation.specs.Revoke.{revoke_region, revoke};
 
 use answers::Answer;
+use pools::Pool;
 use refusals::Refusal;
+use tables::RegionCapa;
 
 // `left` falls with each region above and with each region freed.
 fn revoke_region(t: &mut [u64], i: usize, left: u64, closing: u64) -> Answer
@@ -16,19 +18,14 @@ fn revoke_region(t: &mut [u64], i: usize, left: u64, closing: u64) -> Answer
     ensures value { result ≡ (revoke_region closing left i (view t.old)).answer }
     ensures left { Left t.new (revoke_region closing left i (view t.old)).tables }
 {
-    let mut n = left;
-    while 0 < n {
-        n -= 1;
-        let g = region_rows::load_region(t, i);
+    for n in (0..left).rev() {
+        let g = rows::load::<RegionCapa>(t, i);
         if g.child == 0 {
             return leaf_revocation::revoke_leaf(t, i, closing);
         }
-        match revoke_region(t, tables::slot_to(g.child), n, closing) {
-            Answer::Done(v) => {}
-            Answer::Refused(r) => return Answer::Refused(r),
-        }
+        revoke_region(t, tables::slot_to(g.child), n, closing)?;
     }
-    Answer::Refused(Refusal::MEMORY)
+    Err(Refusal::Memory)
 }
 
 // There are no more regions to free than are live.
@@ -37,6 +34,6 @@ pub fn revoke(t: &mut [u64], i: usize, closing: u64) -> Answer
     ensures value { result ≡ (revoke closing i (view t.old)).answer }
     ensures left { Left t.new (revoke closing i (view t.old)).tables }
 {
-    let n = pools::region_count(t);
+    let n = pools::count(t, Pool::Regions);
     revoke_region(t, i, n, closing)
 }

@@ -8,6 +8,7 @@ ghost use Rattle.revoke_calls.specs.Calls.{revoke_unless_root, revoke_capa, revo
 ghost use Rattle.revoke_calls.specs.Parts.{revoked_held, revoker};
 
 use answers::Answer;
+use pools::Pool;
 use refusals::Refusal;
 use tables::{Handle, RegionCapa, Slot};
 
@@ -17,9 +18,9 @@ fn revoke_unless_root(t: &mut [u64], i: usize) -> Answer
     ensures value { result ≡ (revoke_unless_root i (view t.old)).answer }
     ensures left { Left t.new (revoke_unless_root i (view t.old)).tables }
 {
-    let g = region_rows::load_region(t, i);
+    let g = rows::load::<RegionCapa>(t, i);
     if g.kind == RegionCapa::ROOT {
-        return Answer::Refused(Refusal::ROOT);
+        return Err(Refusal::Root);
     }
     revocation::revoke(t, i, 0)
 }
@@ -30,10 +31,8 @@ fn revoke_held(t: &mut [u64], h: Handle) -> Answer
     ensures value { result ≡ (revoked_held h (view t.old)).answer }
     ensures left { Left t.new (revoked_held h (view t.old)).tables }
 {
-    match checks::live_region(t, h) {
-        Answer::Done(i) => revoke_unless_root(t, i as usize),
-        Answer::Refused(r) => Answer::Refused(r),
-    }
+    let i = checks::live_region(t, h)?;
+    revoke_unless_root(t, i as usize)
 }
 
 // 4, 3, 22, 23, 6, 9; a RegionRevoke of a dead region succeeds.
@@ -42,23 +41,15 @@ fn revoke_capa(t: &mut [u64], x: Slot) -> Answer
     ensures value { result ≡ (revoke_capa x (view t.old)).answer }
     ensures left { Left t.new (revoke_capa x (view t.old)).tables }
 {
-    let handle = x.handle;
-    if x.kind == Slot::FREE {
-        return Answer::Refused(Refusal::NO_SLOT);
+    match x.kind {
+        Slot::FREE => Err(Refusal::NoSlot),
+        Slot::MANAGEMENT => close_calls::close_managed(t, x.handle),
+        Slot::REGION => revoke_held(t, x.handle),
+        Slot::REGION_REVOKE if pools::is_live(t, Pool::Regions, x.handle) => {
+            revoke_unless_root(t, x.handle.slot as usize)
+        }
+        _ => Ok(0),
     }
-    if x.kind == Slot::MANAGEMENT {
-        return close_calls::close_managed(t, handle);
-    }
-    if x.kind == Slot::REGION {
-        return revoke_held(t, handle);
-    }
-    if x.kind != Slot::REGION_REVOKE {
-        return Answer::Done(0);
-    }
-    if pools::region_is_live(t, handle) {
-        return revoke_unless_root(t, handle.slot as usize);
-    }
-    Answer::Done(0)
 }
 
 // The capability's slot becomes None, and is in use until a sweep.
@@ -67,19 +58,11 @@ pub fn revoke(t: &mut [u64], h: Handle, l: usize) -> Answer
     ensures value { result ≡ (revoke_local h l (view t.old)).answer }
     ensures left { Left t.new (revoke_local h l (view t.old)).tables }
 {
-    match checks::live_domain(t, h) {
-        Answer::Done(d) => {
-            let x = slots::capa_at(t, d as usize, l);
-            match revoke_capa(t, x) {
-                Answer::Done(v) => {
-                    slots::empty_capa(t, d as usize, l);
-                    Answer::Done(0)
-                }
-                Answer::Refused(r) => Answer::Refused(r),
-            }
-        }
-        Answer::Refused(r) => Answer::Refused(r),
-    }
+    let d = checks::live_domain(t, h)?;
+    let x = slots::capa_at(t, d as usize, l);
+    revoke_capa(t, x)?;
+    slots::empty_capa(t, d as usize, l);
+    Ok(0)
 }
 
 // 9, 12.
@@ -88,24 +71,20 @@ fn add_revoker(t: &mut [u64], d: usize, i: u64) -> Answer
     ensures value { result ≡ (revoker d i (view t.old)).answer }
     ensures left { Left t.new (revoker d i (view t.old)).tables }
 {
-    let g = region_rows::load_region(t, i as usize);
+    let g = rows::load::<RegionCapa>(t, i as usize);
     if g.kind == RegionCapa::ROOT {
-        return Answer::Refused(Refusal::ROOT);
+        return Err(Refusal::Root);
     }
-    match domain::reserve(t, d) {
-        Answer::Done(v) => {
-            let handle = Handle {
-                slot: i,
-                generation: pools::region_generation(t, i as usize),
-            };
-            let capa = Slot {
-                kind: Slot::REGION_REVOKE,
-                handle,
-            };
-            domain::insert(t, d, capa)
-        }
-        Answer::Refused(r) => Answer::Refused(r),
-    }
+    domain::reserve(t, d)?;
+    let handle = Handle {
+        slot: i,
+        generation: pools::generation(t, Pool::Regions, i as usize),
+    };
+    let capa = Slot {
+        kind: Slot::REGION_REVOKE,
+        handle,
+    };
+    domain::insert(t, d, capa)
 }
 
 pub fn create_revoke_capa(t: &mut [u64], h: Handle, l: usize) -> Answer
@@ -113,11 +92,7 @@ pub fn create_revoke_capa(t: &mut [u64], h: Handle, l: usize) -> Answer
     ensures value { result ≡ (create_revoke_capa h l (view t.old)).answer }
     ensures left { Left t.new (create_revoke_capa h l (view t.old)).tables }
 {
-    match checks::live_domain(t, h) {
-        Answer::Done(d) => match checks::region_held(t, d as usize, l) {
-            Answer::Done(i) => add_revoker(t, d as usize, i),
-            Answer::Refused(r) => Answer::Refused(r),
-        },
-        Answer::Refused(r) => Answer::Refused(r),
-    }
+    let d = checks::live_domain(t, h)?;
+    let i = checks::region_held(t, d as usize, l)?;
+    add_revoker(t, d as usize, i)
 }

@@ -1,5 +1,5 @@
 -- A ring as a queue: its first place and its entries, the oldest first. Push and pop are those of the queue.
-use Rattle.std.specs.Prelude.{ℕ, zero, suc, ◌+◌, ◌-◌, ◌%◌, ◌<◌, ◌≤◌, ◌≡◌, refl, ◌≢◌, true, false, List, [], ◌∷◌, ◌++◌, length, get_or, set}
+use Rattle.std.specs.Prelude.{ℕ, zero, suc, ◌+◌, ◌-◌, ◌%◌, ◌<◌, ◌≤◌, ◌≡◌, refl, ◌≢◌, true, false, List, [], ◌∷◌, ◌++◌, length, get_or, set, Some, None}
 use Rattle.std.proofs.Common.{sym, ap, ◌∙◌, mod-lt, mod-eq_of_lt, arith, lt-ltb, eq-eqb, ne_eqb, length-set, length-append, get_or-set_same, get_or-set_other}
 use Rattle.std.proofs.Math.Decide.{ℕ_discrete}
 use Rattle.std.proofs.Math.Nat.{mod-add-mod, add-mod_right}
@@ -110,7 +110,7 @@ module _ (r : Ring) (f : ℕ) (items : List Entry) (q : Queues r f items) where
   push-full u h = rw (no_room h)
 
 -- "Pop of an empty ring answers none."
-pub pop-empty : (r : Ring) (f : ℕ) → Queues r f [] → pop_of r ≡ record { item = record { got = false; entry = no_entry }; ring = r }
+pub pop-empty : (r : Ring) (f : ℕ) → Queues r f [] → pop_of r ≡ record { item = None; ring = r }
 unfolding pop_of
 pop-empty r f q =
     let e : r.read ≡ r.write = q.read ∙ sym (q.write ∙ turn-none r.size f q.inside) in
@@ -147,6 +147,6 @@ module _ (r : Ring) (f : ℕ) (u : Entry) (us : List Entry) (q : Queues r f (u �
       }
 
   -- the oldest entry leaves
-  pub pop-takes : ((pop_of r).item ≡ record { got = true; entry = u }) × Queues (pop_of r).ring ((f + 1) % r.size) us
+  pub pop-takes : ((pop_of r).item ≡ Some u) × Queues (pop_of r).ring ((f + 1) % r.size) us
   unfolding pop_of
-  pop-takes = rw held (ap (λ (x : Entry). record { got = true; entry = x }) oldest, take-queues)
+  pop-takes = rw held (ap (λ (x : Entry). Some x) oldest, take-queues)

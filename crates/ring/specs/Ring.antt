@@ -1,15 +1,22 @@
 -- What the ring's functions do, as functions of records (document 01, "Update ring").
-use Rattle.std.specs.Prelude.{ℕ, ◌+◌, ◌-◌, ◌<◌, ◌≡◌, Bool, true, false, not, get_or, set, ltb, eqb}
-use Rattle.std.proofs.Common.{sym, ◌∙◌, ltb-true}
+use Rattle.std.specs.Prelude.{ℕ, ◌+◌, Bool, true, false, not, get_or, set, ltb, eqb, Option, Some, None}
 use Rattle.sizes.specs.Limits.{most_updates}
 use Rattle.base.specs.Cases.{pick}
-use Rattle.base.specs.Tests.{both, both_true}
+use Rattle.base.specs.Tests.{both}
 use Rattle.tables.specs.Kinds.{PERMISSION, CLEANUP}
 use Rattle.tables.specs.Tables.{no_update}
 use Rattle.ring.specs.declared.Entry.{Entry}
 use Rattle.ring.specs.declared.Ring.{Ring}
-use Rattle.ring.specs.declared.PushOut.{PushOut}
-use Rattle.ring.specs.declared.PopOut.{PopOut}
+
+-- A ring that was pushed to. Where `ok` is false it was full, 14 RingFull, and it is as it was.
+pub record PushOut : Type 0 where
+  pub ok : Bool
+  pub ring : Ring
+
+-- what a pop gives, and the ring that it leaves
+pub record PopOut : Type 0 where
+  pub item : Option Entry
+  pub ring : Ring
 
 -- the places of the largest ring
 abbrev pub cap : ℕ
@@ -51,9 +58,5 @@ some_b r = both (not (eqb r.read r.write)) (ltb r.read cap)
 
 unfoldable pub pop_of : Ring → PopOut
 pop_of r =
-    pick (some_b r) (record { item = record { got = true; entry = get_or r.places r.read no_entry }; ring = take_out r })
-    (record { item = record { got = false; entry = no_entry }; ring = r })
-
--- a place that passed the test lies in the array
-pub inside : (m n i : ℕ) (b : Bool) → b ≡ both (not (eqb m n)) (ltb i cap) → b ≡ true → i < cap
-inside m n i b e h = ltb-true i cap (both_true (not (eqb m n)) (ltb i cap) (sym e ∙ h)).1
+    pick (some_b r) (record { item = Some (get_or r.places r.read no_entry); ring = take_out r })
+    (record { item = None; ring = r })

@@ -1,9 +1,9 @@
-// The update ring (document 01, "Update ring"), by value: each function gives the ring that it leaves. What goes by a search is crate `ring_search`'s.
+// The update ring (document 01, "Update ring"): it is lent to a push or a pop, and changed there. What goes by a search is crate `ring_search`'s.
 
 #![tactic(auto)]
 
 ghost use Rattle.std.specs.Prelude.{◌≡◌};
-ghost use Rattle.ring.specs.Ring.{no_entry, permission_of, cleanup_of, after_of, push_of, pop_of};
+ghost use Rattle.ring.specs.Ring.{permission_of, cleanup_of, after_of, push_of, pop_of};
 
 use sizes::MOST_UPDATES;
 use tables::Update;
@@ -12,48 +12,19 @@ use tables::Update;
 pub const PLACES: usize = MOST_UPDATES + 1;
 
 // What stands in a place: an update, and the marks of the domain that it queues (document 02, request 4).
-#[derive(Clone, Copy)]
+#[derive(Clone, Copy, Default)]
 pub struct Entry {
     pub update: Update,
     pub marks: u64,
 }
 
-// `size` places are in use, one more than the ring can hold; those past them are nothing.
+// `size` places are in use, one more than the ring can hold; those past them are nothing. An array with a size and no `Vec`: nothing here allocates.
 #[derive(Clone, Copy)]
 pub struct Ring {
     pub places: [Entry; PLACES],
     pub read: usize,
     pub write: usize,
     pub size: usize,
-}
-
-// A ring that was pushed to. Where `ok` is false it was full, 14 RingFull, and it is as it was.
-#[derive(Clone, Copy)]
-pub struct PushOut {
-    pub ok: bool,
-    pub ring: Ring,
-}
-
-// What a pop gives: nothing where `got` is false.
-#[derive(Clone, Copy)]
-pub struct Item {
-    pub got: bool,
-    pub entry: Entry,
-}
-
-#[derive(Clone, Copy)]
-pub struct PopOut {
-    pub item: Item,
-    pub ring: Ring,
-}
-
-pub fn no_entry() -> Entry
-    ensures { result ≡ no_entry }
-{
-    Entry {
-        update: tables::no_update(),
-        marks: 0,
-    }
 }
 
 pub fn permission(slot: u64, generation: u64, cores: u64, marks: u64) -> Entry
@@ -81,55 +52,41 @@ pub fn cleanup(start: u64, end: u64) -> Entry
 }
 
 // The place after i in a ring of `size` places.
+#[tactic(auto, unfolding(crate::specs::Ring::after_of))]
 pub fn after(i: usize, size: usize) -> usize
     ensures { result ≡ after_of i size }
 {
-    if i < size {
-        let next = i + 1;
-        if next < size {
-            return next;
+    if i < size.saturating_sub(1) { i + 1 } else { 0 }
+}
+
+impl Ring {
+    // The ring is full where the place after the write place is the read place; then it stays as it is.
+    #[tactic(auto, unfolding(crate::specs::Ring::push_of))]
+    pub fn push(&mut self, e: Entry) -> bool
+        ensures value { result ≡ (push_of self.old e).ok }
+        ensures left { self.new ≡ (push_of self.old e).ring }
+    {
+        let next = after(self.write, self.size);
+        if next != self.read && self.write < PLACES {
+            self.places[self.write] = e;
+            self.write = next;
+            return true;
         }
+        false
     }
-    0
-}
 
-// The ring is full where the place after the write place is the read place.
-pub fn pushed(ring: Ring, e: Entry) -> PushOut
-    ensures { result ≡ push_of ring e }
-{
-    let write = ring.write;
-    let next = after(write, ring.size);
-    if words::both(next != ring.read, write < PLACES) {
-        let mut r = ring;
-        r.places[write] = e;
-        r.write = next;
-        return PushOut { ok: true, ring: r };
+    // The oldest entry, whose place is cleared; none of an empty ring.
+    #[tactic(auto, unfolding(crate::specs::Ring::pop_of))]
+    pub fn pop(&mut self) -> Option<Entry>
+        ensures value { result ≡ (pop_of self.old).item }
+        ensures left { self.new ≡ (pop_of self.old).ring }
+    {
+        if self.read != self.write && self.read < PLACES {
+            let entry = self.places[self.read];
+            self.places[self.read] = Entry::default();
+            self.read = after(self.read, self.size);
+            return Some(entry);
+        }
+        None
     }
-    PushOut { ok: false, ring }
-}
-
-// The oldest entry, whose place is cleared; none of an empty ring.
-pub fn popped(ring: Ring) -> PopOut
-    ensures { result ≡ pop_of ring }
-{
-    let read = ring.read;
-    let none = no_entry();
-    if words::both(read != ring.write, read < PLACES) {
-        let mut places = ring.places;
-        let entry = places[read];
-        places[read] = none;
-        let left = Ring {
-            places,
-            read: after(read, ring.size),
-            write: ring.write,
-            size: ring.size,
-        };
-        let item = Item { got: true, entry };
-        return PopOut { item, ring: left };
-    }
-    let item = Item {
-        got: false,
-        entry: none,
-    };
-    PopOut { item, ring }
 }

@@ -8,8 +8,7 @@ use Rattle.tables.specs.declared.Update.{Update}
 use Rattle.tables.specs.Kinds.{PERMISSION}
 use Rattle.ring.specs.declared.Entry.{Entry}
 use Rattle.ring.specs.declared.Ring.{Ring}
-use Rattle.ring.specs.declared.PushOut.{PushOut}
-use Rattle.ring.specs.Ring.{cap, no_entry, permission_of, after_of, push_of}
+use Rattle.ring.specs.Ring.{PushOut, cap, no_entry, permission_of, after_of, push_of}
 
 -- ---- the search for a domain
 

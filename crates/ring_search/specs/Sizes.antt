@@ -1,8 +1,7 @@
 -- Queueing does not change the size of the ring.
 use Rattle.std.specs.Prelude.{ℕ, ◌≡◌, refl, true}
 use Rattle.ring.specs.declared.Ring.{Ring}
-use Rattle.ring.specs.declared.PushOut.{PushOut}
-use Rattle.ring.specs.Ring.{push_of, permission_of}
+use Rattle.ring.specs.Ring.{PushOut, push_of, permission_of}
 use Rattle.ring.specs.Sizes.{size-picked, push-size}
 use Rattle.ring_search.specs.Queueing.{place_of, gather_in, found_b, queue_of}
 

@@ -5,61 +5,45 @@
 ghost use Rattle.std.specs.Prelude.{◌≡◌};
 ghost use Rattle.ring_search.specs.Queueing.{names_of, place_of, queue_of};
 
-use ring::{Entry, PLACES, PushOut, Ring};
+use ring::{PLACES, Ring};
 use tables::Update;
 
 // Whether it is a permission update of the domain with that handle.
+#[tactic(auto, unfolding(crate::specs::Queueing::names_of))]
 fn names(u: Update, slot: u64, generation: u64) -> bool
     ensures { result ≡ names_of u slot generation }
 {
-    words::both(
-        u.kind == Update::PERMISSION,
-        words::both(u.a == slot, u.b == generation),
-    )
+    u.kind == Update::PERMISSION && u.a == slot && u.b == generation
 }
 
 // The place of the domain's permission update between the read place and the write place; the write place where there is none.
-pub fn place_of(ring: Ring, slot: u64, generation: u64) -> usize
-    ensures { result ≡ place_of ring slot generation }
+pub fn place_of(ring: &Ring, slot: u64, generation: u64) -> usize
+    ensures { result ≡ place_of ring.now slot generation }
 {
-    let write = ring.write;
-    let size = ring.size;
     let mut i = ring.read;
-    let mut n = 0;
-    while n < PLACES {
-        if i == write {
-            return write;
+    for _ in 0..PLACES {
+        if i == ring.write || i >= PLACES {
+            break;
         }
-        if i >= PLACES {
-            return write;
-        }
-        let e = ring.places[i];
-        if names(e.update, slot, generation) {
+        if names(ring.places[i].update, slot, generation) {
             return i;
         }
-        i = ring::after(i, size);
-        n += 1;
+        i = ring::after(i, ring.size);
     }
-    write
+    ring.write
 }
 
 // Queues the domain with its core map and marks. Where it is queued already, the marks join those that it has, and nothing else
 // changes: no room is asked.
-pub fn queued(ring: Ring, slot: u64, generation: u64, cores: u64, marks: u64) -> PushOut
-    ensures { result ≡ queue_of ring slot generation cores marks }
+#[tactic(auto, unfolding(crate::specs::Queueing::queue_of))]
+pub fn queue(ring: &mut Ring, slot: u64, generation: u64, cores: u64, marks: u64) -> bool
+    ensures value { result ≡ (queue_of ring.old slot generation cores marks).ok }
+    ensures left { ring.new ≡ (queue_of ring.old slot generation cores marks).ring }
 {
     let at = place_of(ring, slot, generation);
-    if words::both(at != ring.write, at < PLACES) {
-        let mut r = ring;
-        let e = r.places[at];
-        let update = e.update;
-        let had = e.marks;
-        let joined = Entry {
-            update,
-            marks: had | marks,
-        };
-        r.places[at] = joined;
-        return PushOut { ok: true, ring: r };
+    if at != ring.write && at < PLACES {
+        ring.places[at].marks |= marks;
+        return true;
     }
-    ring::pushed(ring, ring::permission(slot, generation, cores, marks))
+    ring.push(ring::permission(slot, generation, cores, marks))
 }

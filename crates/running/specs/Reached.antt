@@ -1,7 +1,6 @@
 -- The tables of a script's calls are tables that were reached (crate promise, Reached): making begins them, a record that is taken leads on.
-use Rattle.std.specs.Prelude.{◌≡◌, refl, ℕ, List, T, length}
+use Rattle.std.specs.Prelude.{◌≡◌, refl, ℕ, List, T, Some, None, Ok, Err, length}
 use Rattle.std.proofs.Common.{sym, ap, subst, ◌∙◌}
-use Rattle.std.proofs.Math.Option.{Option, none, some}
 use Rattle.model.specs.State.{Sizes, no_options}
 use Rattle.model.specs.Making.{good_sizes}
 use Rattle.model.specs.Layout.{length_for}
@@ -14,44 +13,40 @@ use Rattle.book.specs.Book.{blank}
 use Rattle.replies.specs.declared.Reply.{Reply}
 use Rattle.replies.specs.Replies.{reply_of, Returns}
 use Rattle.promise.specs.Reached.{Leads, Reached}
-use Rattle.promise.proofs.Reached.{reached-claims, reached-made, leads-none, step-leads, pop-leads}
+use Rattle.promise.proofs.Reached.{reached-claims, reached-made, leads-none, step-leads}
 use Rattle.script_records.specs.declared.Record.{Record}
-use Rattle.script_records.specs.declared.Parsed.{Parsed}
-use Rattle.script_records.specs.declared.Parsed.TheVariants as found
-use Rattle.script_records.specs.Script.{Kind, opening, root, alias, carve, send, revoke, make_revoke, kind_of, manager_of}
-use Rattle.script_records.specs.Parsed.{handle_in, access_in, call_for, call_in, parsed}
+use Rattle.script_records.specs.Script.{Kind, opening, root, alias, carve, send, revoke, make_revoke, manager_of}
+use Rattle.script_records.specs.Parsed.{named, handle_in, access_in, call_for, call_in, Found, parsed}
 use Rattle.byte_numbers.specs.Numbers.{Bytes}
 use Rattle.script_records.proofs.Words.{call-words}
-use Rattle.running.specs.declared.scripts.Taken.{Taken}
-use Rattle.running.specs.Takes.{Takes}
+use Rattle.running.specs.Takes.{Taken, Takes}
 use Rattle.running.specs.RunScript.{Fit}
 use Rattle.running.specs.Made.{Makes, makes}
 
 -- ---- a record
 
 module _ {t w : List ℕ} {a : Answer} {t₂ w₂ : List ℕ} where
-  kind-leads : (k : Option Kind) (r : Record) → CallWords (call_for k r) → After t w (call_for k r) a t₂ w₂ → Leads t t₂
-  kind-leads none r u h = pop-leads h
-  kind-leads (some opening) r u h = step-leads (Step.Open (manager_of r.a r.b) r.c) u h
-  kind-leads (some root) r u h = step-leads (Step.Root (handle_in r) (access_in r.c r.d r.e)) u h
-  kind-leads (some alias) r u h = step-leads (Step.Alias (handle_in r) r.c (access_in r.d r.e r.f)) u h
-  kind-leads (some carve) r u h = step-leads (Step.Carve (handle_in r) r.c (access_in r.d r.e r.f)) u h
-  kind-leads (some send) r u h = step-leads (Step.Send (handle_in r) r.c r.d no_options) u h
-  kind-leads (some revoke) r u h = step-leads (Step.Revoke (handle_in r) r.c) u h
-  kind-leads (some make_revoke) r u h = step-leads (Step.CreateRevokeCapa (handle_in r) r.c) u h
+  kind-leads : (k : Kind) (r : Record) → CallWords (call_for k r) → After t w (call_for k r) a t₂ w₂ → Leads t t₂
+  kind-leads opening r u h = step-leads (Step.Open (manager_of r.a r.b) r.c) u h
+  kind-leads root r u h = step-leads (Step.Root (handle_in r) (access_in r.c r.d r.e)) u h
+  kind-leads alias r u h = step-leads (Step.Alias (handle_in r) r.c (access_in r.d r.e r.f)) u h
+  kind-leads carve r u h = step-leads (Step.Carve (handle_in r) r.c (access_in r.d r.e r.f)) u h
+  kind-leads send r u h = step-leads (Step.Send (handle_in r) r.c r.d no_options) u h
+  kind-leads revoke r u h = step-leads (Step.Revoke (handle_in r) r.c) u h
+  kind-leads make_revoke r u h = step-leads (Step.CreateRevokeCapa (handle_in r) r.c) u h
 
   record-leads : (r : Record) → CallWords (call_in r) → After t w (call_in r) a t₂ w₂ → Leads t t₂
   unfolding call_in
-  record-leads r u h = kind-leads (kind_of r.kind) r u h
+  record-leads r u h = kind-leads (named r.kind) r u h
 
 as-found : (t t₂ : List ℕ) → t₂ ≡ t → Leads t t₂
 as-found t t₂ e = subst (Leads t) (sym e) (leads-none t)
 
 module _ (b t w t₂ w₂ : List ℕ) (x : Taken) (known : Bytes b) where
-  taken : (p : Parsed) → parsed b ≡ p → Takes p t w x t₂ w₂ → Leads t t₂
-  taken found.Short e h = as-found t t₂ h.tables
-  taken found.Bad e h = as-found t t₂ h.tables
-  taken (found.Call r) e h = record-leads r (call-words b r known e) h.returns.after
+  taken : (p : Found) → parsed b ≡ p → Takes p t w x t₂ w₂ → Leads t t₂
+  taken (Ok None) e h = as-found t t₂ h.tables
+  taken (Err z) e h = as-found t t₂ h.tables
+  taken (Ok (Some r)) e h = record-leads r (call-words b r known e) h.returns.after
 
   -- whatever stands in the bytes at hand
   pub take-leads : Takes (parsed b) t w x t₂ w₂ → Leads t t₂

@@ -1,18 +1,15 @@
 -- A script's calls, record by record: from none to one more, and to the end or a bad record.
-use Rattle.std.specs.Prelude.{◌≡◌, refl, ℕ, ◌+◌, ◌-◌, ◌≤◌, ◌<◌, Bool, true, false, List, [], ◌∷◌, ◌++◌, length, take, drop, replicate, if◌then◌else◌}
-use Rattle.std.proofs.Common.{sym, ap, subst, ◌∙◌, append-nil, append_assoc, arith, length-append, length-drop, drop_of_length-le, take_all, drop-drop, get_or-drop}
-use Rattle.std.proofs.Math.Option.{Option, none, some}
+use Rattle.std.specs.Prelude.{◌≡◌, refl, ℕ, ◌+◌, ◌-◌, ◌≤◌, ◌<◌, Bool, true, false, List, [], ◌∷◌, ◌++◌, Some, None, Ok, Err, length, take, drop, replicate, if◌then◌else◌}
+use Rattle.std.proofs.Common.{sym, ap, subst, ◌∙◌, append-nil, append_assoc, arith, length-append, length-drop, drop_of_length-le, take_all, drop-drop}
 use Rattle.std.proofs.lemmas.List.{length-replicate}
 use Rattle.refusals.specs.Refusals.{number, bad_record}
 use Rattle.model.specs.Lists.{Each}
 use Rattle.model.specs.Perform.{Call, Answer, run}
 use Rattle.model.specs.CallWords.{CallWords}
-use Rattle.model.specs.State.{State}
 use Rattle.model.specs.Memory.{Lent, NotMake, After, made, not_sound, performed, zeroed}
 use Rattle.script_records.specs.declared.Record.{Record}
-use Rattle.script_records.specs.declared.Parsed.TheVariants as found
-use Rattle.script_records.specs.Script.{Kind, opening, root, alias, carve, send, revoke, make_revoke, kind_of, ahead, script_calls}
-use Rattle.script_records.specs.Parsed.{size_of, call_for, call_in, parsed}
+use Rattle.script_records.specs.Script.{Kind, opening, root, alias, carve, send, revoke, make_revoke, ahead, script_calls}
+use Rattle.script_records.specs.Parsed.{named, size_of, call_for, call_in, Found, bad_found, parsed}
 use Rattle.byte_numbers.specs.Numbers.{Bytes}
 use Rattle.script_records.proofs.Words.{call-size, call-words, bytes_drop}
 use Rattle.script_records.proofs.Scripts.{script-ended}
@@ -23,6 +20,7 @@ use Rattle.script_progress.specs.declared.Ran.{Ran}
 use Rattle.book.specs.Lent.{Chain}
 use Rattle.running.specs.Chains.{chain-end, each-end}
 use Rattle.running.specs.Led.{led-start, led-end}
+use Rattle.running.specs.Takes.{Taken, Takes}
 use Rattle.running.specs.Outcomes.{WasRun, NotRun}
 use Rattle.running.specs.RunScript.{script_reply}
 use Rattle.running.specs.BetweenRecords.{followed, BetweenRecords, RunsAll}
@@ -45,27 +43,26 @@ zeroed-twice w = ap (λ (n : ℕ). replicate n 0) (length-replicate (length w) 0
 -- ---- calls
 
 -- no record is a making
-kind-not-make : (k : Option Kind) (r : Record) → NotMake (call_for k r)
-kind-not-make none r = tt
-kind-not-make (some opening) r = tt
-kind-not-make (some root) r = tt
-kind-not-make (some alias) r = tt
-kind-not-make (some carve) r = tt
-kind-not-make (some send) r = tt
-kind-not-make (some revoke) r = tt
-kind-not-make (some make_revoke) r = tt
+kind-not-make : (k : Kind) (r : Record) → NotMake (call_for k r)
+kind-not-make opening r = tt
+kind-not-make root r = tt
+kind-not-make alias r = tt
+kind-not-make carve r = tt
+kind-not-make send r = tt
+kind-not-make revoke r = tt
+kind-not-make make_revoke r = tt
 
 not-make : (r : Record) → NotMake (call_in r)
 unfolding call_in
-not-make r = kind-not-make (kind_of r.kind) r
+not-make r = kind-not-make (named r.kind) r
 
 -- the bytes of the script are all at hand
-call-first : (b : List ℕ) (r : Record) → parsed b ≡ found.Call r → script_calls b ≡ ahead (call_in r) (script_calls (drop (size_of r.kind) b))
+call-first : (b : List ℕ) (r : Record) → parsed b ≡ Ok (Some r) → script_calls b ≡ ahead (call_in r) (script_calls (drop (size_of r.kind) b))
 call-first b r e =
     ap script_calls (sym (append-nil b)) ∙ stream-call b [] r e
     ∙ ap (λ (l : List ℕ). ahead (call_in r) (script_calls l)) (append-nil (drop (size_of r.kind) b))
 
-bad-first : (b : List ℕ) → parsed b ≡ found.Bad → script_calls b ≡ ([], true)
+bad-first : (b : List ℕ) → parsed b ≡ bad_found → script_calls b ≡ ([], true)
 bad-first b e = ap script_calls (sym (append-nil b)) ∙ stream-bad b [] e
 
 followed-one : (cs : List Call) (c : Call) (r : List Call × Bool) → followed cs (ahead c r) ≡ followed (cs ++ c ∷ []) r
@@ -96,13 +93,22 @@ module _ (b t₀ w₀ : List ℕ) where
 
     -- p is at hand
     module _ (p : List ℕ) (e : p ≡ drop at b) (t₂ w₂ : List ℕ) where
-      pub half-short : at < length b → NotRun found.Short p t w t₂ w₂ → (r : Reply) → r ≡ record { refusal = number bad_record; value = n } → RunsAll b t₀ w₀ r t₂ w₂
+      half-short : at < length b → NotRun (Ok None) p t w t₂ w₂ → (r : Reply) → r ≡ record { refusal = number bad_record; value = n } → RunsAll b t₀ w₀ r t₂ w₂
       half-short k x r d =
           let m : 0 < length p = omega (arith, ap length e, length-drop at b) in
           rw (d, x.tables, x.work) (ended true (ap script_calls (sym e) ∙ stream-cut p m x.stood))
 
-      pub half-bad : NotRun found.Bad p t w t₂ w₂ → (r : Reply) → r ≡ record { refusal = number bad_record; value = n } → RunsAll b t₀ w₀ r t₂ w₂
+      half-bad : NotRun bad_found p t w t₂ w₂ → (r : Reply) → r ≡ record { refusal = number bad_record; value = n } → RunsAll b t₀ w₀ r t₂ w₂
       half-bad x r d = rw (d, x.tables, x.work) (ended true (ap script_calls (sym e) ∙ bad-first p x.stood))
+
+      -- by what was taken, where that is no record that was run
+      left-by : at < length b → (x : Taken) → ((y : Ran) → x ≡ Ok (Some y) → ⊥) → (r : Reply) → r ≡ record { refusal = number bad_record; value = n } → (q : Found) → parsed p ≡ q → Takes q t w x t₂ w₂ → RunsAll b t₀ w₀ r t₂ w₂
+      left-by k x f r d (Ok None) e h = half-short k (record { stood = e; tables = h.tables; work = h.work }) r d
+      left-by k x f r d (Err z) e h = half-bad (record { stood = e; tables = h.tables; work = h.work }) r d
+      left-by k x f r d (Ok (Some q)) e h = absurd (f _ h.taken)
+
+      pub half-left : at < length b → (x : Taken) → ((y : Ran) → x ≡ Ok (Some y) → ⊥) → (r : Reply) → r ≡ record { refusal = number bad_record; value = n } → Takes (parsed p) t w x t₂ w₂ → RunsAll b t₀ w₀ r t₂ w₂
+      half-left k x f r d h = left-by k x f r d (parsed p) refl h
 
       half-next : Bytes b → (y : Ran) → WasRun p t w y t₂ w₂ → BetweenRecords b t₀ w₀ (n + 1) (at + y.size) t₂ w₂
       half-next known y x =

@@ -5,4 +5,4 @@
 mod perform;
 pub mod scripts;
 
-pub use scripts::{Taken, run_script, take};
+pub use scripts::{run_script, take};

@@ -7,29 +7,19 @@ ghost use Rattle.running.specs.RunScript.{RanScript};
 use crate::perform;
 use replies::Reply;
 use script_progress::{Place, Ran};
-use script_records::Parsed;
+use script_records::BadRecord;
 
-// What became of the bytes at hand.
-#[derive(Clone, Copy)]
-pub enum Taken {
-    // Part of a record that can still be a call: more bytes are needed.
-    Short,
-    // No record, whatever follows: 17.
-    Bad,
-    Done(Ran),
-}
-
-// One record at the front of the bytes at hand: parsed, and run.
-pub fn take(b: &[u8], t: &mut [u64], w: &mut [u64]) -> Taken
+// One record at the front of the bytes at hand: parsed, and run. `None` where part of a record is there that can still be a call: more bytes
+// are needed. Where no record is there, whatever follows, the refusal is 17.
+pub fn take(b: &[u8], t: &mut [u64], w: &mut [u64]) -> Result<Option<Ran>, BadRecord>
     ensures { Takes (parsed b.now) t.old w.old result t.new w.new }
 {
-    match script_records::parse(b) {
-        Parsed::Short => Taken::Short,
-        Parsed::Bad => Taken::Bad,
-        Parsed::Call(r) => Taken::Done(Ran {
+    match script_records::parse(b)? {
+        None => Ok(None),
+        Some(r) => Ok(Some(Ran {
             reply: perform::run(t, w, r),
-            size: script_records::size_of(r.kind),
-        }),
+            size: r.kind.size(),
+        })),
     }
 }
 
@@ -39,12 +29,10 @@ fn run_records(b: &[u8], t: &mut [u64], w: &mut [u64]) -> Reply
 {
     let mut p = Place { at: 0, calls: 0 };
     while p.at < b.len() {
-        let at = p.at;
-        match take(&b[at..], t, w) {
-            Taken::Short => return script_progress::bad_record(p.calls),
-            Taken::Bad => return script_progress::bad_record(p.calls),
-            Taken::Done(x) => p = script_progress::behind(p, x),
-        }
+        let Ok(Some(x)) = take(&b[p.at..], t, w) else {
+            return script_progress::bad_record(p.calls);
+        };
+        p = script_progress::behind(p, x);
     }
     Reply {
         refusal: 0,

@@ -3,11 +3,11 @@
 // (crate script_text), which are those of the bytes that were read. Both lists are of `ScriptTables`: tables that an accepted making and calls of the
 // exported functions left, of which demand 3 holds (`everything`, crate promise). No contract can say what is read or written. That reading on loses
 // no byte, and that no record is taken for cut while more may come, is proved in crate input; that bytes are handed over once, and none after a
-// write that failed, is seen in `hand_over` and `write` of crate output. That a read or a write that fails is said on standard error is tested
+// write that failed, is seen in `write` of crate output. That a read or a write that fails is said on standard error is tested
 // (tests/script).
 #![tactic(auto)]
 
-ghost use Rattle.std.specs.Prelude.{◌≡◌, ◌+◌, ◌≤◌, length};
+ghost use Rattle.std.specs.Prelude.{◌≡◌, ◌+◌, ◌≤◌, ◌<◌, length, None, IfSome, unwrap_or};
 ghost use Rattle.model.specs.Lists.{at_slot};
 ghost use Rattle.model.specs.State.{State};
 ghost use Rattle.model.specs.Making.{script_sizes};
@@ -24,11 +24,10 @@ ghost use Rattle.script_text.specs.Turns.{Turns};
 ghost use Rattle.script_text.specs.Records.{RanAll};
 ghost use Rattle.script_text.specs.Domains.{Holds};
 
-use input::Buffered;
+use input::{Buffered, Source};
 use output::Pending;
 use refusals::Refusal;
 use replies::Reply;
-use running::Taken;
 use std::io::{Read, Write};
 
 // The sizes of a script's tables, and how many words these are.
@@ -56,46 +55,42 @@ const WORDS: usize = sizes::HEADER_WIDTH
 // Bytes of input, and of output, that are held at a time.
 const BYTES: usize = 16384;
 
-// What a record left: the bytes of output, and how many it took of the input, 0 where reading ends.
+// What a record left: the bytes of output, and how many it took of the input; `None` where reading ends.
 #[derive(Clone, Copy)]
 struct Step {
     n: usize,
-    size: usize,
+    taken: Option<usize>,
 }
 
 // The line of a bad or cut record, "and ends reading".
 fn bad(text: &mut [u8], n: usize, k: u64) -> Step
     requires { n + 128 ≤ length text.old }
-    ensures n_bound { (result.n ≤ n + 128) × (result.size ≡ 0) }
+    ensures n_bound { (result.n ≤ n + 128) × (result.taken ≡ None) }
     ensures puts { Puts text.old n (call_line k bad_reply) result.n text.new }
 {
     let y = Reply {
-        refusal: Refusal::BAD_RECORD.0,
+        refusal: u64::from(Refusal::BadRecord),
         value: 0,
     };
     Step {
         n: output::call_line(text, n, k, y),
-        size: 0,
+        taken: None,
     }
 }
 
 // The k-th record, at the front of the bytes at hand.
 fn turn(b: &[u8], text: &mut [u8], n: usize, k: u64, t: &mut [u64], w: &mut [u64]) -> Step
     requires { n + 128 ≤ length text.old }
-    ensures n_bound { (result.n ≤ n + 128) × (result.size ≤ length b.now) }
+    ensures n_bound { (result.n ≤ n + 128) × IfSome result.taken (λ m. (0 < m) × (m ≤ length b.now)) }
     ensures leads { Leads t.old t.new }
-    ensures turns { Turns (parsed b.now) k n t.old w.old text.old result.n result.size t.new w.new text.new }
+    ensures turns { Turns (parsed b.now) k n t.old w.old text.old result.n (unwrap_or result.taken 0) t.new w.new text.new }
 {
     match running::take(b, t, w) {
-        Taken::Short => bad(text, n, k),
-        Taken::Bad => bad(text, n, k),
-        Taken::Done(x) => {
-            let y = x.reply;
-            Step {
-                n: output::call_line(text, n, k, y),
-                size: x.size,
-            }
-        }
+        Ok(Some(x)) => Step {
+            n: output::call_line(text, n, k, x.reply),
+            taken: Some(x.size),
+        },
+        Ok(None) | Err(_) => bad(text, n, k),
     }
 }
 
@@ -123,29 +118,22 @@ fn run_records<R: Read, W: Write>(
     let mut h = Buffered {
         at: 0,
         end: 0,
-        more: true,
-        failed: false,
+        source: Source::Open,
     };
     let mut p = Pending {
         n: 0,
         failed: false,
     };
-    let mut k = 1;
-    while k < u64::MAX {
+    for k in 1..u64::MAX {
         h = input::ready(reader, b, h);
-        let at = h.at;
-        let end = h.end;
         p = output::room(out, text, p);
-        if at == end || p.failed {
+        if h.at == h.end || p.failed {
             break;
         }
-        let x = turn(&b[at..end], text, p.n, k, t, w);
+        let x = turn(&b[h.at..h.end], text, p.n, k, t, w);
         p.n = x.n;
-        if x.size == 0 {
-            break;
-        }
-        h.at = at + x.size;
-        k += 1;
+        let Some(taken) = x.taken else { break };
+        h.at += taken;
     }
     Ran { text: p, input: h }
 }
@@ -161,11 +149,9 @@ fn list_domain<W: Write>(out: &mut W, text: &mut [u8], p: Pending, t: &[u64], d:
     let mut run = [0u64; 5 * RECORDS];
     let lines = listing::fill_lines(t, d, &mut run);
     let mut q = p;
-    let mut i = 0;
-    while i < lines {
+    for i in 0..lines {
         q = output::room(out, text, q);
         q.n = output::domain_line(text, q.n, &run, 5 * i);
-        i += 1;
     }
     q
 }
@@ -179,10 +165,8 @@ fn list_domains<W: Write>(out: &mut W, text: &mut [u8], p: Pending, t: &[u64]) -
     ensures prints { (s : State) → Holds t.now s → Prints text.old p (domain_text (domain_lines s)) text.new result }
 {
     let mut q = p;
-    let mut d = 0;
-    while d < DOMAINS {
+    for d in 0..DOMAINS {
         q = list_domain(out, text, q, t, d);
-        d += 1;
     }
     q
 }
@@ -203,15 +187,13 @@ fn list_queue<W: Write>(
     ensures prints { (s : State) → Lent t.old w.old s → s.sizes ≡ script_sizes → Prints text.old p (queue_text s.queue.items) text.new result }
 {
     let mut q = p;
-    let mut left: usize = UPDATES;
-    while 0 < left {
+    for _ in 0..UPDATES {
         let u = lent_queue::pop(t, w);
         if u.kind == 0 {
             return q;
         }
         q = output::room(out, text, q);
         q.n = output::queue_line(text, q.n, u);
-        left -= 1;
     }
     q
 }
@@ -258,7 +240,7 @@ fn main(rt: HostRuntime) {
     let mut text = [0u8; BYTES];
     let x = run(&mut reader, &mut out, &mut b, &mut text, &mut t, &mut w);
     let r = output::write(&mut out, &text, x.text);
-    if x.input.failed {
+    if x.input.source == Source::Failed {
         output::error_line(
             &mut err,
             b"script: reading standard input failed; records may be missing\n",

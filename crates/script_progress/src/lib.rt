@@ -39,7 +39,7 @@ pub fn bad_record(calls: u64) -> Reply
     ensures { result ≡ record { refusal = number bad_record; value = calls } }
 {
     Reply {
-        refusal: Refusal::BAD_RECORD.0,
+        refusal: u64::from(Refusal::BadRecord),
         value: calls,
     }
 }

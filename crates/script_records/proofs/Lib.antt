@@ -1,4 +1,3 @@
-pub mod Fields
 pub mod Parses
 pub mod Fronts
 pub mod Scripts

@@ -41,7 +41,7 @@ drop-take (suc n) (suc m) [] = sym (take-nil {A = ℕ} (suc m - suc n))
 drop-take (suc n) (suc m) (x ∷ l) = let e : m - n ≡ suc m - suc n = omega arith in drop-take n m l ∙ ap (λ (j : ℕ). take j (drop n l)) e
 
 -- the part that is lent, with `size` bytes taken off
-pub hand-taken : (h : Buffered) (b : List ℕ) (size : ℕ) → drop size (hand_of h b) ≡ hand_of (record { at = h.at + size; end = h.end; more = h.more; failed = h.failed }) b
+pub hand-taken : (h : Buffered) (b : List ℕ) (size : ℕ) → drop size (hand_of h b) ≡ hand_of (record { at = h.at + size; end = h.end; source = h.source }) b
 hand-taken h b size =
     let e : h.end - h.at - size ≡ h.end - (h.at + size) = omega arith in
     drop-take size (h.end - h.at) (drop h.at b) ∙ ap (take (h.end - h.at - size)) (drop-drop size h.at b) ∙ ap (λ (j : ℕ). take j (drop (h.at + size) b)) e

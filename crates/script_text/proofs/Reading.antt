@@ -1,11 +1,12 @@
 -- Records as they are read: the bytes at hand lie in a run, and more are read behind them.
-use Rattle.std.specs.Prelude.{◌≡◌, refl, ℕ, ◌+◌, ◌≤◌, ◌<◌, List, [], true, false, length}
+use Rattle.std.specs.Prelude.{◌≡◌, ◌≢◌, refl, ℕ, ◌+◌, ◌≤◌, ◌<◌, List, [], true, false, length}
 use Rattle.std.proofs.Common.{sym, subst, arith}
-use Rattle.base.specs.Cases.{lt, ge, cmp, holds, fails, test}
+use Rattle.base.specs.Cases.{lt, ge, cmp}
 use Rattle.base.specs.Tests.{true-false}
 use Rattle.model.specs.State.{State}
 use Rattle.model.specs.Memory.{Lent}
 use Rattle.input.specs.declared.Buffered.{Buffered}
+use Rattle.input.specs.declared.Source.TheVariants as source
 use Rattle.input.specs.Buffered.{Within, Keeps, Whole}
 use Rattle.script_records.specs.Parsed.{parsed}
 use Rattle.output.specs.declared.Pending.{Pending}
@@ -31,13 +32,13 @@ at_ready {h = h} {b = b} {r = r} {b₁ = b₁} x w e v f keeps room =
     record { between = between-room (between-read x.between _ (hand-grows h b r b₁ w₁ v₁ keeps)) room }
 
 -- where none is at hand, none may come
-no_more : (h : Buffered) → Whole h → h.at ≡ h.end → h.more ≡ false
-no_more h v e = elim (test h.more) [ holds t ↦ absurd (omega (arith, v t, e)) | fails f ↦ f ]
+no_more : (h : Buffered) → Whole h → h.at ≡ h.end → h.source ≢ source.Open
+no_more h v e o = omega (arith, v o, e)
 
 module _ {s : State} {k : ℕ} {h : Buffered} {b t w text : List ℕ} {p : Pending} (x : At s k h b t w text p) where
   -- it is run
   pub at_more : {size n : ℕ} {t₁ w₁ text₁ : List ℕ} → Turns (parsed (hand_of h b)) k p.n t w text n size t₁ w₁ text₁ → (size ≡ 0 → ⊥) → n ≤ length text → length t₁ ≡ length t
-      → At s (k + 1) (record { at = h.at + size; end = h.end; more = h.more; failed = h.failed }) b t₁ w₁ text₁ (record { n = n; failed = p.failed })
+      → At s (k + 1) (record { at = h.at + size; end = h.end; source = h.source }) b t₁ w₁ text₁ (record { n = n; failed = p.failed })
   at_more {size} {n} {t₁} {w₁} {text₁} y z room long = record { between = subst (λ (l : List ℕ). Between s (k + 1) l t₁ w₁ text₁ (record { n = n; failed = p.failed })) (hand-taken h b size) (between_more x.between room long y z) }
 
   -- it is a bad one

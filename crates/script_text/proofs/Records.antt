@@ -1,8 +1,7 @@
 -- Records in order: the bytes read so far, the calls of the records that were run, and what was printed for them.
-use Rattle.std.specs.Prelude.{◌≡◌, ℕ, suc, ◌+◌, ◌≤◌, ◌<◌, Bool, true, false, length, drop}
+use Rattle.std.specs.Prelude.{◌≡◌, ◌≢◌, Some, None, Ok, Err, ℕ, suc, ◌+◌, ◌≤◌, ◌<◌, Bool, true, false, length, drop}
 use Rattle.std.proofs.Math.Path.{refl, ap, subst}
 use Rattle.std.proofs.Common.{sym, ◌∙◌, arith, length-append}
-use Rattle.std.proofs.Math.Option.{Option, none, some}
 use mathlib.Core.List.{List, [], ◌∷◌, ◌++◌, append-nil, append_assoc}
 use Rattle.base.specs.Tests.{true-false}
 use Rattle.model.specs.Lists.{Each}
@@ -12,15 +11,14 @@ use Rattle.model.specs.Memory.{Lent, NotMake}
 use Rattle.laws.specs.KeptCalls.{run-kept}
 use Rattle.replies.specs.Replies.{reply_of}
 use Rattle.script_records.specs.declared.Record.{Record}
-use Rattle.script_records.specs.declared.Parsed.{Parsed}
-use Rattle.script_records.specs.declared.Parsed.TheVariants as found
-use Rattle.script_records.specs.Script.{Kind, opening, root, alias, carve, send, revoke, make_revoke, kind_of, ahead, script_calls}
-use Rattle.script_records.specs.Parsed.{size_of, call_for, call_in, parsed}
+use Rattle.script_records.specs.Script.{Kind, opening, root, alias, carve, send, revoke, make_revoke, ahead, script_calls}
+use Rattle.script_records.specs.Parsed.{named, size_of, call_for, call_in, Found, parsed}
 use Rattle.script_records.proofs.Words.{call-size}
 use Rattle.script_records.proofs.Scripts.{script-ended}
 use Rattle.script_records.proofs.Streams.{stream-call, stream-bad, stream-cut}
 use Rattle.running.specs.BetweenRecords.{followed}
 use Rattle.input.specs.declared.Buffered.{Buffered}
+use Rattle.input.specs.declared.Source.TheVariants as source
 use Rattle.output.specs.declared.Pending.{Pending}
 use Rattle.output.specs.Text.{call_line, Puts}
 use Rattle.output.specs.Printed.{Printed, Prints}
@@ -75,19 +73,18 @@ module _ {s₀ : State} {k : ℕ} {hand t w text : List ℕ} {p : Pending} (h : 
 
   -- ---- one call more
 
-  no-making : (o : Option Kind) (r : Record) → NotMake (call_for o r)
-  no-making none r = tt
-  no-making (some opening) r = tt
-  no-making (some root) r = tt
-  no-making (some alias) r = tt
-  no-making (some carve) r = tt
-  no-making (some send) r = tt
-  no-making (some revoke) r = tt
-  no-making (some make_revoke) r = tt
+  no-making : (o : Kind) (r : Record) → NotMake (call_for o r)
+  no-making opening r = tt
+  no-making root r = tt
+  no-making alias r = tt
+  no-making carve r = tt
+  no-making send r = tt
+  no-making revoke r = tt
+  no-making make_revoke r = tt
 
   no-make : (r : Record) → NotMake (call_in r)
   unfolding call_in
-  no-make r = no-making (kind_of r.kind) r
+  no-make r = no-making (named r.kind) r
 
   each_more : (cs : List Call) (c : Call) → Each NotMake cs → NotMake c → Each NotMake (cs ++ (c ∷ []))
   each_more [] c x y = (y, tt)
@@ -97,7 +94,7 @@ module _ {s₀ : State} {k : ℕ} {hand t w text : List ℕ} {p : Pending} (h : 
   followed-one cs c r = ap (λ (l : List Call). (l, r.1)) (sym (append_assoc cs (c ∷ []) r.0))
 
   module _ {n : ℕ} {t₁ w₁ text₁ : List ℕ} (room : n ≤ length text) (long : length t₁ ≡ length t) where
-    call-more : {size : ℕ} (r : Record) → parsed hand ≡ found.Call r → Called r k p.n t w text n size t₁ w₁ text₁ → Between s₀ (k + 1) (drop size hand) t₁ w₁ text₁ (record { n = n; failed = p.failed })
+    call-more : {size : ℕ} (r : Record) → parsed hand ≡ Ok (Some r) → Called r k p.n t w text n size t₁ w₁ text₁ → Between s₀ (k + 1) (drop size hand) t₁ w₁ text₁ (record { n = n; failed = p.failed })
     call-more {size} r e x =
         let cs = h.calls in
         let c = call_in r in
@@ -125,10 +122,10 @@ module _ {s₀ : State} {k : ℕ} {hand t w text : List ℕ} {p : Pending} (h : 
               ((prints-line x.line room).behind _ h.printed);
         }
 
-    as-parsed : {size : ℕ} (q : Parsed) → parsed hand ≡ q → Turns q k p.n t w text n size t₁ w₁ text₁ → (size ≡ 0 → ⊥) → Between s₀ (k + 1) (drop size hand) t₁ w₁ text₁ (record { n = n; failed = p.failed })
-    as-parsed found.Short e x u = absurd (u x.taken)
-    as-parsed found.Bad e x u = absurd (u x.taken)
-    as-parsed (found.Call r) e x u = call-more r e x
+    as-parsed : {size : ℕ} (q : Found) → parsed hand ≡ q → Turns q k p.n t w text n size t₁ w₁ text₁ → (size ≡ 0 → ⊥) → Between s₀ (k + 1) (drop size hand) t₁ w₁ text₁ (record { n = n; failed = p.failed })
+    as-parsed (Ok None) e x u = absurd (u x.taken)
+    as-parsed (Err z) e x u = absurd (u x.taken)
+    as-parsed (Ok (Some r)) e x u = call-more r e x
 
     pub between_more : {size : ℕ} → Turns (parsed hand) k p.n t w text n size t₁ w₁ text₁ → (size ≡ 0 → ⊥) → Between s₀ (k + 1) (drop size hand) t₁ w₁ text₁ (record { n = n; failed = p.failed })
     between_more x u = as-parsed (parsed hand) refl x u
@@ -156,17 +153,17 @@ module _ {s₀ : State} {k : ℕ} {hand t w text : List ℕ} {p : Pending} (h : 
               ((prints-line x room).behind _ h.printed));
         }
 
-    refused_as : {q : Pending} {size : ℕ} (i : Buffered) → q ≡ record { n = n; failed = p.failed } → 0 < length hand → (o : Parsed) → parsed hand ≡ o → Turns o k p.n t w text n size t₁ w₁ text₁ → size ≡ 0 → RanAll s₀ t₁ w₁ text₁ q i
-    refused_as i g u found.Short e x z = bad-end i (ap script_calls (append-nil hand) ∙ stream-cut hand u e) x.tables x.work x.line g
-    refused_as i g u found.Bad e x z = bad-end i (stream-bad hand [] e) x.tables x.work x.line g
-    refused_as i g u (found.Call r) e x z = absurd (omega (arith, call-size hand r e, x.taken, z))
+    refused_as : {q : Pending} {size : ℕ} (i : Buffered) → q ≡ record { n = n; failed = p.failed } → 0 < length hand → (o : Found) → parsed hand ≡ o → Turns o k p.n t w text n size t₁ w₁ text₁ → size ≡ 0 → RanAll s₀ t₁ w₁ text₁ q i
+    refused_as i g u (Ok None) e x z = bad-end i (ap script_calls (append-nil hand) ∙ stream-cut hand u e) x.tables x.work x.line g
+    refused_as i g u (Err v) e x z = bad-end i (stream-bad hand [] e) x.tables x.work x.line g
+    refused_as i g u (Ok (Some r)) e x z = absurd (omega (arith, call-size hand r e, x.taken, z))
 
     -- at a bad record
     pub ran-bad : {q : Pending} {size : ℕ} (i : Buffered) → q ≡ record { n = n; failed = p.failed } → 0 < length hand → Turns (parsed hand) k p.n t w text n size t₁ w₁ text₁ → size ≡ 0 → RanAll s₀ t₁ w₁ text₁ q i
     ran-bad i g u x z = refused_as i g u (parsed hand) refl x z
 
   -- where none is at hand, a write failed, or no more can be numbered
-  pub ran-end : (o : Buffered) → (p.failed ≡ false → length h.calls < 18446744073709551614 → (hand ≡ []) × (o.more ≡ false)) → RanAll s₀ t w text p o
+  pub ran-end : (o : Buffered) → (p.failed ≡ false → length h.calls < 18446744073709551614 → (hand ≡ []) × (o.source ≢ source.Open)) → RanAll s₀ t w text p o
   unfolding bad_line
   ran-end o end =
       let cs = h.calls in

@@ -1,5 +1,5 @@
 -- What the script program prints (document 01, "The script program"): every byte, from the bytes that it reads.
-use Rattle.std.specs.Prelude.{◌≡◌, ℕ, suc, ◌<◌, Bool, true, false, List, [], ◌∷◌, ◌++◌, length}
+use Rattle.std.specs.Prelude.{◌≡◌, ◌≢◌, ℕ, suc, ◌<◌, Bool, true, false, List, [], ◌∷◌, ◌++◌, length}
 use Rattle.std.proofs.Math.Option.{some}
 use Rattle.refusals.specs.Refusals.{number, bad_record}
 use Rattle.model.specs.State.{Update}
@@ -10,6 +10,7 @@ use Rattle.replies.specs.Replies.{reply_of, update_reply_of}
 use Rattle.script_records.specs.Script.{script_calls}
 use Rattle.listing.specs.Lines.{domain_lines}
 use Rattle.input.specs.declared.Buffered.{Buffered}
+use Rattle.input.specs.declared.Source.TheVariants as source
 use Rattle.output.specs.declared.Pending.{Pending}
 use Rattle.output.specs.Text.{call_line, domain_line, queue_line}
 use Rattle.output.specs.Printed.{Printed}
@@ -57,5 +58,5 @@ pub record Output (text : List ℕ) (p : Pending) (h : Buffered) : Type 0 where
   pub later : List Call
   pub first : (script_calls read).0 ≡ calls ++ later
   pub all : p.failed ≡ false → length calls < 18446744073709551614 → script_calls read ≡ (calls, bad)
-  pub ended : p.failed ≡ false → length calls < 18446744073709551614 → bad ≡ false → h.more ≡ false
+  pub ended : p.failed ≡ false → length calls < 18446744073709551614 → bad ≡ false → h.source ≢ source.Open
   pub printed : Printed (text_of (calls, bad)) text p

@@ -1,12 +1,10 @@
 -- One record at the front of the bytes at hand: the call that is run and its line, or the line of a bad record.
-use Rattle.std.specs.Prelude.{◌≡◌, ℕ, List}
+use Rattle.std.specs.Prelude.{◌≡◌, ℕ, List, Some, None, Ok, Err}
 use Rattle.model.specs.Perform.{Answer}
 use Rattle.model.specs.CallWords.{CallWords}
 use Rattle.model.specs.Memory.{After}
 use Rattle.script_records.specs.declared.Record.{Record}
-use Rattle.script_records.specs.declared.Parsed.{Parsed}
-use Rattle.script_records.specs.declared.Parsed.TheVariants as found
-use Rattle.script_records.specs.Parsed.{size_of, call_in}
+use Rattle.script_records.specs.Parsed.{size_of, call_in, Found}
 use Rattle.replies.specs.Replies.{reply_of}
 use Rattle.output.specs.Text.{call_line, Puts}
 use Rattle.script_text.specs.ScriptText.{bad_reply}
@@ -26,7 +24,7 @@ pub record Refused (k n : ℕ) (t w run : List ℕ) (n' size : ℕ) (t' w' run' 
   pub line : Puts run n (call_line k bad_reply) n' run'
   pub taken : size ≡ 0
 
-abbrev pub Turns : Parsed → ℕ → ℕ → List ℕ → List ℕ → List ℕ → ℕ → ℕ → List ℕ → List ℕ → List ℕ → Type 0
-Turns found.Short k n t w run n' size t' w' run' = Refused k n t w run n' size t' w' run'
-Turns found.Bad k n t w run n' size t' w' run' = Refused k n t w run n' size t' w' run'
-Turns (found.Call r) k n t w run n' size t' w' run' = Called r k n t w run n' size t' w' run'
+abbrev pub Turns : Found → ℕ → ℕ → List ℕ → List ℕ → List ℕ → ℕ → ℕ → List ℕ → List ℕ → List ℕ → Type 0
+Turns (Ok None) k n t w run n' size t' w' run' = Refused k n t w run n' size t' w' run'
+Turns (Err e) k n t w run n' size t' w' run' = Refused k n t w run n' size t' w' run'
+Turns (Ok (Some r)) k n t w run n' size t' w' run' = Called r k n t w run n' size t' w' run'

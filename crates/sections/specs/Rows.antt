@@ -1,11 +1,9 @@
 -- Rows of a section that is lent as a slice of its own. A row that is not there is read as all zero, as `region_at` and the others do.
-use Rattle.std.specs.Prelude.{◌≡◌, List, [], ℕ, suc, ◌+◌, ◌-◌, ◌*◌, ◌/◌, ◌≤◌, ◌<◌, length, get_or, take, drop}
-use Rattle.std.proofs.Common.{sym, ◌∙◌, mul-le-mul_right, le-div_iff_mul-le, div-lt_iff_lt-mul, arith}
+use Rattle.std.specs.Prelude.{◌≡◌, List, [], ℕ, ◌+◌, ◌-◌, ◌*◌, ◌^◌, min, ◌≤◌, ◌<◌, length}
+use Rattle.std.proofs.Common.{sym, ◌∙◌, arith}
 use Rattle.std.proofs.Math.Path.{ap}
-use Rattle.std.proofs.Math.ListN.{get_or-eq_default}
 use Rattle.base.specs.Cases.{cmp, lt, ge}
-use Rattle.words.specs.Runs.{part, fetched, fetched-in, fetched-out, none-fetched}
-use Rattle.words.specs.Rows.{rows, length-rows, get_d_rows}
+use Rattle.words.specs.Runs.{part, fetched, fetched-in, fetched-out}
 use Rattle.sizes.specs.Sizes.{slot_width, region_width, record_width, hash_width, interface_width}
 use Rattle.tables.specs.declared.Slot.{Slot}
 use Rattle.tables.specs.declared.RegionCapa.{RegionCapa}
@@ -33,43 +31,19 @@ hash_in p i = row_in hash_of hash_width p i
 abbrev pub interface_in : List ℕ → ℕ → Interface
 interface_in p i = row_in interface_of interface_width p i
 
--- a row below the number of rows lies in the words, another does not
-module _ (n w i : ℕ) (hw : 0 < w) where
-  pub row_inside : i < n / w → i * w + w ≤ n
-  row_inside h = omega (arith, (le-div_iff_mul-le hw).0 h)
-
-  pub row-outside : n / w ≤ i → n < i * w + w
-  row-outside h = let k : n / w < suc i = omega arith in omega (arith, (div-lt_iff_lt-mul hw).0 k)
-
--- what is lent of such a row, and of one that is not there
-pub row-lent : (p : List ℕ) (w i : ℕ) → 0 < w → i < length p / w → take (i * w + w - i * w) (drop (i * w) p) ≡ fetched p (i * w) w
-unfolding part
-row-lent p w i hw h = let e : i * w + w - i * w ≡ w = omega arith in rw e (sym (fetched-in p (i * w) w (row_inside (length p) w i hw h)))
-
-pub none_lent : (p : List ℕ) (w i : ℕ) → 0 < w → length p / w ≤ i → [] ≡ fetched p (i * w) w
-none_lent p w i hw h = sym (fetched-out p (i * w) w (row-outside (length p) w i hw h))
-
 module _ {A : Type 0} (f : List ℕ → A) (w : ℕ) (p : List ℕ) (i : ℕ) where
   pub row-there : i * w + w ≤ length p → row_in f w p i ≡ f (part p (i * w) w)
   unfolding row_in
   row-there h = ap f (fetched-in p (i * w) w h)
 
-  -- the words q of the row, as many as it has or none
-  module _ (q : List ℕ) (e : q ≡ fetched p (i * w) w) where
-    pub row_is : f q ≡ row_in f w p i
-    unfolding row_in
-    row_is = ap f e
-
-    pub no_row : (length q ≡ w → ⊥) → f [] ≡ row_in f w p i
-    no_row ne = ap f (sym (none-fetched p (i * w) w q e ne)) ∙ row_is
-
   pub row-absent : length p < i * w + w → row_in f w p i ≡ f []
   unfolding row_in
   row-absent h = ap f (fetched-out p (i * w) w h)
 
-  -- the same as in the list of all rows
-  pub row_listed : (n : ℕ) → length p ≡ n * w → 0 < w → row_in f w p i ≡ get_or (rows w n f p) i (f [])
-  row_listed n e hw = elim (cmp i n) [
-    | lt h ↦ row-there (omega (arith, mul-le-mul_right w h)) ∙ sym (get_d_rows w n f p i (f []) h)
-    | ge h ↦ row-absent (omega (arith, mul-le-mul_right w h)) ∙ sym (get_or-eq_default (rows w n f p) (f []) {n = i} (rw length-rows h))
+  -- the place as a word of the machine holds it: the largest where it is too large, which is past the end
+  pub row-read : (a : ℕ) → length p < 2 ^ 64 - 1 → a ≡ min (i * w) (2 ^ 64 - 1) → f (fetched p a w) ≡ row_in f w p i
+  unfolding row_in
+  row-read a h e = elim (cmp (i * w) (2 ^ 64 - 1)) [
+    | lt k ↦ let z : a ≡ i * w = omega arith in rw z
+    | ge k ↦ ap f (fetched-out p a w (omega arith) ∙ sym (fetched-out p (i * w) w (omega arith)))
   ]

@@ -1,15 +1,14 @@
 -- The rows of a section that is lent are those of the view, as functions of the row's number.
-use Rattle.std.specs.Prelude.{◌≡◌, refl, ℕ, ◌+◌, ◌-◌, ◌*◌, ◌≤◌, ◌<◌, length, get_or}
-use Rattle.std.proofs.Common.{sym, ap, ◌∙◌, arith}
-use mathlib.Core.List.{List}
-use Rattle.words.specs.Runs.{part, fetched, fetched-in}
-use Rattle.words.specs.Cuts.{cuts, offset, cuts-part}
-use Rattle.sizes.specs.declared.Sizes.{Sizes}
-use Rattle.sizes.specs.Sizes.{sizes_of, widths, regions_section, records_section, hash_section, interface_section, slot_width, region_width, record_width, hash_width, interface_width}
-use Rattle.tables.specs.Tables.{region_at, record_at, hash_at, interface_at}
-use Rattle.tables.specs.View.{view, of_parts, Sized, region_of, record_of, hash_of, interface_of}
-use Rattle.tables.specs.Sections.{section, section-length, section-inside, section-lent}
-use Rattle.sections.specs.Rows.{row_in, region_in, record_in, hash_in, interface_in, row_listed}
+use Rattle.std.specs.Prelude.{◌≡◌, List, [], ℕ, zero, suc, ◌+◌, ◌-◌, ◌*◌, ◌≤◌, length, get_or}
+use Rattle.std.proofs.Common.{sym, ap, ◌∙◌, mul-le-mul_right, lt-ltb, le-ltb, arith}
+use Rattle.base.specs.Cases.{cmp, lt, ge}
+use Rattle.words.specs.Runs.{part, part-part, length_part, fetched, fetched-in, fetched-out}
+use Rattle.words.specs.Cuts.{offset}
+use Rattle.sizes.specs.Sizes.{sizes_of, widths}
+use Rattle.tables.specs.View.{Sized}
+use Rattle.tables.specs.Sections.{section, section-inside, section-lent}
+use Rattle.tables.specs.Rows.{row_at, placed}
+use Rattle.sections.specs.Rows.{row_in, row-there}
 
 -- what `run` lends of section k
 pub section-run : (t : List ℕ) (k a n : ℕ) → Sized t → a ≡ offset (widths (sizes_of t)) k → n ≡ get_or (widths (sizes_of t)) k 0 → fetched t a n ≡ section t k
@@ -18,28 +17,31 @@ section-run t k a n s ea en =
     let e : a + n - a ≡ n = omega arith in
     fetched-in t a n (omega (arith, section-inside t k s)) ∙ rw e at (section-lent t k a (a + n) s ea (omega arith))
 
--- the rows of what is lent of each section, at the sizes z that the header holds
-module _ (t p : List ℕ) (z : Sizes) (a : ℕ) (s : Sized t) (ez : z ≡ sizes_of t) where
-  pub regions-lent : a ≡ offset (widths z) regions_section → p ≡ fetched t a (z.regions * region_width) → region_in p ≡ region_at (view t)
-  unfolding region_at view of_parts
-  regions-lent ea ep =
-      let e : p ≡ section t regions_section = ep ∙ section-run t regions_section a (z.regions * region_width) s (rw ez at ea) (rw ez) in
-      λ j i. (ap (λ (x : List ℕ). region_in x i) e ∙ row_listed region_of region_width (section t regions_section) i (sizes_of t).regions (section-length t regions_section s) (omega arith)) j
+-- no words are fetched past the end
+past : (t : List ℕ) (a w : ℕ) → length t ≤ a → fetched t a w ≡ []
+unfolding part
+past t a zero h = elim (cmp (length t) (a + 0)) [ lt k ↦ fetched-out t a 0 k | ge k ↦ fetched-in t a 0 k ]
+past t a (suc w) h = fetched-out t a (suc w) (omega arith)
 
-  pub records-lent : a ≡ offset (widths z) records_section → p ≡ fetched t a (z.records * record_width) → record_in p ≡ record_at (view t)
-  unfolding record_at view of_parts
-  records-lent ea ep =
-      let e : p ≡ section t records_section = ep ∙ section-run t records_section a (z.records * record_width) s (rw ez at ea) (rw ez) in
-      λ j i. (ap (λ (x : List ℕ). record_in x i) e ∙ row_listed record_of record_width (section t records_section) i (sizes_of t).records (section-length t records_section s) (omega arith)) j
+-- p is section k, of n rows of w words: its rows read by f are those that g gives of the tables
+module _ {A : Type 0} (f : List ℕ → A) (t p : List ℕ) (k n w o : ℕ) (g : ℕ → A) (s : Sized t) (width : get_or (widths (sizes_of t)) k 0 ≡ n * w) (eo : o ≡ offset (widths (sizes_of t)) k) (ep : p ≡ fetched t o (n * w)) where
+  lent_is : p ≡ part t o (n * w)
+  lent_is = ep ∙ fetched-in t o (n * w) (omega (arith, section-inside t k s))
 
-  pub hashes-lent : a ≡ offset (widths z) hash_section → p ≡ fetched t a (z.regions * hash_width) → hash_in p ≡ hash_at (view t)
-  unfolding hash_at view of_parts
-  hashes-lent ea ep =
-      let e : p ≡ section t hash_section = ep ∙ section-run t hash_section a (z.regions * hash_width) s (rw ez at ea) (rw ez) in
-      λ j i. (ap (λ (x : List ℕ). hash_in x i) e ∙ row_listed hash_of hash_width (section t hash_section) i (sizes_of t).regions (section-length t hash_section s) (omega arith)) j
+  long : length p ≡ n * w
+  long = ap length lent_is ∙ length_part t o (n * w) (omega (arith, section-inside t k s))
 
-  pub interfaces-lent : a ≡ offset (widths z) interface_section → p ≡ fetched t a (z.domains * interface_width) → interface_in p ≡ interface_at (view t)
-  unfolding interface_at view of_parts
-  interfaces-lent ea ep =
-      let e : p ≡ section t interface_section = ep ∙ section-run t interface_section a (z.domains * interface_width) s (rw ez at ea) (rw ez) in
-      λ j i. (ap (λ (x : List ℕ). interface_in x i) e ∙ row_listed interface_of interface_width (section t interface_section) i (sizes_of t).domains (section-length t interface_section s) (omega arith)) j
+  row-same : (i : ℕ) → row_in f w p i ≡ f (fetched t (placed t k n w i) w)
+  unfolding row_at row_in
+  row-same i = elim (cmp i n) [
+    | lt h ↦
+        let m = mul-le-mul_right w h in
+        rw (lt-ltb i n h, ← eo)
+        (row-there f w p i (omega (arith, long, m))
+        ∙ ap (λ (x : List ℕ). f (part x (i * w) w)) lent_is
+        ∙ ap f (part-part t o (n * w) (i * w) w (omega (arith, m)) ∙ sym (fetched-in t (o + i * w) w (omega (arith, section-inside t k s, m)))))
+    | ge h ↦ rw (le-ltb i n h) (ap f (past p (i * w) w (omega (arith, long, mul-le-mul_right w h)) ∙ sym (past t (length t) w (omega arith))))
+  ]
+
+  pub rows-lent : ((i : ℕ) → f (fetched t (placed t k n w i) w) ≡ g i) → row_in f w p ≡ g
+  rows-lent h = λ j i. (row-same i ∙ h i) j

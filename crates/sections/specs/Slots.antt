@@ -65,9 +65,8 @@ module _ (t : List ℕ) (s : Sized t) (d : ℕ) where
     | ge k ↦ rw (le-ltb j (sizes_of t).slots k) (omega arith)
   ]
 
-  pub no-slots-lent : (sizes_of t).domains ≤ d → slot_in (fetched t 0 0) ≡ slot_at (view t) d
-  unfolding part
-  no-slots-lent h = λ i j. absent (fetched t 0 0) j (omega (arith, ap length (fetched-in t 0 0 (omega arith)))) (omega (arith, none-place h j)) i
+  pub no-slots-lent : (sizes_of t).domains ≤ d → slot_in [] ≡ slot_at (view t) d
+  no-slots-lent h = λ i j. absent [] j (omega arith) (omega (arith, none-place h j)) i
 
 -- ---- as the code works it out: the sizes z, the section's start o, the width w of a domain
 

@@ -4,55 +4,39 @@
 #![tactic(auto)]
 
 ghost use Rattle.std.specs.Prelude.{◌≡◌};
-ghost use Rattle.tables.specs.Tables.{slot_at, region_at, record_at, hash_at, interface_at};
+ghost use Rattle.sizes.specs.Sizes.{sizes_of};
 ghost use Rattle.tables.specs.View.{view, Sized};
 ghost use Rattle.pools.specs.Pools.{pool_of};
-ghost use Rattle.sections.specs.Rows.{slot_in, region_in, record_in, hash_in, interface_in};
+ghost use Rattle.sections.specs.Rows.{row_in};
 
 use pools::Pool;
-use sizes::{HASH_WIDTH, INTERFACE_WIDTH, POOL_HEAD, RECORD_WIDTH, REGION_WIDTH};
+use rows::{Record, Row};
+use sizes::POOL_HEAD;
 
-pub mod rows;
 pub mod slots;
 
-pub use rows::{hash_in, interface_in, record_in, region_in, slot_in};
 pub use slots::slots_of;
 
-pub fn regions_of<'a>(t: &'a [u64]) -> &'a [u64]
-    requires { Sized t.now }
-    ensures { region_in result.now ≡ region_at (view t.now) }
+// Row i of a section.
+pub fn row_in<R: Record>(p: &[u64], i: usize) -> R
+    ensures { result ≡ row_in R.of R.WIDTH p.now i }
 {
-    let z = sizes::read_sizes(t);
-    words::run(t, sizes::regions_at(z), z.regions * REGION_WIDTH)
+    rows::read(p, i.saturating_mul(R::WIDTH))
 }
 
-pub fn records_of<'a>(t: &'a [u64]) -> &'a [u64]
-    requires { Sized t.now }
-    ensures { record_in result.now ≡ record_at (view t.now) }
+// The section of rows that have no words but their record's.
+pub fn rows_of<R: Row>(t: &[u64]) -> &[u64]
+    requires sized { Sized t.now }
+    requires records_alone { R.stride (sizes_of t.now) ≡ R.WIDTH }
+    ensures { row_in R.of R.WIDTH result.now ≡ R.row_at (view t.now) }
 {
     let z = sizes::read_sizes(t);
-    words::run(t, sizes::records_at(z), z.records * RECORD_WIDTH)
-}
-
-pub fn hashes_of<'a>(t: &'a [u64]) -> &'a [u64]
-    requires { Sized t.now }
-    ensures { hash_in result.now ≡ hash_at (view t.now) }
-{
-    let z = sizes::read_sizes(t);
-    words::run(t, sizes::hashes_at(z), z.regions * HASH_WIDTH)
-}
-
-pub fn interfaces_of<'a>(t: &'a [u64]) -> &'a [u64]
-    requires { Sized t.now }
-    ensures { interface_in result.now ≡ interface_at (view t.now) }
-{
-    let z = sizes::read_sizes(t);
-    words::run(t, sizes::interfaces_at(z), z.domains * INTERFACE_WIDTH)
+    words::run(t, R::start(z), R::count(z) * R::WIDTH)
 }
 
 // ---- A pool's links and generations, one for each slot
 
-pub fn links_of<'a>(t: &'a [u64], q: Pool) -> &'a [u64]
+pub fn links_of(t: &[u64], q: Pool) -> &[u64]
     requires { Sized t.now }
     ensures { result.now ≡ (pool_of (view t.now) q).links }
 {
@@ -60,7 +44,7 @@ pub fn links_of<'a>(t: &'a [u64], q: Pool) -> &'a [u64]
     words::run(t, s.start + POOL_HEAD, s.slots)
 }
 
-pub fn generations_of<'a>(t: &'a [u64], q: Pool) -> &'a [u64]
+pub fn generations_of(t: &[u64], q: Pool) -> &[u64]
     requires { Sized t.now }
     ensures { result.now ≡ (pool_of (view t.now) q).gens }
 {

@@ -1,11 +1,10 @@
 -- Regions made and sent (document 01, **Send**; segment.rs).
-use Rattle.std.specs.Prelude.{ℕ, zero, suc, ◌%◌, eqb, ltb}
+use Rattle.std.specs.Prelude.{ℕ, zero, suc, ◌%◌, eqb, ltb, Option, Some, None}
 use Rattle.base.specs.Cases.{pick}
 use Rattle.tables.specs.declared.RegionCapa.{RegionCapa}
 use Rattle.tables.specs.Kinds.{CARVE}
 use Rattle.tables.specs.Tables.{Tables, region_at, with_region, with_region_pool, with_owner}
-use Rattle.arena.specs.declared.Given.{Given}
-use Rattle.arena.specs.declared.Given.TheVariants.{At, Full}
+use Rattle.tables.specs.declared.Handle.{Handle}
 use Rattle.arena.specs.Arena.{given, allocated, answer_to}
 use Rattle.pools.specs.declared.Pool.TheVariants as pool
 use Rattle.pools.specs.Wiping.{slot_freed}
@@ -30,9 +29,9 @@ capa_for d kind parent a =
 abbrev pub taken : Tables → Tables
 taken s = with_region_pool s (allocated s.region_pool)
 
-abbrev made_at : Tables → RegionCapa → Given → Effect
-made_at s r (At h) = done h.slot (with_region (taken s) h.slot r)
-made_at s r Full = refused no_region (taken s)
+abbrev made_at : Tables → RegionCapa → Option Handle → Effect
+made_at s r (Some h) = done h.slot (with_region (taken s) h.slot r)
+made_at s r None = refused no_region (taken s)
 
 -- a region in a slot of its own; the answer is the slot (the model's new_region)
 unfoldable pub new_region : RegionCapa → Tables → Effect

@@ -4,7 +4,7 @@ ghost use Rattle.tables.specs.View.{view, Sized, Left};
 ghost use Rattle.segment.specs.Regions.{access, capa_for, new_region, freed_region, move_piece};
 
 use answers::Answer;
-use arena::{Freed, Given};
+use pools::Pool;
 use refusals::Refusal;
 use region::AccessRights;
 use tables::RegionCapa;
@@ -40,13 +40,9 @@ pub fn new_region(t: &mut [u64], r: RegionCapa) -> Answer
     ensures value { result ≡ (new_region r (view t.old)).answer }
     ensures left { Left t.new (new_region r (view t.old)).tables }
 {
-    match pools::allocate_region(t) {
-        Given::At(h) => {
-            region_rows::store_region(t, h.slot as usize, r);
-            Answer::Done(h.slot)
-        }
-        Given::Full => Answer::Refused(Refusal::NO_REGION),
-    }
+    let h = pools::allocate(t, Pool::Regions).ok_or(Refusal::NoRegion)?;
+    rows::store(t, h.slot as usize, r);
+    Ok(h.slot)
 }
 
 // 16 where its generation is spent.
@@ -55,11 +51,8 @@ pub fn free_region(t: &mut [u64], i: usize) -> Answer
     ensures value { result ≡ (freed_region i (view t.old)).answer }
     ensures left { Left t.new (freed_region i (view t.old)).tables }
 {
-    match pools::free_region(t, i) {
-        Freed::Done => Answer::Done(0),
-        Freed::Spent => Answer::Refused(Refusal::SPENT),
-        Freed::NotHeld => Answer::Refused(Refusal::MEMORY),
-    }
+    pools::free(t, Pool::Regions, i)?;
+    Ok(0)
 }
 
 // The range from x up to y, where it is not empty, leaves domain `old` and joins domain `new`.
@@ -68,12 +61,10 @@ pub fn move_piece(t: &mut [u64], old: usize, new: usize, rights: u64, x: u64, y:
     ensures value { result ≡ (move_piece old new rights x y (view t.old)).answer }
     ensures left { Left t.new (move_piece old new rights x y (view t.old)).tables }
 {
-    if x < y {
-        let a = access(x, y, rights);
-        return match domain::deactivate_region(t, old, a, 0) {
-            Answer::Done(v) => domain::activate_region(t, new, a, 0),
-            Answer::Refused(r) => Answer::Refused(r),
-        };
+    if x >= y {
+        return Ok(0);
     }
-    Answer::Done(0)
+    let a = access(x, y, rights);
+    domain::deactivate_region(t, old, a, 0)?;
+    domain::activate_region(t, new, a, 0)
 }

@@ -23,27 +23,21 @@ fn send_from(
     ensures value { result ≡ (send_from old new rights end limit start first (view t.old)).answer }
     ensures left { Left t.new (send_from old new rights end limit start first (view t.old)).tables }
 {
-    let mut left = limit;
     let mut x = start;
     let mut k = first;
-    while 0 < left {
-        left -= 1;
+    for _ in 0..limit {
         if k == 0 {
             return regions::move_piece(t, old, new, rights, x, end);
         }
-        let c = region_rows::load_region(t, tables::slot_to(k));
+        let c = rows::load::<RegionCapa>(t, tables::slot_to(k));
         k = c.next;
         if c.kind != RegionCapa::CARVE {
             continue;
         }
-        match regions::move_piece(t, old, new, rights, x, c.start) {
-            Answer::Done(v) => {
-                x = c.end;
-            }
-            Answer::Refused(r) => return Answer::Refused(r),
-        }
+        regions::move_piece(t, old, new, rights, x, c.start)?;
+        x = c.end;
     }
-    Answer::Refused(Refusal::MEMORY)
+    Err(Refusal::Memory)
 }
 
 // Region i becomes domain `new`'s. Its children stay where they are.
@@ -53,10 +47,10 @@ pub fn send_region(t: &mut [u64], i: usize, new: usize) -> Answer
     ensures left { Left t.new (send_region i new (view t.old)).tables }
 {
     let limit = words::size(t, sizes::REGIONS) + 1;
-    let g = region_rows::load_region(t, i);
+    let g = rows::load::<RegionCapa>(t, i);
     let mut h = g;
     h.owner = tables::link_to(new as u64);
-    region_rows::store_region(t, i, h);
+    rows::store(t, i, h);
     send_from(
         t,
         tables::slot_to(g.owner),

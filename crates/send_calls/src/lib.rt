@@ -18,19 +18,11 @@ fn send_held(t: &mut [u64], h: Handle, to: usize, o: SendOptions) -> Answer
     ensures value { result ≡ (send_held h to o (view t.old)).answer }
     ensures left { Left t.new (send_held h to o (view t.old)).tables }
 {
-    match checks::live_region(t, h) {
-        Answer::Done(i) => match send_options::check_options(o) {
-            Answer::Done(u) => match segment::send_region(t, i as usize, to) {
-                Answer::Done(v) => {
-                    send_options::apply_options(t, i as usize, o);
-                    Answer::Done(0)
-                }
-                Answer::Refused(r) => Answer::Refused(r),
-            },
-            Answer::Refused(r) => Answer::Refused(r),
-        },
-        Answer::Refused(r) => Answer::Refused(r),
-    }
+    let i = checks::live_region(t, h)?;
+    send_options::check_options(o)?;
+    segment::send_region(t, i as usize, to)?;
+    send_options::apply_options(t, i as usize, o);
+    Ok(0)
 }
 
 // 4, 10, and for a region 6, 18, 19; for other capabilities the options are ignored.
@@ -39,17 +31,12 @@ fn send_capa(t: &mut [u64], x: Slot, to: usize, o: SendOptions) -> Answer
     ensures value { result ≡ (send_capa x to o (view t.old)).answer }
     ensures left { Left t.new (send_capa x to o (view t.old)).tables }
 {
-    let handle = x.handle;
-    if x.kind == Slot::FREE {
-        return Answer::Refused(Refusal::NO_SLOT);
+    match x.kind {
+        Slot::FREE => Err(Refusal::NoSlot),
+        Slot::MANAGEMENT => Err(Refusal::NotCarried),
+        Slot::REGION => send_held(t, x.handle, to, o),
+        _ => Ok(0),
     }
-    if x.kind == Slot::MANAGEMENT {
-        return Answer::Refused(Refusal::NOT_CARRIED);
-    }
-    if x.kind == Slot::REGION {
-        return send_held(t, handle, to, o);
-    }
-    Answer::Done(0)
 }
 
 // What slot l holds is read after the target's list was swept, which may be the same list.
@@ -59,13 +46,9 @@ fn pass(t: &mut [u64], d: usize, l: usize, to: usize, o: SendOptions) -> Answer
     ensures left { Left t.new (passed d l to o (view t.old)).tables }
 {
     let x = slots::capa_at(t, d, l);
-    match send_capa(t, x, to, o) {
-        Answer::Done(v) => {
-            slots::remove_capa(t, d, l);
-            domain::insert(t, to, x)
-        }
-        Answer::Refused(r) => Answer::Refused(r),
-    }
+    send_capa(t, x, to, o)?;
+    slots::remove_capa(t, d, l);
+    domain::insert(t, to, x)
 }
 
 pub fn send(t: &mut [u64], h: Handle, l: usize, target: usize, o: SendOptions) -> Answer
@@ -73,14 +56,8 @@ pub fn send(t: &mut [u64], h: Handle, l: usize, target: usize, o: SendOptions) -
     ensures value { result ≡ (send h l target o (view t.old)).answer }
     ensures left { Left t.new (send h l target o (view t.old)).tables }
 {
-    match checks::caller_with(t, h, Interface::SEND) {
-        Answer::Done(d) => match checks::target_held(t, d as usize, target) {
-            Answer::Done(to) => match domain::reserve(t, to as usize) {
-                Answer::Done(u) => pass(t, d as usize, l, to as usize, o),
-                Answer::Refused(r) => Answer::Refused(r),
-            },
-            Answer::Refused(r) => Answer::Refused(r),
-        },
-        Answer::Refused(r) => Answer::Refused(r),
-    }
+    let d = checks::caller_with(t, h, Interface::SEND)?;
+    let to = checks::target_held(t, d as usize, target)?;
+    domain::reserve(t, to as usize)?;
+    pass(t, d as usize, l, to as usize, o)
 }

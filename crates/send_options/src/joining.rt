@@ -6,17 +6,17 @@ ghost use Rattle.send_options.specs.Joining.{add_hcv, with_options, apply_option
 
 use crate::SendOptions;
 use rights::Rights;
-use tables::{Hash, RegionHash};
+use tables::{Hash, RegionCapa, RegionHash};
 
 // The flags join the rights of region i.
 fn add_hcv(t: &mut [u64], i: usize, flags: Rights)
     requires { Sized t.old }
     ensures { Left t.new (add_hcv i flags (view t.old)) }
 {
-    let mut r = region_rows::load_region(t, i);
+    let mut r = rows::load::<RegionCapa>(t, i);
     let ops = children::rights_of(r.rights).union(flags);
     r.rights = ops.0 as u64;
-    region_rows::store_region(t, i, r);
+    rows::store(t, i, r);
 }
 
 // The row of a hash that was given.
@@ -38,7 +38,7 @@ fn set_options(t: &mut [u64], i: usize, flags: Rights, hash: RegionHash)
     ensures { Left t.new (with_options i flags hash (view t.old)) }
 {
     add_hcv(t, i, flags);
-    hash_rows::store_hash(t, i, hash);
+    rows::store(t, i, hash);
 }
 
 // Region i was sent: with a flag word its flags join the region's rights, and the hash is stored, or cleared when
@@ -49,7 +49,7 @@ pub fn apply_options(t: &mut [u64], i: usize, o: SendOptions)
 {
     match o {
         SendOptions::None => (),
-        SendOptions::Flags(flags) => set_options(t, i, flags, tables::no_hash()),
+        SendOptions::Flags(flags) => set_options(t, i, flags, RegionHash::default()),
         SendOptions::Hashed(flags, hash) => set_options(t, i, flags, hash_given(hash)),
     }
 }

@@ -28,21 +28,21 @@ fn check_flags(flags: Rights, hashed: bool) -> Answer
 {
     if Rights::NONE.allows(flags) {
         if hashed {
-            return Answer::Done(0);
+            return Ok(0);
         }
         if flags.contains(Rights::HASH) {
-            return Answer::Refused(Refusal::NO_HASH);
+            return Err(Refusal::NoHash);
         }
-        return Answer::Done(0);
+        return Ok(0);
     }
-    Answer::Refused(Refusal::BAD_FLAG)
+    Err(Refusal::BadFlag)
 }
 
 pub fn check_options(o: SendOptions) -> Answer
     ensures { result ≡ options_answer o }
 {
     match o {
-        SendOptions::None => Answer::Done(0),
+        SendOptions::None => Ok(0),
         SendOptions::Flags(flags) => check_flags(flags, false),
         SendOptions::Hashed(flags, hash) => check_flags(flags, true),
     }

@@ -96,19 +96,18 @@ pub fn read_sizes(t: &[u64]) -> Sizes
 fn within(n: usize, high: usize) -> bool
     ensures { result ≡ within_b n high }
 {
-    words::both(1 <= n, n <= high)
+    (1..=high).contains(&n)
 }
 
 // Whether each size lies in its limits (document 01, "Memory and who can be refused").
 pub fn limits_hold(z: Sizes) -> bool
     ensures { result ≡ limits_b z }
 {
-    let domains = words::both(within(z.domains, MOST_DOMAINS), within(z.slots, MOST_SLOTS));
-    let pools = words::both(
-        within(z.regions, MOST_REGIONS),
-        within(z.records, MOST_RECORDS),
-    );
-    words::both(domains, words::both(pools, within(z.updates, MOST_UPDATES)))
+    within(z.domains, MOST_DOMAINS)
+        && within(z.slots, MOST_SLOTS)
+        && within(z.regions, MOST_REGIONS)
+        && within(z.records, MOST_RECORDS)
+        && within(z.updates, MOST_UPDATES)
 }
 
 // How many words a domain with its slots has.
@@ -196,9 +195,5 @@ pub fn is_sized(t: &[u64]) -> bool
     ensures { result ≡ sized_b t.now }
 {
     let z = read_sizes(t);
-    if limits_hold(z) {
-        t.len() == total_of(z)
-    } else {
-        false
-    }
+    limits_hold(z) && t.len() == total_of(z)
 }

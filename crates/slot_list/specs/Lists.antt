@@ -1,5 +1,5 @@
 -- A domain's slot list by value, with its free list (free_list.rs; document 01, "Arenas").
-use Rattle.std.specs.Prelude.{Bool, ℕ, ◌+◌, ◌-◌, ltb, eqb, get_or, set, take, replicate}
+use Rattle.std.specs.Prelude.{Bool, ℕ, ◌+◌, ◌-◌, ltb, eqb, get_or, set, take, replicate, Some, None}
 use Rattle.sizes.specs.Limits.{most_slots}
 use Rattle.base.specs.Cases.{pick}
 use Rattle.base.specs.Tests.{both}
@@ -8,7 +8,6 @@ use Rattle.tables.specs.Kinds.{FREE}
 use Rattle.tables.specs.Tables.{no_slot}
 use Rattle.slot_list.specs.declared.SlotList.{SlotList}
 use Rattle.slot_list.specs.declared.Given.{Given}
-use Rattle.slot_list.specs.declared.Inserted.TheVariants.{At, Full}
 
 -- the list of what is no domain
 abbrev pub no_list : SlotList
@@ -42,7 +41,7 @@ allocated l =
     record { slots = set l.slots l.head no_slot; head = (slot_in l l.head).handle.slot; count = l.count + 1; size = l.size }
 
 unfoldable pub give_slot : SlotList → Given
-give_slot l = pick (gives_b l) (record { at = At l.head; list = allocated l }) (record { at = Full; list = l })
+give_slot l = pick (gives_b l) (record { at = Some l.head; list = allocated l }) (record { at = None; list = l })
 
 -- ---- `FreeList::free`; the model's free_local
 

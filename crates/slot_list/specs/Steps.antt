@@ -1,15 +1,18 @@
 -- The steps of the functions: what the values that they read make of their tests and their answers.
-use Rattle.std.specs.Prelude.{◌≡◌, Bool, true, false, ℕ, ◌+◌, ◌≤◌, ◌<◌, ltb, length, get_or, take}
+use Rattle.std.specs.Prelude.{◌≡◌, refl, Bool, true, false, ℕ, ◌+◌, ◌≤◌, ◌<◌, ltb, length, get_or, take, Some, None}
 use Rattle.std.proofs.Math.Path.{sym}
-use Rattle.std.proofs.Common.{◌∙◌, ltb-true, get_or-take}
+use Rattle.std.proofs.Common.{◌∙◌, lt-ltb, le-ltb, get_or-take}
 use Rattle.std.proofs.Math.ListN.{get_or-eq_default}
-use Rattle.base.specs.Tests.{both, both_true}
+use Rattle.base.specs.Tests.{both}
 use Rattle.base.specs.Lists.{get_d_any}
 use Rattle.tables.specs.declared.Slot.{Slot}
 use Rattle.tables.specs.Tables.{no_slot}
 use Rattle.slot_list.specs.declared.SlotList.{SlotList}
-use Rattle.slot_list.specs.declared.Inserted.TheVariants.{At, Full}
 use Rattle.slot_list.specs.Lists.{free_slot, is_free_b, slot_in, put_in, gives_b, give_slot}
+
+both-false : (b : Bool) → both b false ≡ false
+both-false true = refl
+both-false false = refl
 
 -- ---- a list by value
 
@@ -23,22 +26,21 @@ module _ (l : SlotList) (i : ℕ) where
   slot-past h = sym (get_or-eq_default (take l.size l.slots) (free_slot 0) h)
 
 -- what giving reads and tests
-module _ (l : SlotList) (x : Slot) (room free b : Bool) (ex : x ≡ slot_in l l.head) (er : room ≡ both (ltb l.head l.size) (ltb l.count l.size)) (ef : free ≡ is_free_b x) (eb : b ≡ both room free) where
-  gives-is : b ≡ gives_b l
-  unfolding gives_b
-  gives-is = rw (eb, ef, er, ex)
+module _ (l : SlotList) (x : Slot) (free : Bool) (ex : x ≡ slot_in l l.head) (ef : free ≡ is_free_b x) where
+  pub give-some : (m : SlotList) (z : Slot) → l.head < l.size → l.count < l.size → free ≡ true → z ≡ no_slot → m ≡ put_in l l.head z
+      → record { at = Some l.head; list = record { slots = m.slots; head = x.handle.slot; count = l.count + 1; size = m.size } } ≡ give_slot l
+  unfolding give_slot gives_b
+  give-some m z h k e ez em = rw (lt-ltb _ _ h, lt-ltb _ _ k, ← ex, ← ef, e, em, ez)
 
-  pub give-some : (m : SlotList) (z : Slot) → b ≡ true → z ≡ no_slot → m ≡ put_in l l.head z
-      → record { at = At l.head; list = record { slots = m.slots; head = x.handle.slot; count = l.count + 1; size = m.size } } ≡ give_slot l
-  unfolding give_slot
-  give-some m z h ez em = rw (← gives-is, h, em, ez, ex)
+  pub give-occupied : free ≡ false → record { at = None; list = l } ≡ give_slot l
+  unfolding give_slot gives_b
+  give-occupied e = rw (← ex, ← ef, e, both-false (both (ltb l.head l.size) (ltb l.count l.size)))
 
-  pub give-room : b ≡ true → l.count < l.size
-  give-room h =
-      let f = both_true room free (sym eb ∙ h) in
-      let g = both_true (ltb l.head l.size) (ltb l.count l.size) (sym er ∙ f.0) in
-      ltb-true l.count l.size g.1
+module _ (l : SlotList) where
+  pub give-past : l.size ≤ l.head → record { at = None; list = l } ≡ give_slot l
+  unfolding give_slot gives_b
+  give-past h = rw (le-ltb _ _ h)
 
-  pub give-none : b ≡ false → record { at = Full; list = l } ≡ give_slot l
-  unfolding give_slot
-  give-none h = rw (← gives-is, h)
+  pub give-full : l.size ≤ l.count → record { at = None; list = l } ≡ give_slot l
+  unfolding give_slot gives_b
+  give-full h = rw (le-ltb _ _ h, both-false (ltb l.head l.size))

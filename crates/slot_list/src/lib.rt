@@ -9,7 +9,7 @@ use sizes::MOST_SLOTS;
 use tables::{Handle, Slot};
 
 // The list with its free list: `head` is the free slot that is given next, `count` the slots in use.
-// The places past `size` hold the slot that is all zero.
+// The places past `size` hold the slot that is all zero. An array with a size and no `Vec`: nothing here allocates.
 #[derive(Clone, Copy)]
 pub struct SlotList {
     pub slots: [Slot; MOST_SLOTS],
@@ -18,17 +18,10 @@ pub struct SlotList {
     pub size: usize,
 }
 
-// What inserting answers.
-#[derive(Clone, Copy)]
-pub enum Inserted {
-    At(usize),
-    Full,
-}
-
-// What giving answers: the slot, and the list where it is in use.
+// What giving answers: the slot, none where the list is full; and the list where it is in use.
 #[derive(Clone, Copy)]
 pub struct Given {
-    pub at: Inserted,
+    pub at: Option<usize>,
     pub list: SlotList,
 }
 
@@ -55,30 +48,28 @@ pub fn is_free(x: Slot) -> bool
 pub fn less_one(n: u64) -> u64
     ensures { result ≡ n - 1 }
 {
-    if 0 < n { n - 1 } else { 0 }
+    n.saturating_sub(1)
 }
 
 // Slot i; a number too large answers a free slot.
 pub fn slot_of(list: SlotList, i: usize) -> Slot
     ensures { result ≡ slot_in list i }
 {
-    if i < list.size {
-        if i < MOST_SLOTS {
-            return list.slots[i];
-        }
+    if i < list.size && i < MOST_SLOTS {
+        list.slots[i]
+    } else {
+        free_slot(0)
     }
-    free_slot(0)
 }
 
 // A capability into slot i.
-pub fn put(list: SlotList, i: usize, x: Slot) -> SlotList
+pub fn put(mut list: SlotList, i: usize, x: Slot) -> SlotList
     ensures { result ≡ put_in list i x }
 {
-    let mut out = list;
     if i < MOST_SLOTS {
-        out.slots[i] = x;
+        list.slots[i] = x;
     }
-    out
+    list
 }
 
 // `Capa::None` into slot i, where that is in use.
@@ -88,7 +79,7 @@ pub fn empty(list: SlotList, i: usize) -> SlotList
     if is_free(slot_of(list, i)) {
         return list;
     }
-    put(list, i, tables::no_slot())
+    put(list, i, Slot::default())
 }
 
 // `FreeList::allocate`: the slot at the head, which holds None until a capability is put there.
@@ -97,20 +88,16 @@ pub fn give(list: SlotList) -> Given
 {
     let i = list.head as usize;
     let x = slot_of(list, i);
-    let room = words::both(i < list.size, (list.count as usize) < list.size);
-    if words::both(room, is_free(x)) {
-        let mut out = put(list, i, tables::no_slot());
+    if i < list.size && (list.count as usize) < list.size && is_free(x) {
+        let mut out = put(list, i, Slot::default());
         out.head = x.handle.slot;
         out.count = list.count + 1;
         return Given {
-            at: Inserted::At(i),
+            at: Some(i),
             list: out,
         };
     }
-    Given {
-        at: Inserted::Full,
-        list,
-    }
+    Given { at: None, list }
 }
 
 // `FreeList::free`: slot i is the head, with the old head behind it; nothing where it is not in use.

@@ -6,6 +6,7 @@ ghost use Rattle.std.specs.Prelude.{◌≡◌};
 ghost use Rattle.tables.specs.View.{view, Sized};
 ghost use Rattle.slot_sweep.specs.Sweep.{is_invalid_b, swept};
 
+use pools::Pool;
 use sizes::MOST_SLOTS;
 use slot_list::SlotList;
 use tables::Slot;
@@ -15,39 +16,24 @@ pub fn is_invalid(t: &[u64], x: Slot) -> bool
     requires { Sized t.now }
     ensures { result ≡ is_invalid_b (view t.now) x }
 {
-    let kind = x.kind;
-    let handle = x.handle;
-    match kind {
+    match x.kind {
         Slot::NONE => true,
-        Slot::REGION | Slot::REGION_REVOKE => !pools::region_is_live(t, handle),
-        Slot::MANAGEMENT | Slot::CHANNEL => !pools::domain_is_live(t, handle),
+        Slot::REGION | Slot::REGION_REVOKE => !pools::is_live(t, Pool::Regions, x.handle),
+        Slot::MANAGEMENT | Slot::CHANNEL => !pools::is_live(t, Pool::Domains, x.handle),
         _ => false,
     }
 }
 
-// One loop over the record's own array, so that nothing is copied in a turn.
-pub fn free_invalid_capas(t: &[u64], list: SlotList) -> SlotList
+pub fn free_invalid_capas(t: &[u64], mut list: SlotList) -> SlotList
     requires { Sized t.now }
     ensures { result ≡ swept (view t.now) list }
 {
-    let size = list.size;
-    let mut slots = list.slots;
-    let mut head = list.head;
-    let mut count = list.count;
-    let mut i = 0;
-    while i < MOST_SLOTS {
-        let x = slots[i];
-        if words::both(i < size, is_invalid(t, x)) {
-            slots[i] = slot_list::free_slot(head);
-            head = i as u64;
-            count = slot_list::less_one(count);
+    for i in 0..list.size.min(MOST_SLOTS) {
+        if is_invalid(t, list.slots[i]) {
+            list.slots[i] = slot_list::free_slot(list.head);
+            list.head = i as u64;
+            list.count = slot_list::less_one(list.count);
         }
-        i += 1;
     }
-    SlotList {
-        slots,
-        head,
-        count,
-        size,
-    }
+    list
 }

@@ -1,11 +1,9 @@
 -- The capabilities of domain d: what the calls on its list answer and leave.
-use Rattle.std.specs.Prelude.{Bool, ℕ, ltb, get_or}
+use Rattle.std.specs.Prelude.{Bool, ℕ, ltb, get_or, Option, Some, None}
 use Rattle.base.specs.Cases.{pick}
 use Rattle.tables.specs.declared.Slot.{Slot}
 use Rattle.tables.specs.Tables.{Tables}
 use Rattle.slot_list.specs.declared.SlotList.{SlotList}
-use Rattle.slot_list.specs.declared.Inserted.{Inserted}
-use Rattle.slot_list.specs.declared.Inserted.TheVariants.{At, Full}
 use Rattle.slot_list.specs.Lists.{free_slot, put_in, empty_slot, give_slot, take_slot}
 use Rattle.slot_sweep.specs.Sweep.{swept}
 use Rattle.stored_slots.specs.Record.{domain_or, list_at, with_list}
@@ -18,9 +16,9 @@ room_b s d = ltb (list_at s d).count (list_at s d).size
 unfoldable pub with_capacity : Tables → ℕ → Tables
 with_capacity s d = pick (room_b s d) s (with_list s d (swept s (list_at s d)))
 
-abbrev inserted_at : Tables → ℕ → SlotList → Slot → Inserted → Tables
-inserted_at s d l x (At i) = with_list s d (put_in l i x)
-inserted_at s d l x Full = s
+abbrev inserted_at : Tables → ℕ → SlotList → Slot → Option ℕ → Tables
+inserted_at s d l x (Some i) = with_list s d (put_in l i x)
+inserted_at s d l x None = s
 
 -- the capability is in the slot that is given (the model's insert_capa)
 unfoldable pub with_capa : Tables → ℕ → Slot → Tables

@@ -1,11 +1,11 @@
 -- The steps of the functions: what the values that they read make of their tests and their answers.
 use Rattle.std.proofs.Math.Path.{◌≡◌, sym, ap}
-use Rattle.std.specs.Prelude.{refl, Bool, true, false, List, ℕ, ◌-◌, ltb, get_or}
+use Rattle.std.specs.Prelude.{refl, Bool, true, false, List, ℕ, ◌-◌, ltb, get_or, ◌<◌, ◌≤◌, Some, None}
 use Rattle.std.proofs.Common.{◌∙◌, arith}
-use borrow.Author.Tests.{lt-ltb, le-ltb, ltb-true}
+use borrow.Author.Tests.{lt-ltb, le-ltb}
 use Rattle.std.proofs.Math.ListN.{get_or-eq_default}
 use Rattle.base.specs.Cases.{cmp, lt, ge}
-use Rattle.base.specs.Tests.{both, both_true}
+use Rattle.base.specs.Tests.{both}
 use Rattle.base.specs.Lists.{get_d_any}
 use Rattle.tables.specs.declared.Slot.{Slot}
 use Rattle.tables.specs.Tables.{no_slot, head_at, slot_at}
@@ -13,7 +13,6 @@ use Rattle.sizes.specs.Sizes.{sizes_of}
 use Rattle.tables.specs.View.{view, Sized, Left}
 use Rattle.slot_list.specs.declared.SlotList.{SlotList}
 use Rattle.slot_list.specs.declared.Given.{Given}
-use Rattle.slot_list.specs.declared.Inserted.TheVariants.{At, Full}
 use Rattle.slot_list.specs.Lists.{free_slot, put_in, give_slot}
 use Rattle.slot_sweep.specs.Sweep.{swept}
 use Rattle.stored_slots.specs.Record.{domain_or, list_of, list_at, with_list}
@@ -31,26 +30,18 @@ module _ (t : List ℕ) (d n : ℕ) (en : n ≡ get_or t 0 0) (m : ℕ) (em : m 
         | ge h ↦ rw (le-ltb d n h, no-domain t d (omega arith))
       ]
 
-  module _ (i : ℕ) (b : Bool) (eb : b ≡ both (ltb d n) (ltb i m)) where
-    pub capa-there : b ≡ true → slot_at (view t) d i ≡ capa_at (view t) d i
+  module _ (i : ℕ) where
+    pub capa-there : d < n → i < m → slot_at (view t) d i ≡ capa_at (view t) d i
     unfolding slot_at capa_at sizes_of
-    capa-there h =
-        let f = both_true (ltb d n) (ltb i m) (sym eb ∙ h) in
-        let hd = ltb-true d n f.0 in
-        let hi = ltb-true i m f.1 in
-        get_d_any (domain_or (view t) d).slots i no_slot (free_slot 0) (omega (arith, domain-slots t d (omega arith)))
+    capa-there hd hi = get_d_any (domain_or (view t) d).slots i no_slot (free_slot 0) (omega (arith, domain-slots t d (omega arith)))
 
-    pub capa-not : b ≡ false → free_slot 0 ≡ capa_at (view t) d i
+    pub capa-past : d < n → m ≤ i → free_slot 0 ≡ capa_at (view t) d i
     unfolding capa_at sizes_of
-    capa-not h =
-        elim (cmp d n) [
-          | ge hd ↦ rw (no-domain t d (omega arith))
-          | lt hd ↦
-              elim (cmp i m) [
-                | lt hi ↦ let z : ◌≡◌ {A = ℕ} 0 1 = cc (lt-ltb d n hd, lt-ltb i m hi) in absurd (omega arith)
-                | ge hi ↦ sym (get_or-eq_default (domain_or (view t) d).slots (free_slot 0) {n = i} (omega (arith, domain-slots t d (omega arith))))
-              ]
-        ]
+    capa-past hd hi = sym (get_or-eq_default (domain_or (view t) d).slots (free_slot 0) {n = i} (omega (arith, domain-slots t d (omega arith))))
+
+    pub capa-nowhere : n ≤ d → free_slot 0 ≡ capa_at (view t) d i
+    unfolding capa_at sizes_of
+    capa-nowhere hd = rw (no-domain t d (omega arith))
 
 -- ---- a full list is swept
 
@@ -67,11 +58,11 @@ module _ (t : List ℕ) (d : ℕ) (b : Bool) (eb : b ≡ room_b (view t) d) wher
 -- ---- a capability is put into the slot that is given
 
 module _ (t : List ℕ) (d : ℕ) (x : Slot) (g : Given) (e : g ≡ give_slot (list_at (view t) d)) where
-  pub capa-inserted : (u : List ℕ) (i : ℕ) (l : SlotList) → g.at ≡ At i → l ≡ put_in g.list i x → Left u (with_list (view t) d l)
-      → (At i ≡ (give_slot (list_at (view t) d)).at) × Left u (with_capa (view t) d x)
+  pub capa-inserted : (u : List ℕ) (i : ℕ) (l : SlotList) → g.at ≡ Some i → l ≡ put_in g.list i x → Left u (with_list (view t) d l)
+      → (Some i ≡ (give_slot (list_at (view t) d)).at) × Left u (with_capa (view t) d x)
   unfolding with_capa
   capa-inserted u i l ei el left = rw (← e, ei, ← el) (refl, left)
 
-  pub capa-full : g.at ≡ Full → Sized t → (g.at ≡ (give_slot (list_at (view t) d)).at) × Left t (with_capa (view t) d x)
+  pub capa-full : g.at ≡ None → Sized t → (g.at ≡ (give_slot (list_at (view t) d)).at) × Left t (with_capa (view t) d x)
   unfolding with_capa
   capa-full ef s = rw (← e, ef) (refl, record { seen = refl; sized = s })

@@ -5,17 +5,16 @@ ghost use Rattle.slot_list.specs.Lists.{give_slot};
 ghost use Rattle.stored_slots.specs.Record.{list_at};
 ghost use Rattle.slots.specs.Capas.{room_b, with_capacity, with_capa, without_capa, with_empty, capa_at};
 
-use slot_list::Inserted;
-use tables::Slot;
+use tables::{DomainHead, Slot};
 
 // Whether a slot is free.
 fn has_room(t: &[u64], d: usize) -> bool
     requires { Sized t.now }
     ensures { result ≡ room_b (view t.now) d }
 {
-    let h = domain_rows::load_head(t, d);
+    let h = rows::load::<DomainHead>(t, d);
     let room = (h.count as usize) < words::size(t, sizes::SLOTS);
-    words::both(d < words::size(t, sizes::DOMAINS), room)
+    d < words::size(t, sizes::DOMAINS) && room
 }
 
 // Whether a slot is free, a full list being swept first (document 01, 12 NoLocal).
@@ -33,7 +32,7 @@ pub fn has_capacity_for(t: &mut [u64], d: usize) -> bool
 }
 
 // The capability into the first free slot. Nothing is swept here: `has_capacity_for` comes before.
-pub fn insert_capa(t: &mut [u64], d: usize, capa: Slot) -> Inserted
+pub fn insert_capa(t: &mut [u64], d: usize, capa: Slot) -> Option<usize>
     requires { Sized t.old }
     ensures value { result ≡ (give_slot (list_at (view t.old) d)).at }
     ensures left { Left t.new (with_capa (view t.old) d capa) }
@@ -41,9 +40,8 @@ pub fn insert_capa(t: &mut [u64], d: usize, capa: Slot) -> Inserted
     let g = slot_list::give(stored_slots::load_list(t, d));
     let at = g.at;
     let given = g.list;
-    match at {
-        Inserted::At(i) => stored_slots::store_list(t, d, slot_list::put(given, i, capa)),
-        Inserted::Full => {}
+    if let Some(i) = at {
+        stored_slots::store_list(t, d, slot_list::put(given, i, capa));
     }
     at
 }
@@ -71,11 +69,8 @@ pub fn capa_at(t: &[u64], d: usize, i: usize) -> Slot
     requires { Sized t.now }
     ensures { result ≡ capa_at (view t.now) d i }
 {
-    if words::both(
-        d < words::size(t, sizes::DOMAINS),
-        i < words::size(t, sizes::SLOTS),
-    ) {
-        domain_rows::load_slot(t, d, i)
+    if d < words::size(t, sizes::DOMAINS) && i < words::size(t, sizes::SLOTS) {
+        rows::load_slot(t, d, i)
     } else {
         slot_list::free_slot(0)
     }

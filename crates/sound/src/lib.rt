@@ -14,32 +14,20 @@ fn tracked_holds(t: &[u64], w: &mut [u64]) -> bool
     ensures value { result ≡ tracked_holds (view t.now) }
     ensures w_unchanged { w.new ≡ w.old }
 {
-    let pool = sound_pools::record_pool_holds(t, w);
-    if !pool {
-        return false;
-    }
-    sound_trackers::trackers_hold(t, w)
+    sound_pools::record_pool_holds(t, w) && sound_trackers::trackers_hold(t, w)
 }
 
 // `w` is a work area as long as the tables, all zero. Each group is tested only where those before it hold; the trackers come last, for in
 // tables that are not sound their test may end late.
+#[tactic(auto, using(crate::specs::Rules::sized_words), unfolding(crate::specs::Test::is_sound))]
 pub fn is_sound(t: &[u64], w: &mut [u64]) -> bool
     requires w_len { length w.old ≡ length t.now }
     requires w_value { w.old ≡ replicate (length w.old) 0 }
     ensures value { result ≡ is_sound t.now }
     ensures w_unchanged { w.new ≡ w.old }
 {
-    let sized = sizes::is_sized(t);
-    if !sized {
-        return false;
-    }
-    let outside = sound_outside::outside_holds(t, w);
-    if !outside {
-        return false;
-    }
-    let queue = sound_queue::queue_holds(t);
-    if !queue {
-        return false;
-    }
-    tracked_holds(t, w)
+    sizes::is_sized(t)
+        && sound_outside::outside_holds(t, w)
+        && sound_queue::queue_holds(t)
+        && tracked_holds(t, w)
 }

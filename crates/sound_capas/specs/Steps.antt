@@ -1,8 +1,6 @@
 -- The steps of the functions: what the values that they read make of their definitions.
-use Rattle.std.specs.Prelude.{◌≡◌, refl, ℕ, ◌+◌, ◌-◌, ◌*◌, ◌≤◌, Bool, List, length, take, drop, replicate}
-use Rattle.std.proofs.Common.{ap, ◌∙◌, arith}
-use borrow.Rule.Slice.PartMut.{put_mid, put_same}
-use Rattle.base.specs.Lists.{length-first}
+use Rattle.std.specs.Prelude.{◌≡◌, refl, ℕ, ◌+◌, ◌-◌, ◌*◌, ◌≤◌, Bool, List, length, take, replicate}
+use Rattle.std.proofs.Common.{ap, ◌∙◌, arith, length-take}
 use Rattle.words.specs.Cuts.{offset}
 use Rattle.words.specs.Zeros.{take-zeros}
 use Rattle.tables.specs.Tables.{Tables}
@@ -21,17 +19,11 @@ sizes-seen t = refl
 
 -- ---- the marks are a part of the work area
 
-pub lent-clear : (w : List ℕ) (m : ℕ) → w ≡ replicate (length w) 0 → m ≤ length w → take (m - 0) (drop 0 w) ≡ replicate (length (take (m - 0) (drop 0 w))) 0
+pub lent-clear : (w : List ℕ) (m : ℕ) → w ≡ replicate (length w) 0 → m ≤ length w → take m w ≡ replicate (length (take m w)) 0
 lent-clear w m e h =
-    let n = length w in
-    let s : n ≡ m - 0 + (n - m) = omega arith in
-    let l : m - 0 ≡ length (take (m - 0) (drop 0 w)) = omega (arith, length-first w m h) in
-    ap (λ (l : List ℕ). take (m - 0) l) (e ∙ ap (λ k. replicate k 0) s)
-    ∙ take-zeros (m - 0) (n - m)
-    ∙ ap (λ k. replicate k 0) l
-
-pub lent_same : (w p : List ℕ) (m : ℕ) → p ≡ take (m - 0) (drop 0 w) → put_mid 0 (m - 0) w p ≡ w
-lent_same w p m e = ap (put_mid 0 (m - 0) w) e ∙ put_same 0 (m - 0) w
+    let s : length w ≡ m + (length w - m) = omega arith in
+    let l : m ≡ length (take m w) = simp length-take (omega arith) in
+    ap (take m) (e ∙ ap (λ k. replicate k 0) s) ∙ take-zeros m (length w - m) ∙ ap (λ k. replicate k 0) l
 
 pub marks-fit : (t : List ℕ) → Sized t → (sizes_of t).regions + (sizes_of t).domains ≤ length t
 unfolding total offset

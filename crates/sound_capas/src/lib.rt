@@ -9,6 +9,7 @@ ghost use Rattle.claims.specs.Claims.{claims_hold};
 ghost use Rattle.sound_capas.specs.Capas.{capa_claim, capas_hold};
 
 use pools::Pool;
+use tables::RegionCapa;
 
 pub mod walk;
 
@@ -22,13 +23,13 @@ fn claims_hold(t: &[u64], m: &mut [u64], want: usize) -> bool
     let z = sizes::read_sizes(t);
     let rl = sections::links_of(t, Pool::Regions);
     let rg = sections::generations_of(t, Pool::Regions);
-    let r = sections::regions_of(t);
+    let r = sections::rows_of::<RegionCapa>(t);
     let dl = sections::links_of(t, Pool::Domains);
     let dg = sections::generations_of(t, Pool::Domains);
     let p = managers::domains_of(t);
     let seen = walk::walk(m, want, t, z, rl, rg, r, dl, dg, p);
-    words::clear(m);
-    words::both(seen.fits, seen.left == 0)
+    m.fill(0);
+    seen.fits && seen.left == 0
 }
 
 pub fn capas_hold(t: &[u64], w: &mut [u64]) -> bool
@@ -40,7 +41,8 @@ pub fn capas_hold(t: &[u64], w: &mut [u64]) -> bool
 {
     let z = sizes::read_sizes(t);
     let m = z.regions + z.domains;
-    let used = claims::less(m, pools::region_capacity(t));
-    let want = claims::less(used, pools::domain_capacity(t));
-    claims_hold(t, &mut w[0..m], want)
+    let want = m
+        .saturating_sub(pools::capacity(t, Pool::Regions))
+        .saturating_sub(pools::capacity(t, Pool::Domains));
+    claims_hold(t, &mut w[..m], want)
 }

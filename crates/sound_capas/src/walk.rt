@@ -9,6 +9,7 @@ ghost use Rattle.sound_capas.specs.Capas.{row_claim};
 
 use claims::Tally;
 use sizes::Sizes;
+use tables::Slot;
 
 // The slots of domain d.
 fn list_walk(
@@ -28,11 +29,9 @@ fn list_walk(
     ensures { marking m.new result ≡ walked (list_claim (lent z rl.now rg.now r.now dl.now dg.now p.now) d (slot_in s.now)) z.slots 0 (marking m.old y) }
 {
     let mut seen = y;
-    let mut j = 0;
-    while j < z.slots {
-        let c = capa_claims::slot_claim(z, rl, rg, r, dl, dg, p, d, sections::slot_in(s, j));
+    for j in 0..z.slots {
+        let c = capa_claims::slot_claim(z, rl, rg, r, dl, dg, p, d, sections::row_in::<Slot>(s, j));
         seen = claims::take(m, seen, c);
-        j += 1;
     }
     seen
 }
@@ -86,10 +85,8 @@ pub fn walk(
         fits: true,
         left: want,
     };
-    let mut d = 0;
-    while d < z.domains {
+    for d in 0..z.domains {
         seen = domain_walk(m, seen, t, z, rl, rg, r, dl, dg, p, d);
-        d += 1;
     }
     seen
 }

@@ -13,28 +13,22 @@ use tables::RegionHash;
 fn hash_clear(h: RegionHash) -> bool
     ensures { result ≡ hash_clear h }
 {
-    let first = words::both(h.word0 == 0, h.word1 == 0);
-    let rest = words::both(h.word2 == 0, h.word3 == 0);
-    words::both(h.given == 0, words::both(first, rest))
+    h == RegionHash::default()
 }
 
+#[tactic(auto, unfolding(crate::specs::Hashes::hash_fits))]
 fn hash_fits(free: bool, h: RegionHash) -> bool
     ensures { result ≡ hash_fits free h }
 {
-    if free {
-        return hash_clear(h);
-    }
-    if h.given == 1 {
-        return true;
-    }
-    hash_clear(h)
+    !free && h.given == 1 || hash_clear(h)
 }
 
+#[tactic(auto, unfolding(crate::specs::Hashes::row_holds))]
 fn row_holds(links: &[u64], p: &[u64], i: usize) -> bool
     ensures { result ≡ row_holds links.now (hash_in p.now) i }
 {
     let free = 0 < words::word(links, i);
-    hash_fits(free, sections::hash_in(p, i))
+    hash_fits(free, sections::row_in::<RegionHash>(p, i))
 }
 
 // Whether each region in use has a hash or none, and each free slot none.
@@ -44,14 +38,6 @@ pub fn hashes_hold(t: &[u64]) -> bool
 {
     let n = words::size(t, sizes::REGIONS);
     let links = sections::links_of(t, Pool::Regions);
-    let p = sections::hashes_of(t);
-    let mut i = 0;
-    while i < n {
-        let holds = row_holds(links, p, i);
-        if !holds {
-            return false;
-        }
-        i += 1;
-    }
-    true
+    let p = sections::rows_of::<RegionHash>(t);
+    (0..n).all(|i| row_holds(links, p, i))
 }

@@ -10,20 +10,23 @@ ghost use Rattle.sound_interfaces.specs.Interfaces.{interface_fits, row_holds, i
 use pools::Pool;
 use tables::Interface;
 
+#[tactic(auto, unfolding(crate::specs::Interfaces::interface_fits))]
 fn interface_fits(free: bool, x: Interface) -> bool
     ensures { result ≡ interface_fits free x }
 {
     if free {
-        return words::both(x.word == 0, x.frozen == 0);
+        x.word == 0 && x.frozen == 0
+    } else {
+        x.frozen <= 1
     }
-    x.frozen <= 1
 }
 
+#[tactic(auto, unfolding(crate::specs::Interfaces::row_holds))]
 fn row_holds(links: &[u64], p: &[u64], i: usize) -> bool
     ensures { result ≡ row_holds links.now (interface_in p.now) i }
 {
     let free = 0 < words::word(links, i);
-    interface_fits(free, sections::interface_in(p, i))
+    interface_fits(free, sections::row_in::<Interface>(p, i))
 }
 
 // Whether each domain in use has a word that is frozen or not, and each free slot two zeros.
@@ -33,14 +36,6 @@ pub fn interfaces_hold(t: &[u64]) -> bool
 {
     let n = words::size(t, sizes::DOMAINS);
     let links = sections::links_of(t, Pool::Domains);
-    let p = sections::interfaces_of(t);
-    let mut i = 0;
-    while i < n {
-        let holds = row_holds(links, p, i);
-        if !holds {
-            return false;
-        }
-        i += 1;
-    }
-    true
+    let p = sections::rows_of::<Interface>(t);
+    (0..n).all(|i| row_holds(links, p, i))
 }

@@ -1,10 +1,10 @@
 -- What the walks leave: the answer, and marks for what was met; and what stays true turn by turn.
 use Rattle.std.specs.Prelude.{◌≡◌, refl, ℕ, zero, suc, ◌+◌, ◌-◌, ◌/◌, ◌≤◌, ◌<◌, Bool, true, false, not, List, ◌∷◌, eqb, ltb, length, get_or, replicate}
-use Rattle.std.proofs.Common.{sym, ap, subst, ◌∙◌, arith, ltb-true, lt-ltb}
+use Rattle.std.proofs.Common.{sym, ap, subst, ◌∙◌, arith, ltb-true}
 use Rattle.std.proofs.Math.Option.{Option, none, some}
 use Rattle.base.specs.Cases.{pick}
 use Rattle.base.specs.Options.{none-some, some_same}
-use Rattle.base.specs.Tests.{both, both_true, both-i, true-false}
+use Rattle.base.specs.Tests.{both, both_true}
 use Rattle.marks.specs.Marks.{marked, with_mark, words_for}
 use Rattle.marks.specs.Laws.{mark-past}
 use Rattle.tables.specs.Tables.{Tables}
@@ -92,30 +92,22 @@ may-inside v s i h = ltb-true i (slots_of v s) (both_true (ltb i (slots_of v s))
 
 -- ---- the code's turn
 
--- the test of the loop
-pub more-to-follow : (f k l : ℕ) (b : Bool) → b ≡ both (ltb f k) (ltb 0 l) → b ≡ true → (f < k) × (0 < l)
-more-to-follow f k l b e t = let h = both_true (ltb f k) (ltb 0 l) (sym e ∙ t) in (ltb-true f k h.0, ltb-true 0 l h.1)
-
-no_more : (f k l : ℕ) (b : Bool) → b ≡ both (ltb f k) (ltb 0 l) → b ≡ false → 0 < k - f → 0 < l → ⊥
-no_more f k l b e t hk hl = true-false (e ∙ both-i (ltb f k) (ltb 0 l) (lt-ltb f k (omega arith)) (lt-ltb 0 l hl)) t
-
-module _ (v : Tables) (s : Stack) (e k l₀ : ℕ) (w₀ : List ℕ) (f l : ℕ) (w : List ℕ) (g : Going v s e k l₀ w₀ f l w) (b : Bool) (eb : b ≡ both (ltb f k) (ltb 0 l)) where
+module _ (v : Tables) (s : Stack) (e k l₀ : ℕ) (w₀ : List ℕ) (f l : ℕ) (w : List ℕ) (g : Going v s e k l₀ w₀ f l w) where
   abbrev ok : ℕ → Bool
   ok = may_meet v s
 
-  module _ (tb : b ≡ true) (x : Step) (old new : Bool) (ex : x ≡ step_of v s (l - 1)) (eo : old ≡ marked w (l - 1)) (en : new ≡ both x.may (not old)) where
-    new_is : (us : List ℕ) → Marks ok w us → new ≡ fresh ok (l - 1) us
-    new_is us m = en ∙ ap (λ (y : Step). both y.may (not old)) ex ∙ ap (λ y. both (ok (l - 1)) (not y)) eo ∙ sym (fresh-is ok w us (l - 1) m)
+  module _ (hf : f < k) (hl : 0 < l) (x : Step) (old : Bool) (ex : x ≡ step_of v s (l - 1)) (eo : old ≡ marked w (l - 1)) where
+    new_is : (us : List ℕ) → Marks ok w us → both x.may (not old) ≡ fresh ok (l - 1) us
+    new_is us m = ap (λ (y : Step). both y.may (not old)) ex ∙ ap (λ y. both (ok (l - 1)) (not y)) eo ∙ sym (fresh-is ok w us (l - 1) m)
 
     -- the walk of the definition is at this link
     at-link : (us : List ℕ) → met_in v s e (k - f) l us ≡ met_in v s e (suc (k - (f + 1))) (suc (l - 1)) us
     at-link us =
-        let z = more-to-follow f k l b eb tb in
         let zk : k - f ≡ suc (k - (f + 1)) = omega arith in
         let zl : l ≡ suc (l - 1) = omega arith in
         ap (λ y. met_in v s e y l us) zk ∙ ap (λ y. met_in v s e (suc (k - (f + 1))) y us) zl
 
-    go-rest : new ≡ true → (l - 1) / 64 < length w → (o : Option (List ℕ)) (m : ℕ) → Rest ok o (met_in v s e (k - f) l) (m + f) w → Rest ok o (met_in v s e (k - (f + 1)) (next_of v s (l - 1))) (m + (f + 1)) (with_mark w (l - 1))
+    go-rest : both x.may (not old) ≡ true → (l - 1) / 64 < length w → (o : Option (List ℕ)) (m : ℕ) → Rest ok o (met_in v s e (k - f) l) (m + f) w → Rest ok o (met_in v s e (k - (f + 1)) (next_of v s (l - 1))) (m + (f + 1)) (with_mark w (l - 1))
     go-rest h i o m r =
         let n : fresh ok (l - 1) r.us ≡ true = sym (new_is r.us r.marks) ∙ h in
         record {
@@ -125,28 +117,31 @@ module _ (v : Tables) (s : Stack) (e k l₀ : ℕ) (w₀ : List ℕ) (f l : ℕ)
           many = omega (arith, r.many);
         }
 
-    pub follow-go : new ≡ true → slots_of v s ≤ length w → (w' : List ℕ) → w' ≡ with_mark w (l - 1) → Going v s e k l₀ w₀ (f + 1) x.next w'
-    follow-go h q w' ew = subst (Going v s e k l₀ w₀ (f + 1) x.next) (sym ew) (subst (λ (y : Step). Going v s e k l₀ w₀ (f + 1) y.next (with_mark w (l - 1))) (sym ex) here)
+    pub follow-go : x.may ≡ true → old ≡ false → slots_of v s ≤ length w → (w' : List ℕ) → w' ≡ with_mark w (l - 1) → Going v s e k l₀ w₀ (f + 1) x.next w'
+    follow-go hx ho q w' ew = subst (Going v s e k l₀ w₀ (f + 1) x.next) (sym ew) (subst (λ (y : Step). Going v s e k l₀ w₀ (f + 1) y.next (with_mark w (l - 1))) (sym ex) here)
       where
+        new : both x.may (not old) ≡ true
+        new = rw (hx, ho) refl
+
         inside : l - 1 < slots_of v s
-        inside = may-inside v s (l - 1) (ap (λ (y : Step). y.may) (sym ex) ∙ (both_true x.may (not old) (sym en ∙ h)).0)
+        inside = may-inside v s (l - 1) (ap (λ (y : Step). y.may) (sym ex) ∙ hx)
 
         here : Going v s e k l₀ w₀ (f + 1) (next_of v s (l - 1)) (with_mark w (l - 1))
         here = record {
           beyond = λ j u. mark-past w (l - 1) (slots_of v s) j inside u ∙ g.beyond j u;
-          goes = λ vs m. go-rest h (omega (arith, inside)) (met_in v s e k l₀ vs) (length vs) (g.goes vs m);
+          goes = λ vs m. go-rest new (omega (arith, inside)) (met_in v s e k l₀ vs) (length vs) (g.goes vs m);
         }
 
-    stop-gone : new ≡ false → (o : Option (List ℕ)) (m : ℕ) → Rest ok o (met_in v s e (k - f) l) (m + f) w → Gone ok o m (record { ended = false; links = f }) w
+    stop-gone : both x.may (not old) ≡ false → (o : Option (List ℕ)) (m : ℕ) → Rest ok o (met_in v s e (k - f) l) (m + f) w → Gone ok o m (record { ended = false; links = f }) w
     stop-gone h o m r =
         none-gone ok o m f w
         (sym r.rest ∙ at-link r.us ∙ met-stop (next_of v s) ok e (k - (f + 1)) (l - 1) r.us (sym (new_is r.us r.marks) ∙ h))
 
-    pub follow-stop : new ≡ false → Marked v s e k l₀ w₀ (record { ended = false; links = f }) w
+    pub follow-stop : both x.may (not old) ≡ false → Marked v s e k l₀ w₀ (record { ended = false; links = f }) w
     follow-stop h = record { beyond = g.beyond; goes = λ vs m. stop-gone h (met_in v s e k l₀ vs) (length vs) (g.goes vs m) }
 
-  end-gone : b ≡ false → (o : Option (List ℕ)) (m : ℕ) → Rest ok o (met_in v s e (k - f) l) (m + f) w → Gone ok o m (record { ended = eqb l e; links = f }) w
-  end-gone h o m r = ended-gone ok o r.us m f e l w (eqb l e) refl r.marks r.many (sym (met-end (next_of v s) ok e (k - f) l r.us (no_more f k l b eb h)) ∙ r.rest)
+  end-gone : (0 < k - f → 0 < l → ⊥) → (o : Option (List ℕ)) (m : ℕ) → Rest ok o (met_in v s e (k - f) l) (m + f) w → Gone ok o m (record { ended = eqb l e; links = f }) w
+  end-gone h o m r = ended-gone ok o r.us m f e l w (eqb l e) refl r.marks r.many (sym (met-end (next_of v s) ok e (k - f) l r.us h) ∙ r.rest)
 
-  pub follow-end : b ≡ false → Marked v s e k l₀ w₀ (record { ended = eqb l e; links = f }) w
+  pub follow-end : (0 < k - f → 0 < l → ⊥) → Marked v s e k l₀ w₀ (record { ended = eqb l e; links = f }) w
   follow-end h = record { beyond = g.beyond; goes = λ vs m. end-gone h (met_in v s e k l₀ vs) (length vs) (g.goes vs m) }

@@ -7,8 +7,10 @@ ghost use Rattle.sound_lists.specs.Marks.{Clean};
 ghost use Rattle.sound_lists.specs.Loops.{Marked, Settled};
 
 use list_links::Stack;
+use tables::Region;
 
-// How many links were followed, and whether the walk ended where it should and met what it may, nothing twice.
+// How many links were followed, and whether the walk ended where it should and met what it may, nothing twice. No `Option`: `links` counts what was met
+// where it did not end, too.
 #[derive(Clone, Copy)]
 pub struct Followed {
     pub ended: bool,
@@ -23,26 +25,29 @@ pub fn follow(t: &[u64], s: Stack, e: u64, most: usize, l: u64, w: &mut [u64]) -
 {
     let n = list_links::slots_of(t, s);
     let p = list_links::words_of(t, s);
-    let records = sections::records_of(t);
-    let mut followed = 0;
-    let mut l = l;
-    while words::both(followed < most, 0 < l) {
-        let i = (l - 1) as usize;
+    let records = sections::rows_of::<Region>(t);
+    let mut link = l;
+    for links in 0..most {
+        if link == 0 {
+            return Followed {
+                ended: link == e,
+                links,
+            };
+        }
+        let i = (link - 1) as usize;
         let x = list_links::step_at(s, p, records, n, i);
-        let new = words::both(x.may, !marks::is_marked(w, i));
-        if !new {
+        if !x.may || marks::is_marked(w, i) {
             return Followed {
                 ended: false,
-                links: followed,
+                links,
             };
         }
         marks::mark(w, i);
-        l = x.next;
-        followed += 1;
+        link = x.next;
     }
     Followed {
-        ended: l == e,
-        links: followed,
+        ended: link == e,
+        links: most,
     }
 }
 
@@ -53,15 +58,10 @@ fn count(t: &[u64], s: Stack) -> usize
 {
     let n = list_links::slots_of(t, s);
     let p = list_links::words_of(t, s);
-    let records = sections::records_of(t);
-    let mut k = 0;
-    let mut i = 0;
-    while i < n {
-        let x = list_links::step_at(s, p, records, n, i);
-        k += list_links::one_if(x.may);
-        i += 1;
-    }
-    k
+    let records = sections::rows_of::<Region>(t);
+    (0..n)
+        .filter(|&i| list_links::step_at(s, p, records, n, i).may)
+        .count()
 }
 
 // Whether all that may be met was met: as many links were followed, none to a slot twice. The marks are cleared.
@@ -73,7 +73,7 @@ pub fn settle(t: &[u64], s: Stack, x: Followed, w: &mut [u64]) -> bool
     let all = count(t, s);
     let n = list_links::slots_of(t, s);
     marks::clear(w, n);
-    words::both(x.ended, x.links == all)
+    x.ended && x.links == all
 }
 
 // Whether every slot is in use, or on the free stack once.
@@ -86,9 +86,9 @@ pub fn stack_holds(t: &[u64], s: Stack, w: &mut [u64]) -> bool
     let n = list_links::slots_of(t, s);
     let top = list_links::top_of(t, s);
     let used = top.count as usize;
-    if used <= n {
-        let x = follow(t, s, 1, n - used, list_links::link_to(n, top.head), w);
-        return settle(t, s, x, w);
+    if used > n {
+        return false;
     }
-    false
+    let x = follow(t, s, 1, n - used, list_links::link_to(n, top.head), w);
+    settle(t, s, x, w)
 }

@@ -14,21 +14,9 @@ pub fn outside_holds(t: &[u64], w: &mut [u64]) -> bool
     ensures value { result ≡ outside_holds (view t.now) }
     ensures w_unchanged { w.new ≡ w.old }
 {
-    let pools = sound_pools::outside_pools_hold(t, w);
-    if !pools {
-        return false;
-    }
-    let tree = sound_tree::tree_holds(t, w);
-    if !tree {
-        return false;
-    }
-    let hashes = sound_hashes::hashes_hold(t);
-    if !hashes {
-        return false;
-    }
-    let interfaces = sound_interfaces::interfaces_hold(t);
-    if !interfaces {
-        return false;
-    }
-    sound_capas::capas_hold(t, w)
+    sound_pools::outside_pools_hold(t, w)
+        && sound_tree::tree_holds(t, w)
+        && sound_hashes::hashes_hold(t)
+        && sound_interfaces::interfaces_hold(t)
+        && sound_capas::capas_hold(t, w)
 }

@@ -13,6 +13,7 @@ use sound_lists::walks;
 pub mod trackers;
 
 // The pools of domains and of regions, with their rows and the slot lists. `w` is a work area as long as the tables, and all zero.
+#[tactic(auto, unfolding(crate::specs::Hold::pool_holds))]
 pub fn outside_pools_hold(t: &[u64], w: &mut [u64]) -> bool
     requires sized { Sized t.now }
     requires w_len { length w.old ≡ length t.now }
@@ -20,15 +21,14 @@ pub fn outside_pools_hold(t: &[u64], w: &mut [u64]) -> bool
     ensures value { result ≡ outside_pools_hold (view t.now) }
     ensures w_unchanged { w.new ≡ w.old }
 {
-    let stack = walks::stack_holds(t, Stack::Domains, w);
-    let rows = sound_rows::domains_hold(t, w);
-    let domains = words::both(stack, rows);
-    let stack = walks::stack_holds(t, Stack::Regions, w);
-    let rows = sound_rows::regions_hold(t);
-    words::both(domains, words::both(stack, rows))
+    walks::stack_holds(t, Stack::Domains, w)
+        && sound_rows::domains_hold(t, w)
+        && walks::stack_holds(t, Stack::Regions, w)
+        && sound_rows::regions_hold(t)
 }
 
 // The pool of tracker records, with its rows, and the records in use along the trackers. `w` as above.
+#[tactic(auto, unfolding(crate::specs::Hold::pool_holds))]
 pub fn record_pool_holds(t: &[u64], w: &mut [u64]) -> bool
     requires sized { Sized t.now }
     requires w_len { length w.old ≡ length t.now }
@@ -36,8 +36,7 @@ pub fn record_pool_holds(t: &[u64], w: &mut [u64]) -> bool
     ensures value { result ≡ record_pool_holds (view t.now) }
     ensures w_unchanged { w.new ≡ w.old }
 {
-    let stack = walks::stack_holds(t, Stack::Records, w);
-    let rows = sound_rows::records_hold(t);
-    let trackers = trackers::trackers_hold(t, w);
-    words::both(words::both(stack, rows), trackers)
+    walks::stack_holds(t, Stack::Records, w)
+        && sound_rows::records_hold(t)
+        && trackers::trackers_hold(t, w)
 }

@@ -8,6 +8,7 @@ ghost use Rattle.sound_pools.specs.Trackers.{TrackersMarked};
 use list_links::Stack;
 use sound_lists::walks;
 use sound_lists::walks::Followed;
+use tables::DomainHead;
 
 // Marks the records of all trackers.
 fn follow_trackers(t: &[u64], w: &mut [u64]) -> Followed
@@ -17,26 +18,21 @@ fn follow_trackers(t: &[u64], w: &mut [u64]) -> Followed
 {
     let n = words::size(t, sizes::DOMAINS);
     let records = words::size(t, sizes::RECORDS);
-    let mut followed = 0;
-    let mut d = 0;
-    while d < n {
+    let mut links = 0;
+    for d in 0..n {
         if !list_links::may_meet(t, Stack::Domains, d) {
-            let first = domain_rows::load_head(t, d).tracker;
+            let first = rows::load::<DomainHead>(t, d).tracker;
             let x = walks::follow(t, Stack::Trackers, 0, records, first, w);
             if !x.ended {
                 return Followed {
                     ended: false,
-                    links: followed,
+                    links,
                 };
             }
-            followed += x.links;
+            links += x.links;
         }
-        d += 1;
     }
-    Followed {
-        ended: true,
-        links: followed,
-    }
+    Followed { ended: true, links }
 }
 
 // Whether each record in use is on one tracker, once.

@@ -9,23 +9,25 @@ ghost use Rattle.sound_queue.specs.Ring.{numbered, mark_numbered, numbers_hold, 
 use tables::Update;
 
 // Update number j of n places.
+#[tactic(auto, unfolding(crate::specs::Ring::numbered))]
 fn update_numbered(t: &[u64], n: usize, read: usize, j: usize) -> Update
     requires sized { Sized t.now }
     requires n_nonzero { 0 < n }
     requires j_bound { read + j ≤ 65536 }
     ensures { result ≡ numbered (view t.now) n read j }
 {
-    ring_rows::load_update(t, (read + j) % n)
+    rows::load::<Update>(t, (read + j) % n)
 }
 
 // The marks beside it.
+#[tactic(auto, unfolding(crate::specs::Ring::mark_numbered))]
 fn marks_numbered(t: &[u64], n: usize, read: usize, j: usize) -> u64
     requires sized { Sized t.now }
     requires n_nonzero { 0 < n }
     requires j_bound { read + j ≤ 65536 }
     ensures { result ≡ mark_numbered (view t.now) n read j }
 {
-    ring_rows::load_mark(t, (read + j) % n)
+    rows::load_mark(t, (read + j) % n)
 }
 
 // Whether the first m updates hold, and the other places are clear.
@@ -34,18 +36,11 @@ fn numbers_hold(t: &[u64], n: usize, read: usize, m: usize) -> bool
     requires n_bound { read + n ≤ 65536 }
     ensures { result ≡ numbers_hold (view t.now) n read m }
 {
-    let mut j = 0;
-    while j < n {
+    (0..n).all(|j| {
         let u = update_numbered(t, n, read, j);
         let marks = marks_numbered(t, n, read, j);
-        let fits = sound_updates::update_fits(t, u, j < m);
-        let marked = sound_updates::marks_fit(u, marks);
-        if !words::both(fits, marked) {
-            return false;
-        }
-        j += 1;
-    }
-    true
+        sound_updates::update_fits(t, u, j < m) && sound_updates::marks_fit(u, marks)
+    })
 }
 
 // Whether no update from number `from` up to number m is of the same domain as u.
@@ -55,16 +50,7 @@ fn none_same(t: &[u64], n: usize, read: usize, m: usize, u: Update, from: usize)
     requires m_bound { read + m ≤ 65536 }
     ensures { result ≡ none_same (view t.now) n read m u from }
 {
-    let mut i = from;
-    while i < m {
-        let x = update_numbered(t, n, read, i);
-        let same = sound_updates::is_same(u, x);
-        if same {
-            return false;
-        }
-        i += 1;
-    }
-    true
+    (from..m).all(|i| !sound_updates::is_same(u, update_numbered(t, n, read, i)))
 }
 
 // Whether no domain of the first m updates is queued again further on.
@@ -74,33 +60,22 @@ fn is_singly(t: &[u64], n: usize, read: usize, m: usize) -> bool
     requires m_bound { read + m ≤ 65536 }
     ensures { result ≡ singly (view t.now) n read m }
 {
-    let mut j = 0;
-    while j < m {
+    (0..m).all(|j| {
         let u = update_numbered(t, n, read, j);
-        let once = none_same(t, n, read, m, u, j + 1);
-        if !once {
-            return false;
-        }
-        j += 1;
-    }
-    true
+        none_same(t, n, read, m, u, j + 1)
+    })
 }
 
 pub fn queue_holds(t: &[u64]) -> bool
     requires { Sized t.now }
     ensures { result ≡ queue_holds (view t.now) }
 {
-    let n = words::size(t, 4) + 1;
-    let read = ring_rows::read_place(t) as usize;
-    let write = ring_rows::write_place(t) as usize;
-    let inside = words::both(read < n, write < n);
-    if !inside {
+    let n = words::size(t, sizes::UPDATES) + 1;
+    let read = rows::read_place(t) as usize;
+    let write = rows::write_place(t) as usize;
+    if n <= read || n <= write {
         return false;
     }
     let m = (write + n - read) % n;
-    let hold = numbers_hold(t, n, read, m);
-    if !hold {
-        return false;
-    }
-    is_singly(t, n, read, m)
+    numbers_hold(t, n, read, m) && is_singly(t, n, read, m)
 }

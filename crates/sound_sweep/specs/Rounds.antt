@@ -12,7 +12,6 @@ use Rattle.sweep_cursors.specs.declared.Cursor.{Cursor}
 use Rattle.sweep_cursors.specs.Sums.{counts_of, counts_from, Low}
 use Rattle.sweep_cursors.specs.Cursors.{cursor_in, At}
 use Rattle.sweep_neighbours.specs.Follows.{record_from}
-use Rattle.sound_sweep.specs.declared.Both.{Both}
 use Rattle.sound_sweep.specs.Cursors.{rounds, Left}
 
 -- how many events are ahead

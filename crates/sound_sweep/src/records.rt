@@ -12,22 +12,20 @@ use sweep_cursors::{Cursor, counts, events};
 use tables::Region;
 
 // At each event inside q the sums still differ by its counts.
-fn inside(s: &[u64], e: &[u64], q: Region, p: Cursor, m: Cursor) -> Both
+fn inside(s: &[u64], e: &[u64], q: Region, mut p: Cursor, mut m: Cursor) -> Both
     requires low { Low p.place p.sums }
     requires low_2 { Low m.place m.sums }
     ensures { Left s.now e.now (inside (rounds s.now e.now) (record_from 0 q) (cursor_in s.now p) (cursor_in e.now m)) result }
 {
-    let mut p = p;
-    let mut m = m;
     let mut ok = counts::agrees(p.sums, m.sums, q);
     let mut at = events::next(e, m.place, events::next(s, p.place, q.end));
-    while words::both(ok, at < q.end) {
+    while ok && at < q.end {
         p = events::upto(s, at, p);
         m = events::upto(e, at, m);
         ok = counts::agrees(p.sums, m.sums, q);
         at = events::next(e, m.place, events::next(s, p.place, q.end));
     }
-    Both { p: p, m: m, ok: ok }
+    Both { p, m, ok }
 }
 
 // Record q behind b: both cursors go to its start and through it, whether or not it may stand there, so that what they leave is one equation.
@@ -45,12 +43,9 @@ pub fn holds(s: &[u64], e: &[u64], b: Region, q: Region, p: Cursor, m: Cursor) -
         events::upto(s, q.start, p),
         events::upto(e, q.start, ended),
     );
-    let p = r.p;
-    let m = r.m;
     Both {
-        p: p,
-        m: m,
-        ok: words::both(may, r.ok),
+        ok: may && r.ok,
+        ..r
     }
 }
 
@@ -59,8 +54,6 @@ pub fn ends(s: &[u64], e: &[u64], b: Region, p: Cursor, m: Cursor) -> bool
     requires { Low m.place m.sums }
     ensures { result ≡ ending (record_from 0 b) (cursor_in s.now p) (cursor_in e.now m) }
 {
-    let started = p.sums;
     let last = events::upto(e, b.end, m);
-    let ended = last.sums;
-    words::both(s.len() / 2 <= p.place, started.ref_count == ended.ref_count)
+    s.len() / 2 <= p.place && p.sums.ref_count == last.sums.ref_count
 }

@@ -14,33 +14,33 @@ ghost use Rattle.sound_trackers.specs.Trackers.{trackers_hold};
 ghost use Rattle.sound_trackers.specs.Swept.{swept};
 
 use pools::Pool;
+use sizes::Sizes;
+use tables::{DomainHead, Region, RegionCapa};
 
 // The domain whose slots are s and whose tracker starts at link `first`. `w` is a work area, all zero.
 fn domain_holds(
+    z: Sizes,
     s: &[u64],
-    slots: usize,
     links: &[u64],
     gens: &[u64],
     r: &[u64],
-    regions: usize,
     q: &[u64],
-    records: usize,
     first: u64,
     w: &mut [u64],
 ) -> bool
     requires { w.old ≡ replicate (length w.old) 0 }
-    ensures value { result ≡ swept (chained (record_in q.now) records first) (take (space w.old) (slots_pieces (pool links.now gens.now) (region_in r.now) regions (slot_in s.now) slots 0)) }
+    ensures value { result ≡ swept (chained (record_in q.now) z.records first) (take (space w.old) (slots_pieces (pool links.now gens.now) (region_in r.now) z.regions (slot_in s.now) z.slots 0)) }
     ensures w_unchanged { w.new ≡ w.old }
 {
-    let count = sound_pieces::gather(s, slots, links, gens, r, regions, w);
+    let count = sound_pieces::gather(s, z.slots, links, gens, r, z.regions, w);
     let k = 2 * count;
     let h = 2 * (w.len() / 4);
     let e = h + k;
     sound_events::sort(&mut w[0..k]);
     sound_events::sort(&mut w[h..e]);
-    let holds = sound_sweep::sweep(q, records, first, &w[0..k], &w[h..e]);
-    words::clear(&mut w[0..k]);
-    words::clear(&mut w[h..e]);
+    let holds = sound_sweep::sweep(q, z.records, first, &w[0..k], &w[h..e]);
+    w[0..k].fill(0);
+    w[h..e].fill(0);
     holds
 }
 
@@ -56,20 +56,16 @@ pub fn trackers_hold(t: &[u64], w: &mut [u64]) -> bool
     let used = sections::links_of(t, Pool::Domains);
     let links = sections::links_of(t, Pool::Regions);
     let gens = sections::generations_of(t, Pool::Regions);
-    let r = sections::regions_of(t);
-    let q = sections::records_of(t);
-    let mut d = 0;
-    while d < z.domains {
+    let r = sections::rows_of::<RegionCapa>(t);
+    let q = sections::rows_of::<Region>(t);
+    for d in 0..z.domains {
         if words::word(used, d) == 0 {
             let s = sections::slots_of(t, d);
-            let x = domain_rows::load_head(t, d);
-            if !domain_holds(
-                s, z.slots, links, gens, r, z.regions, q, z.records, x.tracker, w,
-            ) {
+            let x = rows::load::<DomainHead>(t, d);
+            if !domain_holds(z, s, links, gens, r, q, x.tracker, w) {
                 return false;
             }
         }
-        d += 1;
     }
     true
 }

@@ -1,7 +1,7 @@
 -- The test of the region tree, in the shape in which the code computes it (document 01, **Sound**): "each live non-root is in exactly its parent's
 -- list, without circles, lists ordered; ranges nonempty and inside the parent's; carves overlap no sibling; READ to SUPER and UNCACHEABLE lie in
 -- the parent's".
-use Rattle.std.specs.Prelude.{Bool, true, false, List, ◌++◌, ℕ, zero, suc, ◌+◌, ◌-◌, eqb, leb, ltb, get_or, set, replicate, drop}
+use Rattle.std.specs.Prelude.{Option, Some, None, Bool, true, false, List, ℕ, zero, suc, ◌+◌, ◌-◌, eqb, leb, ltb, get_or, set, replicate}
 use Rattle.base.specs.Cases.{pick}
 use Rattle.base.specs.Tests.{both, all_from}
 use Rattle.rights.specs.Rights.{allowed}
@@ -14,6 +14,11 @@ use Rattle.sound_tree.specs.declared.Run.{Run}
 -- 1 where the test holds, else 0
 unfoldable pub one_if : Bool → ℕ
 one_if b = pick b 1 0
+
+-- one more than a number that is found, else 0
+abbrev pub more : Option ℕ → ℕ
+more None = 0
+more (Some n) = n + 1
 
 -- how many of n slots, from slot k on, pass the test
 abbrev pub tally_from : (ℕ → Bool) → ℕ → ℕ → ℕ
@@ -119,10 +124,6 @@ rooted_from row m w (suc n) k = pick (climb_from row w m k) (rooted_from row m (
 abbrev pub marks_from : (ℕ → RegionCapa) → ℕ → List ℕ → ℕ → ℕ → List ℕ
 marks_from row m w zero k = w
 marks_from row m w (suc n) k = pick (climb_from row w m k) (marks_from row m (mark_from row w m k) n (suc k)) w
-
--- the first n words 0
-unfoldable pub cleared : ℕ → List ℕ → List ℕ
-cleared n w = replicate n 0 ++ drop n w
 
 -- ---- the whole
 

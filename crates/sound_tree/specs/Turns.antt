@@ -1,5 +1,5 @@
 -- One turn of each loop over rows and lists: the rest of the definition from here is the rest from the next slot on.
-use Rattle.std.specs.Prelude.{◌≡◌, refl, Bool, true, false, List, eqb, ltb, get_or}
+use Rattle.std.specs.Prelude.{◌≡◌, Bool, true, false, List, ltb, get_or}
 use Rattle.std.proofs.Common.{sym, ◌∙◌, add-one, lt-ltb}
 use Prim.Native.Nat.{ℕ, zero, suc, ◌+◌, ◌-◌, ◌<◌, ◌≤◌}
 use native.Mathlib.Omega.{arith}
@@ -8,7 +8,7 @@ use Rattle.base.specs.Tests.{all_from}
 use Rattle.tables.specs.declared.RegionCapa.{RegionCapa}
 use Rattle.tables.specs.Kinds.{ROOT}
 use Rattle.sound_tree.specs.declared.Run.{Run}
-use Rattle.sound_tree.specs.Tree.{one_if, tally_from, region_fits, slot_fits, is_child, count_from, child_fits, after, walk_from, walked, lists_from}
+use Rattle.sound_tree.specs.Tree.{one_if, tally_from, region_fits, slot_fits, is_child, count_from, child_fits, after, no_run, walk_from, walked, lists_from}
 
 -- ---- the rows
 
@@ -40,9 +40,6 @@ module _ (links : List ℕ) (row : ℕ → RegionCapa) where
     pub count-stop : b ≡ false → 0 ≡ count_from links row many (n - i) i
     count-stop y = let k : n - i ≡ suc (n - suc i) = omega arith in rw (k, ← fit, y)
 
-  pub count-end : (n i many : ℕ) → n ≤ i → many + 1 ≡ count_from links row many (n - i) i
-  count-end n i many h = let k : n - i ≡ 0 = omega arith in rw k
-
   -- the rows tested, and the children counted
   pub count-is : (many n k : ℕ) → count_from links row many n k ≡ pick (all_from (slot_fits links row) k n) (many + tally_from (is_child row) n k + 1) 0
   unfolding all_from
@@ -62,19 +59,8 @@ module _ (row : ℕ → RegionCapa) (own : ℕ) where
   walk-go (suc n) zero s h k = absurd (omega arith)
   walk-go (suc n) (suc c) s h k = let e : suc n - 1 ≡ n = omega arith in let f : suc c - 1 ≡ c = omega arith in rw (e, f)
 
-  pub walk_turn : (n l : ℕ) (s u : Run) (r : RegionCapa) (b : Bool) → 0 < l → 0 < n → r ≡ row (l - 1) → b ≡ child_fits own s r → b ≡ true → u ≡ after s r → walk_from row own (n - 1) r.next u ≡ walk_from row own n l s
-  walk_turn n l s u r b h k e f y g = sym (walk-go n l s h k ∙ rw (← e, ← f, y, ← g))
-
   pub walk-stop : (n l : ℕ) (s : Run) (r : RegionCapa) (b : Bool) → 0 < l → 0 < n → r ≡ row (l - 1) → b ≡ child_fits own s r → b ≡ false → 0 ≡ walk_from row own n l s
   walk-stop n l s r b h k e f y = sym (walk-go n l s h k ∙ rw (← e, ← f, y))
-
-  pub walk-full : (l : ℕ) (s : Run) → 0 < l → 0 ≡ walk_from row own 0 l s
-  walk-full zero s h = absurd (omega arith)
-  walk-full (suc c) s h = refl
-
-  pub walk_end : (n : ℕ) (s : Run) → n + 1 ≡ walk_from row own n 0 s
-  walk_end zero s = refl
-  walk_end (suc n) s = omega arith
 
   -- no more are left behind a list than before it
   pub walk-few : (n l : ℕ) (s : Run) → walk_from row own n l s ≤ suc n
@@ -89,16 +75,17 @@ module _ (row : ℕ → RegionCapa) (own : ℕ) where
 
 -- ---- all child lists
 
-module _ (row : ℕ → RegionCapa) (n left i m : ℕ) (h : i < n) (e : m ≡ walked row left i) where
-  pub walked-few : m ≤ suc left
+module _ (row : ℕ → RegionCapa) (n left i : ℕ) (h : i < n) where
+  pub walked-few : (m : ℕ) → m + 1 ≡ walked row left i → m ≤ left
   unfolding walked
-  walked-few = rw e (walk-few row (i + 1) left (row i).child _)
+  walked-few m e = omega (arith, walk-few row (i + 1) left (row i).child no_run)
 
-  pub lists-turn : 0 < m → lists_from row (m - 1) (n - (i + 1)) (i + 1) ≡ lists_from row left (n - i) i
-  lists-turn y = let k : n - i ≡ suc (n - suc i) = omega arith in rw (k, add-one, ← e, lt-ltb 0 m y)
+  pub lists-turn : (m : ℕ) → m + 1 ≡ walked row left i → lists_from row m (n - (i + 1)) (i + 1) ≡ lists_from row left (n - i) i
+  lists-turn m e =
+      let k : n - i ≡ suc (n - suc i) = omega arith in
+      let z : m + 1 - 1 ≡ m = omega arith in
+      let p : 0 < m + 1 = omega arith in
+      rw (k, add-one, ← e, lt-ltb 0 (m + 1) p, z)
 
-  pub lists-stop : m ≡ 0 → false ≡ lists_from row left (n - i) i
-  lists-stop z = let k : n - i ≡ suc (n - suc i) = omega arith in rw (k, ← e, z)
-
-pub lists-end : (row : ℕ → RegionCapa) (n left i : ℕ) → n ≤ i → eqb left 0 ≡ lists_from row left (n - i) i
-lists-end row n left i h = let k : n - i ≡ 0 = omega arith in rw k
+  pub lists-stop : 0 ≡ walked row left i → false ≡ lists_from row left (n - i) i
+  lists-stop e = let k : n - i ≡ suc (n - suc i) = omega arith in rw (k, ← e)

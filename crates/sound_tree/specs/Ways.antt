@@ -1,14 +1,11 @@
 -- The ways up that the test follows: one turn of each loop, and where the marks stand.
-use Rattle.std.specs.Prelude.{◌≡◌, refl, Bool, true, false, List, ◌++◌, ℕ, zero, suc, ◌+◌, ◌-◌, ◌<◌, ◌≤◌, ltb, length, get_or, set, replicate, take, drop}
-use Rattle.std.proofs.Common.{sym, ap, ◌∙◌, add-one, arith, lt-ltb, length-take, drop-set-lt}
-use borrow.Rule.Slice.PartMut.{put_mid}
-use Rattle.std.proofs.lemmas.List.{length-replicate, replicate-append-replicate}
-use Rattle.std.proofs.lemmas.List.Edits.{sets-eq}
+use Rattle.std.specs.Prelude.{◌≡◌, refl, Bool, true, false, List, ◌++◌, ℕ, zero, suc, ◌+◌, ◌-◌, ◌<◌, ◌≤◌, ltb, length, get_or, set, replicate, drop}
+use Rattle.std.proofs.Common.{sym, ap, ◌∙◌, add-one, arith, lt-ltb, drop-set-lt}
+use Rattle.std.proofs.lemmas.List.{replicate-append-replicate}
 use Rattle.base.specs.Cases.{pick, cmp, lt, ge, test, holds, fails}
-use Rattle.words.specs.Runs.{lent_back}
 use Rattle.words.specs.Zeros.{zeros, drop-zeros}
 use Rattle.tables.specs.declared.RegionCapa.{RegionCapa}
-use Rattle.sound_tree.specs.Tree.{stops, climb_from, mark_from, rooted_from, marks_from, cleared}
+use Rattle.sound_tree.specs.Tree.{stops, climb_from, mark_from, rooted_from, marks_from}
 
 -- a row that is no child's stops the way
 pub stop-low : (row : ℕ → RegionCapa) (w : List ℕ) (j : ℕ) → (row j).kind < 2 → stops row w j ≡ true
@@ -20,46 +17,25 @@ stop-low row w j h = low (ltb 0 (get_or w j 0))
     low false = lt-ltb _ _ h
 
 module _ (row : ℕ → RegionCapa) (w : List ℕ) (j : ℕ) (b : Bool) (e : b ≡ stops row w j) where
-  pub climb-turn : (n k : ℕ) → 0 < n → b ≡ false → k ≡ (row j).parent - 1 → climb_from row w (n - 1) k ≡ climb_from row w n j
-  climb-turn zero k h y f = absurd (omega arith)
-  climb-turn (suc n) k h y f = let z : suc n - 1 ≡ n = omega arith in rw (z, ← e, y, f)
+  module _ (n k : ℕ) (h : k < n) where
+    pub climb-turn : (m : ℕ) → b ≡ false → m ≡ (row j).parent - 1 → climb_from row w (n - (k + 1)) m ≡ climb_from row w (n - k) j
+    climb-turn m y f = let z : n - k ≡ suc (n - suc k) = omega arith in rw (z, add-one, ← e, y, f)
 
-  pub climb-stop : (n : ℕ) → 0 < n → b ≡ true → true ≡ climb_from row w n j
-  climb-stop zero h y = absurd (omega arith)
-  climb-stop (suc n) h y = rw (← e, y)
+    pub climb-stop : b ≡ true → true ≡ climb_from row w (n - k) j
+    climb-stop y = let z : n - k ≡ suc (n - suc k) = omega arith in rw (z, ← e, y)
 
-  pub mark-turn : (n k : ℕ) (u : List ℕ) → 0 < n → b ≡ false → u ≡ set w j 1 → k ≡ (row j).parent - 1 → mark_from row u (n - 1) k ≡ mark_from row w n j
-  mark-turn zero k u h y g f = absurd (omega arith)
-  mark-turn (suc n) k u h y g f = let z : suc n - 1 ≡ n = omega arith in rw (z, ← e, y, g, f)
+    pub mark-turn : (m : ℕ) (u : List ℕ) → b ≡ false → u ≡ set w j 1 → m ≡ (row j).parent - 1 → mark_from row u (n - (k + 1)) m ≡ mark_from row w (n - k) j
+    mark-turn m u y g f = let z : n - k ≡ suc (n - suc k) = omega arith in rw (z, add-one, ← e, y, g, f)
 
-  pub mark-stop : (n : ℕ) → 0 < n → b ≡ true → w ≡ mark_from row w n j
-  mark-stop zero h y = absurd (omega arith)
-  mark-stop (suc n) h y = rw (← e, y)
-
-pub climb-end : (row : ℕ → RegionCapa) (w : List ℕ) (n j : ℕ) → n ≤ 0 → false ≡ climb_from row w n j
-climb-end row w n j h = let z : n ≡ 0 = omega arith in rw z
-
-pub mark-end : (row : ℕ → RegionCapa) (w : List ℕ) (n j : ℕ) → n ≤ 0 → w ≡ mark_from row w n j
-mark-end row w n j h = let z : n ≡ 0 = omega arith in rw z
+    pub mark-stop : b ≡ true → w ≡ mark_from row w (n - k) j
+    mark-stop y = let z : n - k ≡ suc (n - suc k) = omega arith in rw (z, ← e, y)
 
 module _ (row : ℕ → RegionCapa) (n i : ℕ) (w : List ℕ) (b : Bool) (h : i < n) (e : b ≡ climb_from row w n i) where
   pub roots-turn : (u : List ℕ) → b ≡ true → u ≡ mark_from row w n i → rooted_from row n u (n - (i + 1)) (i + 1) ≡ rooted_from row n w (n - i) i
   roots-turn u y f = let k : n - i ≡ suc (n - suc i) = omega arith in rw (k, add-one, ← e, y, f)
 
-  pub roots-stop : b ≡ false → false ≡ rooted_from row n w (n - i) i
-  roots-stop y = let k : n - i ≡ suc (n - suc i) = omega arith in rw (k, ← e, y)
-
   pub marks-turn : (u : List ℕ) → b ≡ true → u ≡ mark_from row w n i → marks_from row n u (n - (i + 1)) (i + 1) ≡ marks_from row n w (n - i) i
   marks-turn u y f = let k : n - i ≡ suc (n - suc i) = omega arith in rw (k, add-one, ← e, y, f)
-
-  pub marks-stop : b ≡ false → w ≡ marks_from row n w (n - i) i
-  marks-stop y = let k : n - i ≡ suc (n - suc i) = omega arith in rw (k, ← e, y)
-
-pub roots-end : (row : ℕ → RegionCapa) (n i : ℕ) (w : List ℕ) → n ≤ i → true ≡ rooted_from row n w (n - i) i
-roots-end row n i w h = let k : n - i ≡ 0 = omega arith in rw k
-
-pub marks-end : (row : ℕ → RegionCapa) (n i : ℕ) (w : List ℕ) → n ≤ i → w ≡ marks_from row n w (n - i) i
-marks-end row n i w h = let k : n - i ≡ 0 = omega arith in rw k
 
 -- ---- where no row from n on is a child's, marks stand in the first n words, and are cleared there
 
@@ -82,19 +58,9 @@ module _ (row : ℕ → RegionCapa) (n : ℕ) (none : (j : ℕ) → n ≤ j → 
     | fails t ↦ rw t
   ]
 
-pub first-cleared : (w p : List ℕ) (n : ℕ) → n ≤ length w → p ≡ replicate (length (take (n - 0) (drop 0 w))) 0 → put_mid 0 (n - 0) w p ≡ cleared n w
-unfolding cleared
-first-cleared w p n h e =
-    let l : length (take (n - 0) (drop 0 w)) ≡ n = simp length-take (omega arith) in
-    let z : p ≡ replicate n 0 = e ∙ ap (λ k. replicate k 0) l in
-    let k : length p ≡ n = ap length z ∙ length-replicate n 0 in
-    let o : 0 + length p ≡ n = omega arith in
-    lent_back w p 0 (n - 0) n (omega arith) k (omega arith) ∙ sets-eq p w 0 (omega arith) ∙ rw (o, z)
-
 -- clearing them leaves the words as they were at first
-pub all-cleared : (u w x : List ℕ) (n : ℕ) → n ≤ length w → w ≡ replicate (length w) 0 → drop n u ≡ drop n w → x ≡ cleared n u → x ≡ w
-unfolding cleared
-all-cleared u w x n f clear b c =
+pub all-cleared : (u w p : List ℕ) (n : ℕ) → n ≤ length w → w ≡ replicate (length w) 0 → drop n u ≡ drop n w → p ≡ replicate n 0 → p ++ drop n u ≡ w
+all-cleared u w p n f clear b c =
     let z : length w ≡ n + (length w - n) = omega arith in
     let d : drop n w ≡ zeros (length w - n) = ap (drop n) (clear ∙ ap zeros z) ∙ drop-zeros n (length w - n) in
-    c ∙ ap (λ (l : List ℕ). replicate n 0 ++ l) (b ∙ d) ∙ replicate-append-replicate n (length w - n) 0 ∙ ap zeros (sym z) ∙ sym clear
+    ap (λ q. q ++ drop n u) c ∙ ap (λ (l : List ℕ). replicate n 0 ++ l) (b ∙ d) ∙ replicate-append-replicate n (length w - n) 0 ∙ ap zeros (sym z) ∙ sym clear

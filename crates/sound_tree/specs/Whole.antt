@@ -1,5 +1,5 @@
 -- What is tested over the lent sections is what `tree_holds` says of the tables.
-use Rattle.std.specs.Prelude.{◌≡◌, refl, Bool, true, false, List, [], ℕ, ◌+◌, ◌-◌, ◌<◌, ◌≤◌, length, get_or, drop}
+use Rattle.std.specs.Prelude.{◌≡◌, refl, Bool, true, false, List, [], ℕ, ◌+◌, ◌<◌, ◌≤◌, length, get_or, drop}
 use Rattle.std.proofs.Math.Path.{ap}
 use Rattle.std.proofs.Common.{◌∙◌, zero-add, arith}
 use Rattle.std.proofs.Math.ListN.{replicate, get_or-eq_default}
@@ -16,13 +16,13 @@ use Rattle.sound_tree.specs.Turns.{tally-few, count-is}
 use Rattle.sound_tree.specs.Ways.{marks-beyond}
 
 -- one more than is counted where the rows fit, else 0
-some-counted : (b : Bool) (m k : ℕ) → m ≡ pick b (k + 1) 0 → 0 < m → (b ≡ true) × (m - 1 ≡ k)
-some-counted true m k e h = (refl, omega arith)
-some-counted false m k e h = absurd (omega arith)
+some-counted : (b : Bool) (m k : ℕ) → m + 1 ≡ pick b (k + 1) 0 → (b ≡ true) × (m ≡ k)
+some-counted true m k e = (refl, omega arith)
+some-counted false m k e = absurd (omega arith)
 
-none-counted : (b : Bool) (m k : ℕ) → m ≡ pick b (k + 1) 0 → m ≤ 0 → b ≡ false
-none-counted true m k e h = absurd (omega arith)
-none-counted false m k e h = refl
+none-counted : (b : Bool) (k : ℕ) → 0 ≡ pick b (k + 1) 0 → b ≡ false
+none-counted true k e = absurd (omega arith)
+none-counted false k e = refl
 
 module _ (t : List ℕ) (n : ℕ) (s : Sized t) (en : n ≡ get_or t 2 0) where
   pub regions-few : n ≤ 1024
@@ -42,29 +42,30 @@ module _ (t : List ℕ) (n : ℕ) (s : Sized t) (en : n ≡ get_or t 2 0) where
 
   -- the rows of the section that is lent
   module _ (row : ℕ → RegionCapa) (er : row ≡ region_at (view t)) where
-    module _ (links : List ℕ) (el : links ≡ (view t).region_pool.links) (m : ℕ) (em : m ≡ count_from links row 0 n 0) where
-      counted : m ≡ pick (rows_hold (view t)) (child_count (region_at (view t)) n + 1) 0
+    module _ (links : List ℕ) (el : links ≡ (view t).region_pool.links) where
+      counted : count_from links row 0 n 0 ≡ pick (rows_hold (view t)) (child_count (region_at (view t)) n + 1) 0
       unfolding rows_hold child_count
-      counted = em ∙ count-is links row 0 n 0 ∙ rw (el, er, regions-seen t n en, zero-add)
+      counted = count-is links row 0 n 0 ∙ rw (el, er, regions-seen t n en, zero-add)
 
-      children : 0 < m → m - 1 ≡ child_count (region_at (view t)) n
-      children h = (some-counted (rows_hold (view t)) m (child_count (region_at (view t)) n) counted h).1
-
-      pub children-few : 0 < m → m - 1 ≤ 1024
-      unfolding child_count
-      children-few h = omega (arith, children h, tally-few (is_child (region_at (view t))) n 0, regions-few)
-
-      pub rows-fail : m ≤ 0 → false ≡ tree_holds (view t)
+      pub rows-fail : 0 ≡ count_from links row 0 n 0 → false ≡ tree_holds (view t)
       unfolding tree_holds
-      rows-fail h = rw (none-counted (rows_hold (view t)) m (child_count (region_at (view t)) n) counted h)
+      rows-fail e = rw (none-counted (rows_hold (view t)) (child_count (region_at (view t)) n) (e ∙ counted))
 
-      module _ (b : Bool) (h : 0 < m) (eb : b ≡ lists_from row (m - 1) n 0) where
+      module _ (m : ℕ) (em : m + 1 ≡ count_from links row 0 n 0) where
+        children : m ≡ child_count (region_at (view t)) n
+        children = (some-counted (rows_hold (view t)) m (child_count (region_at (view t)) n) (em ∙ counted)).1
+
+        pub children-few : m ≤ 1024
+        unfolding child_count
+        children-few = omega (arith, children, tally-few (is_child (region_at (view t))) n 0, regions-few)
+
+      module _ (m : ℕ) (em : m + 1 ≡ count_from links row 0 n 0) (b : Bool) (eb : b ≡ lists_from row m n 0) where
         rows_are : rows_hold (view t) ≡ true
-        rows_are = (some-counted (rows_hold (view t)) m (child_count (region_at (view t)) n) counted h).0
+        rows_are = (some-counted (rows_hold (view t)) m (child_count (region_at (view t)) n) (em ∙ counted)).0
 
         lists-are : b ≡ lists_hold (view t)
         unfolding lists_hold
-        lists-are = eb ∙ rw (children h, er, regions-seen t n en)
+        lists-are = eb ∙ rw (children m em, er, regions-seen t n en)
 
         pub lists-fail : b ≡ false → false ≡ tree_holds (view t)
         unfolding tree_holds

@@ -7,13 +7,14 @@ ghost use Rattle.tables.specs.View.{view, Sized};
 ghost use Rattle.sound_tree.specs.Tree.{tree_holds};
 
 use pools::Pool;
+use tables::RegionCapa;
 
 mod lists;
+mod regions;
 mod roots;
-mod rows;
 
 // What the children before one of a list leave to test: the last start, the largest end of all, and of the carves.
-#[derive(Clone, Copy)]
+#[derive(Clone, Copy, Default)]
 pub struct Run {
     pub last: u64,
     pub far: u64,
@@ -29,15 +30,15 @@ pub fn tree_holds(t: &[u64], w: &mut [u64]) -> bool
     ensures w_unchanged { w.new ≡ w.old }
 {
     let n = words::size(t, sizes::REGIONS);
-    let p = sections::regions_of(t);
+    let p = sections::rows_of::<RegionCapa>(t);
     let links = sections::links_of(t, Pool::Regions);
-    let many = rows::count_children(links, p, n);
-    if 0 < many {
-        if lists::lists_hold(p, n, many - 1) {
-            let rooted = roots::roots_hold(p, w, n);
-            roots::clear_first(w, n);
-            return rooted;
-        }
+    let Some(many) = regions::count_children(links, p, n) else {
+        return false;
+    };
+    if !lists::lists_hold(p, n, many) {
+        return false;
     }
-    false
+    let rooted = roots::roots_hold(p, w, n);
+    w[..n].fill(0);
+    rooted
 }

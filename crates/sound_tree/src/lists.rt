@@ -1,35 +1,27 @@
 // The child lists: all of them together have each region that is not a root once.
 ghost use Rattle.std.specs.Prelude.{◌≡◌, ◌<◌, ◌≤◌};
 ghost use Rattle.sections.specs.Rows.{region_in};
-ghost use Rattle.sound_tree.specs.Tree.{larger, after, floor_of, child_fits, walked, lists_from};
+ghost use Rattle.sound_tree.specs.Tree.{more, after, floor_of, child_fits, walked, lists_from};
 
 use crate::Run;
 use tables::RegionCapa;
 
-fn larger(a: u64, b: u64) -> u64
-    ensures { result ≡ larger a b }
-{
-    if a < b { b } else { a }
-}
-
+#[tactic(auto, unfolding(crate::specs::Tree::after))]
 fn after(s: Run, r: RegionCapa) -> Run
     ensures { result ≡ after s r }
 {
-    let far = larger(s.far, r.end);
-    if r.kind == RegionCapa::CARVE {
-        return Run {
-            last: r.start,
-            far,
-            carved: larger(s.carved, r.end),
-        };
-    }
     Run {
         last: r.start,
-        far,
-        carved: s.carved,
+        far: s.far.max(r.end),
+        carved: if r.kind == RegionCapa::CARVE {
+            s.carved.max(r.end)
+        } else {
+            s.carved
+        },
     }
 }
 
+#[tactic(auto, unfolding(crate::specs::Tree::floor_of))]
 fn floor_of(s: Run, r: RegionCapa) -> u64
     ensures { result ≡ floor_of s r }
 {
@@ -40,40 +32,34 @@ fn floor_of(s: Run, r: RegionCapa) -> u64
     }
 }
 
+#[tactic(auto, unfolding(crate::specs::Tree::child_fits))]
 fn child_fits(own: u64, s: Run, r: RegionCapa) -> bool
     ensures { result ≡ child_fits own s r }
 {
-    let sorted = words::both(s.last <= r.start, floor_of(s, r) <= r.start);
-    words::both(r.parent == own, sorted)
+    r.parent == own && s.last <= r.start && floor_of(s, r) <= r.start
 }
 
-// What is left of `left` children behind the list of region k, and one more; 0 where the list is not fit.
-fn walk(p: &[u64], left: usize, k: usize) -> usize
+// What is left of `left` children behind the list of region k; none where the list is not fit.
+fn walk(p: &[u64], left: usize, k: usize) -> Option<usize>
     requires { (left ≤ 1024) × (k < 1024) }
-    ensures { result ≡ walked (region_in p.now) left k }
+    ensures { more result ≡ walked (region_in p.now) left k }
 {
     let own = (k + 1) as u64;
-    let first = sections::region_in(p, k);
+    let first = sections::row_in::<RegionCapa>(p, k);
     let mut link = first.child;
     let mut n = left;
-    let mut s = Run {
-        last: 0,
-        far: 0,
-        carved: 0,
-    };
+    let mut s = Run::default();
+    // It ends at link 0, and each turn takes one of the children that are left.
     while 0 < link {
-        if n == 0 {
-            return 0;
-        }
-        let r = sections::region_in(p, (link - 1) as usize);
+        n = n.checked_sub(1)?;
+        let r = sections::row_in::<RegionCapa>(p, (link - 1) as usize);
         if !child_fits(own, s, r) {
-            return 0;
+            return None;
         }
         s = after(s, r);
         link = r.next;
-        n -= 1;
     }
-    n + 1
+    Some(n)
 }
 
 // Whether the lists of the n regions have the children, as many as there are.
@@ -82,14 +68,11 @@ pub fn lists_hold(p: &[u64], n: usize, many: usize) -> bool
     ensures { result ≡ lists_from (region_in p.now) many n 0 }
 {
     let mut left = many;
-    let mut i = 0;
-    while i < n {
-        let rest = walk(p, left, i);
-        if rest == 0 {
+    for i in 0..n {
+        let Some(rest) = walk(p, left, i) else {
             return false;
-        }
-        left = rest - 1;
-        i += 1;
+        };
+        left = rest;
     }
     left == 0
 }

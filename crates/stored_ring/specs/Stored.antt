@@ -100,11 +100,6 @@ module _ (us : List Update) (ms : List ℕ) (i : ℕ) (e : Entry) (few : length 
 
 -- ---- place by place
 
-pub update-read : (p : List ℕ) (a : ℕ) → record { kind = get_or p a 0; a = get_or p (a + 1) 0; b = get_or p (a + 2) 0; c = get_or p (a + 3) 0 } ≡ update_of (part p a update_width)
-update-read p a =
-    let e : a + 0 ≡ a = omega arith in
-    rw (part_at p a 4 0 (omega arith), part_at p a 4 1 (omega arith), part_at p a 4 2 (omega arith), part_at p a 4 3 (omega arith), e)
-
 mark-read : (m : List ℕ) (a : ℕ) → get_or m a 0 ≡ mark_of (part m a mark_width)
 mark-read m a = let e : a + 0 ≡ a = omega arith in rw (part_at m a 1 0 (omega arith), e)
 

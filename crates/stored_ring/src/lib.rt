@@ -2,15 +2,15 @@
 
 #![tactic(auto)]
 
-ghost use Rattle.std.specs.Prelude.{◌≡◌, ◌+◌, ◌*◌, ◌≤◌, length};
-ghost use Rattle.words.specs.Runs.{part};
+ghost use Rattle.std.specs.Prelude.{◌≡◌, ◌*◌, ◌≤◌, length};
 ghost use Rattle.sizes.specs.Sizes.{update_width, mark_width};
 ghost use Rattle.tables.specs.Tables.{with_places, with_update, with_mark};
-ghost use Rattle.tables.specs.View.{view, Sized, Left, update_of};
+ghost use Rattle.tables.specs.View.{view, Sized, Left};
 ghost use Rattle.ring.specs.Ring.{cap};
 ghost use Rattle.stored_ring.specs.Stored.{ring_of, ring_in, place_in, RingAt};
 
 use ring::{Entry, PLACES, Ring};
+use rows::Record;
 use sizes::{MARK_WIDTH, UPDATE_WIDTH};
 use tables::Update;
 
@@ -43,32 +43,19 @@ fn span_of(t: &[u64]) -> Span
 
 // ---- In the words of the ring, p, and of its marks, m
 
-fn read_update(p: &[u64], a: usize) -> Update
-    requires { a + update_width ≤ length p.now }
-    ensures { result ≡ update_of (part p.now a update_width) }
-{
-    Update {
-        kind: p[a],
-        a: p[a + 1],
-        b: p[a + 2],
-        c: p[a + 3],
-    }
-}
-
 fn ring_in(p: &[u64], m: &[u64], n: usize, read: usize, write: usize) -> Ring
     requires p_len { length p.now ≡ n * update_width }
     requires m_len { length m.now ≡ n * mark_width }
     requires n_le_cap { n ≤ cap }
     ensures { result ≡ ring_in n p.now m.now read write }
 {
-    let mut places = [ring::no_entry(); PLACES];
-    let mut i = 0;
-    while i < n {
+    let mut places = [Entry::default(); PLACES];
+    for i in 0..n {
+        let a = i * UPDATE_WIDTH;
         places[i] = Entry {
-            update: read_update(p, i * UPDATE_WIDTH),
+            update: Update::of_words(&p[a..a + UPDATE_WIDTH]),
             marks: m[i * MARK_WIDTH],
         };
-        i += 1;
     }
     Ring {
         places,
@@ -79,14 +66,10 @@ fn ring_in(p: &[u64], m: &[u64], n: usize, read: usize, write: usize) -> Ring
 }
 
 // Place i; nothing past the largest ring.
-fn place_in(ring: Ring, i: usize) -> Entry
-    ensures { result ≡ place_in ring i }
+fn place_in(ring: &Ring, i: usize) -> Entry
+    ensures { result ≡ place_in ring.now i }
 {
-    if i < PLACES {
-        ring.places[i]
-    } else {
-        ring::no_entry()
-    }
+    ring.places.get(i).copied().unwrap_or_default()
 }
 
 // ---- In the tables
@@ -96,22 +79,24 @@ pub fn load_ring(t: &[u64]) -> Ring
     ensures { result ≡ ring_of (view t.now) }
 {
     let s = span_of(t);
-    let read = ring_rows::read_place(t) as usize;
-    let write = ring_rows::write_place(t) as usize;
-    let a = s.start;
-    let e = s.end;
-    let b = s.marks;
-    let f = s.marks_end;
-    ring_in(&t[a..e], &t[b..f], s.places, read, write)
+    let read = rows::read_place(t) as usize;
+    let write = rows::write_place(t) as usize;
+    ring_in(
+        &t[s.start..s.end],
+        &t[s.marks..s.marks_end],
+        s.places,
+        read,
+        write,
+    )
 }
 
 // Place i of the ring with its marks, and the two that the header names: a step changes no more than these.
-pub fn store_place(t: &mut [u64], i: usize, ring: Ring)
+pub fn store_place(t: &mut [u64], i: usize, ring: &Ring)
     requires { Sized t.old }
-    ensures { Left t.new (with_places (with_mark (with_update (view t.old) i (place_in ring i).update) i (place_in ring i).marks) ring.read ring.write) }
+    ensures { Left t.new (with_places (with_mark (with_update (view t.old) i (place_in ring.now i).update) i (place_in ring.now i).marks) ring.now.read ring.now.write) }
 {
     let e = place_in(ring, i);
-    ring_rows::store_update(t, i, e.update);
-    ring_rows::store_mark(t, i, e.marks);
-    ring_rows::set_places(t, ring.read as u64, ring.write as u64);
+    rows::store(t, i, e.update);
+    rows::store_mark(t, i, e.marks);
+    rows::set_places(t, ring.read as u64, ring.write as u64);
 }

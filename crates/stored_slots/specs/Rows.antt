@@ -1,16 +1,16 @@
 -- A domain's words as a row of the tables, and its slots as rows of three words.
 use Rattle.std.specs.Prelude.{◌≡◌, get_or, set, drop, replicate}
 use Rattle.std.proofs.Math.Path.{refl, sym, ap}
-use Rattle.std.proofs.Common.{◌∙◌, add-one, lt-ltb, take_all, take-suc, take-suc-set, drop-drop, get_or-take}
+use Rattle.std.proofs.Common.{◌∙◌, add-one, lt-ltb, take_all, take-suc, take-suc-set, get_or-take}
 use mathlib.Core.List.{List, [], ◌∷◌, ◌++◌, append_assoc}
-use Prim.Native.Nat.{ℕ, zero, suc, ◌+◌, ◌-◌, ◌*◌, ◌≤◌, ◌<◌}
+use Prim.Native.Nat.{ℕ, suc, ◌+◌, ◌-◌, ◌*◌, ◌≤◌, ◌<◌}
 use Rattle.std.proofs.Math.Nat.{mul-le-mul_right}
 use native.Mathlib.Omega.{arith}
 use borrow.Rule.Slice.PartMut.{put_mid}
 use Rattle.std.proofs.Math.ListN.{length, take, length-take, length-drop, length-set, get_or-eq_default}
 use Rattle.std.proofs.Math.Seq.{sets, length-sets, get_or-set_same, get_or-set_other}
 use Rattle.std.proofs.lemmas.List.{set_at}
-use Rattle.words.specs.Runs.{part, part_at, part-drop, length_part, fetched-in, stored, stored-in, lent_back, take-sets-le, take-sets-lt, drop-sets-lt, drop-sets-add, get_or-before}
+use Rattle.words.specs.Runs.{part, part-drop, length_part, fetched-in, stored, stored-in, lent_back, take-sets-le, take-sets-lt, drop-sets-lt, drop-sets-add, get_or-before}
 use Rattle.words.specs.Rows.{rows, length-rows, get_d_rows, rows-store, rows_more}
 use Rattle.words.specs.Cuts.{cuts, offset}
 use Rattle.sizes.specs.declared.Sizes.{Sizes}
@@ -27,12 +27,6 @@ use Rattle.stored_slots.specs.declared.Row.{Row}
 use Rattle.stored_slots.specs.Record.{list_of, put_list, with_top, domain_or, with_list}
 
 -- ---- reading: the slots one by one
-
--- the words of one slot
-pub slot_read : (p : List ℕ) (a : ℕ) → record { kind = get_or p a 0; handle = record { slot = get_or p (a + 1) 0; generation = get_or p (a + 2) 0 } } ≡ slot_of (part p a slot_width)
-slot_read p a =
-    let e : a + 0 ≡ a = omega arith in
-    rw (part_at p a 3 0 (omega arith), part_at p a 3 1 (omega arith), part_at p a 3 2 (omega arith), e)
 
 -- the first i of n slots are read
 abbrev pub read_to : List ℕ → ℕ → List Slot
@@ -81,11 +75,12 @@ module _ (n : ℕ) (p : List ℕ) (long : length p ≡ 5 + n * 3) where
       (rw (get_or-before vs q 0 3 (omega arith), get_or-before vs q 1 3 (omega arith), get_or-before vs q 2 3 (omega arith), get_or-set_other (set q 3 h) 4 3 c 0 (omega arith), get_or-set_same q 3 h 0 (omega arith), get_or-set_same (set q 3 h) 4 c 0 (simp length-set (omega arith))))
 
 module _ (n : ℕ) (x : Domain) (l : SlotList) (i : ℕ) (p : List ℕ) (w : Written n x l i p) where
-  pub written-more : (y : Slot) → i < n → i < length l.slots → y ≡ get_or l.slots i no_slot → Written n x l (i + 1) (sets p (5 + i * 3) (slot_words y))
-  written-more y h hl ey =
+  pub written-more : (q : List ℕ) (y : Slot) → i < n → i < length l.slots → y ≡ get_or l.slots i no_slot → q ≡ stored p (5 + i * 3) (slot_words y) → Written n x l (i + 1) q
+  written-more q y h hl ey eq =
       let e = put-slot n p w.long i y h in
+      let es : q ≡ sets p (5 + i * 3) (slot_words y) = eq ∙ stored-in p (5 + i * 3) (slot_words y) (omega (arith, w.long)) in
       let many = length-slots n p in
-      record {
+      rw es record {
         long = length-sets p (5 + i * 3) (slot_words y) ∙ w.long;
         top = ap (λ (d : Domain). d.head) e ∙ w.top;
         same = rw (add-one, e) (take-suc-set (domain_of n p).slots i y (omega arith) ∙ rw (w.same, ey) (sym (take-suc l.slots i no_slot hl)));

@@ -3,18 +3,17 @@
 #![tactic(auto)]
 
 ghost use Rattle.std.specs.Prelude.{◌≡◌, ◌+◌, ◌*◌, ◌≤◌, ◌<◌, length};
-ghost use Rattle.std.proofs.lemmas.List.Edits.{sets};
-ghost use Rattle.words.specs.Runs.{part};
 ghost use Rattle.sizes.specs.Limits.{most_slots};
 ghost use Rattle.sizes.specs.Sizes.{sizes_of, head_width, slot_width};
-ghost use Rattle.tables.specs.View.{view, Sized, Left, domain_of, slot_of, slot_words};
+ghost use Rattle.tables.specs.View.{view, Sized, Left, domain_of};
 ghost use Rattle.slot_list.specs.Lists.{no_list};
 ghost use Rattle.stored_slots.specs.Record.{list_of, put_list, list_at, with_list};
 ghost use Rattle.stored_slots.specs.Rows.{RowAt};
 
+use rows::Record;
 use sizes::{HEAD_WIDTH, MOST_SLOTS, SLOT_WIDTH};
 use slot_list::SlotList;
-use tables::{DomainHead, Handle, Slot};
+use tables::{DomainHead, Slot};
 
 // The words of a domain, from `start` up to `end`.
 #[derive(Clone, Copy)]
@@ -43,7 +42,7 @@ fn no_list() -> SlotList
     ensures { result ≡ no_list }
 {
     SlotList {
-        slots: [tables::no_slot(); MOST_SLOTS],
+        slots: [Slot::default(); MOST_SLOTS],
         head: 0,
         count: 0,
         size: 0,
@@ -52,36 +51,15 @@ fn no_list() -> SlotList
 
 // ---- In the words of one domain
 
-fn read_slot(p: &[u64], a: usize) -> Slot
-    requires { a + slot_width ≤ length p.now }
-    ensures { result ≡ slot_of (part p.now a slot_width) }
-{
-    let handle = Handle {
-        slot: p[a + 1],
-        generation: p[a + 2],
-    };
-    Slot { kind: p[a], handle }
-}
-
-fn write_slot(p: &mut [u64], a: usize, x: Slot)
-    requires { a + slot_width ≤ length p.old }
-    ensures { p.new ≡ sets p.old a (slot_words x) }
-{
-    p[a] = x.kind;
-    p[a + 1] = x.handle.slot;
-    p[a + 2] = x.handle.generation;
-}
-
 fn list_of(p: &[u64], n: usize) -> SlotList
     requires p_len { length p.now ≡ head_width + n * slot_width }
     requires n_le_most_slots { n ≤ most_slots }
     ensures { result ≡ list_of (domain_of n p.now) }
 {
-    let mut slots = [tables::no_slot(); MOST_SLOTS];
-    let mut i = 0;
-    while i < n {
-        slots[i] = read_slot(p, HEAD_WIDTH + i * SLOT_WIDTH);
-        i += 1;
+    let mut slots = [Slot::default(); MOST_SLOTS];
+    for i in 0..n {
+        let a = HEAD_WIDTH + i * SLOT_WIDTH;
+        slots[i] = Slot::of_words(&p[a..a + SLOT_WIDTH]);
     }
     SlotList {
         slots,
@@ -96,11 +74,8 @@ fn write_list(p: &mut [u64], n: usize, list: SlotList)
     requires n_le_most_slots { n ≤ most_slots }
     ensures { domain_of n p.new ≡ put_list (domain_of n p.old) list }
 {
-    let mut i = 0;
-    while i < n {
-        let x = list.slots[i];
-        write_slot(p, HEAD_WIDTH + i * SLOT_WIDTH, x);
-        i += 1;
+    for i in 0..n {
+        list.slots[i].put(p, HEAD_WIDTH + i * SLOT_WIDTH);
     }
     p[DomainHead::HEAD] = list.head;
     p[DomainHead::COUNT] = list.count;
@@ -114,9 +89,7 @@ pub fn load_list(t: &[u64], d: usize) -> SlotList
 {
     if d < words::size(t, sizes::DOMAINS) {
         let r = row_of(t, d);
-        let a = r.start;
-        let e = r.end;
-        list_of(&t[a..e], r.slots)
+        list_of(&t[r.start..r.end], r.slots)
     } else {
         no_list()
     }
@@ -129,8 +102,6 @@ pub fn store_list(t: &mut [u64], d: usize, list: SlotList)
 {
     if d < words::size(t, sizes::DOMAINS) {
         let r = row_of(t, d);
-        let a = r.start;
-        let e = r.end;
-        write_list(&mut t[a..e], r.slots, list);
+        write_list(&mut t[r.start..r.end], r.slots, list);
     }
 }

@@ -42,14 +42,8 @@ module _ (s : List ℕ) (x : ℕ) (c : Cursor) where
     move-end u = record { low = h.low; is = sym (place_end (events_in s) i x (counts_of k) (omega (arith, length-events s))) ∙ h.rest }
 
 module _ (s : List ℕ) (i y : ℕ) where
-  next-there : i < length s / 2 → next (drop i (events_in s)) y ≡ min (get_or s (2 * i) 0) y
+  pub next-there : i < length s / 2 → next (drop i (events_in s)) y ≡ min (get_or s (2 * i) 0) y
   next-there h = place-next (events_in s) i y (omega (arith, length-events s)) ∙ ap (λ z. min z y) (address-in s i h)
-
-  pub next-less : i < length s / 2 → get_or s (2 * i) 0 < y → get_or s (2 * i) 0 ≡ next (drop i (events_in s)) y
-  next-less h u = omega (arith, next-there h)
-
-  pub next-far : i < length s / 2 → y ≤ get_or s (2 * i) 0 → y ≡ next (drop i (events_in s)) y
-  next-far h u = omega (arith, next-there h)
 
   pub next-none : length s / 2 ≤ i → y ≡ next (drop i (events_in s)) y
   next-none h = sym (place_none (events_in s) i y (omega (arith, length-events s)))

@@ -18,33 +18,25 @@ pub fn start() -> Cursor
 }
 
 // Past every event at or below x. No sum is above the number of events passed, so that none wraps.
-pub fn upto(s: &[u64], x: u64, c: Cursor) -> Cursor
+pub fn upto(s: &[u64], x: u64, mut c: Cursor) -> Cursor
     requires { Low c.place c.sums }
     ensures { At s.now result (upto x (cursor_in s.now c)) }
 {
-    let n = s.len() / 2;
-    let mut i = c.place;
-    let mut k = c.sums;
-    while i < n {
-        let o = 2 * i;
-        if x < s[o] {
-            return Cursor { place: i, sums: k };
+    for i in c.place..s.len() / 2 {
+        if x < s[2 * i] {
+            return c;
         }
-        k = counts::raise(k, s[o + 1]);
-        i += 1;
+        c = Cursor {
+            place: i + 1,
+            sums: counts::raise(c.sums, s[2 * i + 1]),
+        };
     }
-    Cursor { place: i, sums: k }
+    c
 }
 
 // The next event's address from place i on, and at most y.
 pub fn next(s: &[u64], i: usize, y: u64) -> u64
     ensures { result ≡ next (drop i (events_in s.now)) y }
 {
-    if i < s.len() / 2 {
-        let a = s[2 * i];
-        if a < y {
-            return a;
-        }
-    }
-    y
+    if i < s.len() / 2 { s[2 * i].min(y) } else { y }
 }

@@ -6,7 +6,7 @@ pub mod counts;
 pub mod events;
 
 // What pieces count for: how many they are, and how many of them have each right.
-#[derive(Clone, Copy)]
+#[derive(Clone, Copy, Default)]
 pub struct Sums {
     pub ref_count: u64,
     pub read_count: u64,

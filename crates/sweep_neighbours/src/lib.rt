@@ -15,28 +15,20 @@ use tables::Region;
 fn formed(q: Region) -> bool
     ensures { result ≡ formed (record_from 0 q) }
 {
-    let some = words::both(q.start < q.end, 0 < q.ref_count);
-    words::both(some, q.uncache_count <= 1)
+    q.start < q.end && 0 < q.ref_count && q.uncache_count <= 1
 }
 
 // Whether nothing is covered from the last end up to x: all that started has ended, and nothing starts.
 fn is_gap(s: &[u64], x: u64, p: Cursor, m: Sums) -> bool
     ensures { result ≡ gap x (cursor_in s.now p) (summed (counts_of m)) }
 {
-    let started = p.sums;
-    let next = events::next(s, p.place, x);
-    words::both(started.ref_count == m.ref_count, x <= next)
+    p.sums.ref_count == m.ref_count && x <= events::next(s, p.place, x)
 }
 
 // Whether record q may stand behind b, at whose end the ends passed have the sums m.
 pub fn follows(s: &[u64], b: Region, q: Region, p: Cursor, m: Sums) -> bool
     ensures { result ≡ follows (record_from 0 b) (record_from 0 q) (cursor_in s.now p) (counts_of m) }
 {
-    if !words::both(formed(q), b.end <= q.start) {
-        return false;
-    }
-    if b.end < q.start {
-        return is_gap(s, q.start, p, m);
-    }
-    !counts::same(b, q)
+    formed(q)
+        && (b.end < q.start && is_gap(s, q.start, p, m) || b.end == q.start && !counts::same(b, q))
 }

@@ -54,63 +54,68 @@ word-stored t a m =
 
 -- ---- regions, tracker records, the ring, hashes, interfaces, marks: whole rows
 
-module _ (t : List ℕ) (s : Sized t) (i a : ℕ) where
-  pub region-loaded : (p : List ℕ) → a ≡ region_place t i → p ≡ fetched t a region_width → region_of p ≡ region_at (view t) i
+module _ (t : List ℕ) (s : Sized t) (i : ℕ) where
+  pub region-loaded : region_of (fetched t (region_place t i) region_width) ≡ region_at (view t) i
   unfolding region_at view of_parts
-  region-loaded p e ep = rw (ep, e) (row_loaded t (regions_section - 1) (sizes_of t).regions region_width s (omega arith) refl region_of i (omega arith))
+  region-loaded = row_loaded t (regions_section - 1) (sizes_of t).regions region_width s (omega arith) refl region_of i (omega arith)
 
-  pub record-loaded : (p : List ℕ) → a ≡ record_place t i → p ≡ fetched t a record_width → record_of p ≡ record_at (view t) i
+  pub record-loaded : record_of (fetched t (record_place t i) record_width) ≡ record_at (view t) i
   unfolding record_at view of_parts
-  record-loaded p e ep = rw (ep, e) (row_loaded t (records_section - 1) (sizes_of t).records record_width s (omega arith) refl record_of i (omega arith))
+  record-loaded = row_loaded t (records_section - 1) (sizes_of t).records record_width s (omega arith) refl record_of i (omega arith)
 
-  pub update-loaded : (p : List ℕ) → a ≡ update_place t i → p ≡ fetched t a update_width → update_of p ≡ update_at (view t) i
+  pub update-loaded : update_of (fetched t (update_place t i) update_width) ≡ update_at (view t) i
   unfolding update_at view of_parts
-  update-loaded p e ep = rw (ep, e) (row_loaded t (ring_section - 1) ((sizes_of t).updates + 1) update_width s (omega arith) refl update_of i (omega arith))
+  update-loaded = row_loaded t (ring_section - 1) ((sizes_of t).updates + 1) update_width s (omega arith) refl update_of i (omega arith)
 
-  pub hash-loaded : (p : List ℕ) → a ≡ hash_place t i → p ≡ fetched t a hash_width → hash_of p ≡ hash_at (view t) i
+  pub hash-loaded : hash_of (fetched t (hash_place t i) hash_width) ≡ hash_at (view t) i
   unfolding hash_at view of_parts
-  hash-loaded p e ep = rw (ep, e) (row_loaded t (hash_section - 1) (sizes_of t).regions hash_width s (omega arith) refl hash_of i (omega arith))
+  hash-loaded = row_loaded t (hash_section - 1) (sizes_of t).regions hash_width s (omega arith) refl hash_of i (omega arith)
 
-  pub interface-loaded : (p : List ℕ) → a ≡ interface_place t i → p ≡ fetched t a interface_width → interface_of p ≡ interface_at (view t) i
+  pub interface-loaded : interface_of (fetched t (interface_place t i) interface_width) ≡ interface_at (view t) i
   unfolding interface_at view of_parts
-  interface-loaded p e ep = rw (ep, e) (row_loaded t (interface_section - 1) (sizes_of t).domains interface_width s (omega arith) refl interface_of i (omega arith))
+  interface-loaded = row_loaded t (interface_section - 1) (sizes_of t).domains interface_width s (omega arith) refl interface_of i (omega arith)
 
-  pub mark-loaded : a ≡ mark_place t i → get_or t a 0 ≡ mark_at (view t) i
+  pub mark-loaded : (a : ℕ) → a ≡ mark_place t i → get_or t a 0 ≡ mark_at (view t) i
   unfolding mark_at view of_parts
-  mark-loaded e = sym (word-fetched t a) ∙ rw e (row_loaded t (mark_section - 1) ((sizes_of t).updates + 1) mark_width s (omega arith) refl mark_of i (omega arith))
+  mark-loaded a e = sym (word-fetched t a) ∙ rw e (row_loaded t (mark_section - 1) ((sizes_of t).updates + 1) mark_width s (omega arith) refl mark_of i (omega arith))
 
-  pub region-stored : (u : List ℕ) (r : RegionCapa) → a ≡ region_place t i → u ≡ stored t a (region_words r) → Left u (with_region (view t) i r)
+  pub region-stored : (r : RegionCapa) → Left (stored t (region_place t i) (region_words r)) (with_region (view t) i r)
   unfolding view of_parts cuts with_region with_regions
-  region-stored u r e eu =
-      let q = row-replaced t (regions_section - 1) (sizes_of t).regions region_width s (omega arith) refl region_of u (region_words r) i refl (omega arith) (rw e at eu) in
+  region-stored r =
+      let u = stored t (region_place t i) (region_words r) in
+      let q = row-replaced t (regions_section - 1) (sizes_of t).regions region_width s (omega arith) refl region_of u (region_words r) i refl (omega arith) refl in
       only-left t u regions_section (with_region (view t) i r) s q.0 (ap (with_regions (view t)) q.1)
 
-  pub record-stored : (u : List ℕ) (r : Region) → a ≡ record_place t i → u ≡ stored t a (record_words r) → Left u (with_record (view t) i r)
+  pub record-stored : (r : Region) → Left (stored t (record_place t i) (record_words r)) (with_record (view t) i r)
   unfolding view of_parts cuts with_record with_records
-  record-stored u r e eu =
-      let q = row-replaced t (records_section - 1) (sizes_of t).records record_width s (omega arith) refl record_of u (record_words r) i refl (omega arith) (rw e at eu) in
+  record-stored r =
+      let u = stored t (record_place t i) (record_words r) in
+      let q = row-replaced t (records_section - 1) (sizes_of t).records record_width s (omega arith) refl record_of u (record_words r) i refl (omega arith) refl in
       only-left t u records_section (with_record (view t) i r) s q.0 (ap (with_records (view t)) q.1)
 
-  pub update-stored : (u : List ℕ) (x : Update) → a ≡ update_place t i → u ≡ stored t a (update_words x) → Left u (with_update (view t) i x)
+  pub update-stored : (x : Update) → Left (stored t (update_place t i) (update_words x)) (with_update (view t) i x)
   unfolding view of_parts cuts with_update with_ring
-  update-stored u x e eu =
-      let q = row-replaced t (ring_section - 1) ((sizes_of t).updates + 1) update_width s (omega arith) refl update_of u (update_words x) i refl (omega arith) (rw e at eu) in
+  update-stored x =
+      let u = stored t (update_place t i) (update_words x) in
+      let q = row-replaced t (ring_section - 1) ((sizes_of t).updates + 1) update_width s (omega arith) refl update_of u (update_words x) i refl (omega arith) refl in
       only-left t u ring_section (with_update (view t) i x) s q.0 (ap (with_ring (view t)) q.1)
 
-  pub hash-stored : (u : List ℕ) (h : RegionHash) → a ≡ hash_place t i → u ≡ stored t a (hash_words h) → Left u (with_hash (view t) i h)
+  pub hash-stored : (h : RegionHash) → Left (stored t (hash_place t i) (hash_words h)) (with_hash (view t) i h)
   unfolding view of_parts cuts with_hash with_hashes
-  hash-stored u h e eu =
-      let q = row-replaced t (hash_section - 1) (sizes_of t).regions hash_width s (omega arith) refl hash_of u (hash_words h) i refl (omega arith) (rw e at eu) in
+  hash-stored h =
+      let u = stored t (hash_place t i) (hash_words h) in
+      let q = row-replaced t (hash_section - 1) (sizes_of t).regions hash_width s (omega arith) refl hash_of u (hash_words h) i refl (omega arith) refl in
       only-left t u hash_section (with_hash (view t) i h) s q.0 (ap (with_hashes (view t)) q.1)
 
-  pub interface-stored : (u : List ℕ) (x : Interface) → a ≡ interface_place t i → u ≡ stored t a (interface_words x) → Left u (with_interface (view t) i x)
+  pub interface-stored : (x : Interface) → Left (stored t (interface_place t i) (interface_words x)) (with_interface (view t) i x)
   unfolding view of_parts cuts with_interface with_interfaces
-  interface-stored u x e eu =
-      let q = row-replaced t (interface_section - 1) (sizes_of t).domains interface_width s (omega arith) refl interface_of u (interface_words x) i refl (omega arith) (rw e at eu) in
+  interface-stored x =
+      let u = stored t (interface_place t i) (interface_words x) in
+      let q = row-replaced t (interface_section - 1) (sizes_of t).domains interface_width s (omega arith) refl interface_of u (interface_words x) i refl (omega arith) refl in
       only-left t u interface_section (with_interface (view t) i x) s q.0 (ap (with_interfaces (view t)) q.1)
 
-  pub mark-stored : (u : List ℕ) (m : ℕ) → a ≡ mark_place t i → u ≡ set t a m → Left u (with_mark (view t) i m)
+  pub mark-stored : (a : ℕ) (u : List ℕ) (m : ℕ) → a ≡ mark_place t i → u ≡ set t a m → Left u (with_mark (view t) i m)
   unfolding view of_parts cuts with_mark with_marks
-  mark-stored u m e eu =
+  mark-stored a u m e eu =
       let q = row-replaced t (mark_section - 1) ((sizes_of t).updates + 1) mark_width s (omega arith) refl mark_of u (mark_words m) i refl (omega arith) (rw e at (eu ∙ word-stored t a m)) in
       only-left t u mark_section (with_mark (view t) i m) s q.0 (ap (with_marks (view t)) q.1)

@@ -90,7 +90,7 @@ slots-many t i =
       | ge h ↦ rw (no-domain t i h) (omega arith)
     ]
 
-module _ (t : List ℕ) (s : Sized t) (i a : ℕ) where
+module _ (t : List ℕ) (s : Sized t) (i : ℕ) where
   domain-long : i < (sizes_of t).domains → length (domain_part t i) ≡ stride (sizes_of t)
   domain-long h =
       length_part (section t domains_section) (i * stride (sizes_of t)) (stride (sizes_of t)) (omega (arith, section-length t domains_section s, mul-le-mul_right (stride (sizes_of t)) h))
@@ -112,12 +112,12 @@ module _ (t : List ℕ) (s : Sized t) (i a : ℕ) where
         | ge h ↦ ap head_of (out-domain 0 5 h (omega arith)) ∙ sym (ap (λ (x : Domain). x.head) (no-domain t i h))
       ]
 
-  pub head-loaded : (p : List ℕ) → a ≡ domain_place t i → p ≡ fetched t a head_width → head_of p ≡ head_at (view t) i
-  head-loaded p e ep = let z : a ≡ domain_place t i + 0 = omega arith in rw (ep, z) head-fetched
+  pub head-loaded : head_of (fetched t (domain_place t i) head_width) ≡ head_at (view t) i
+  head-loaded = let z : domain_place t i ≡ domain_place t i + 0 = omega arith in rw z head-fetched
 
-  pub slot-loaded : (j : ℕ) (p : List ℕ) → a ≡ slot_place t i j → p ≡ fetched t a slot_width → slot_of p ≡ slot_at (view t) i j
+  pub slot-loaded : (a j : ℕ) (p : List ℕ) → a ≡ slot_place t i j → p ≡ fetched t a slot_width → slot_of p ≡ slot_at (view t) i j
   unfolding slot_at
-  slot-loaded j p e ep =
+  slot-loaded a j p e ep =
       elim (cmp j (sizes_of t).slots) [
         | lt hj ↦
             let z : a ≡ domain_place t i + (5 + j * 3) = e ∙ rw (lt-ltb j (sizes_of t).slots hj) in
@@ -141,15 +141,15 @@ module _ (t : List ℕ) (s : Sized t) (i a : ℕ) where
       let e = set_when (rows (stride (sizes_of t)) n f (section t domains_section)) i (f (sets (domain_part t i) j vs)) x (λ h. ex (rw length-rows at h)) in
       only-left t u domains_section (with_domains (view t) (set (view t).domains i x)) s q.0 (ap (with_domains (view t)) (q.1 ∙ e))
 
-  pub head-stored : (u : List ℕ) (h : DomainHead) → a ≡ domain_place t i → u ≡ stored t a (head_words h) → Left u (with_head (view t) i h)
+  pub head-stored : (h : DomainHead) → Left (stored t (domain_place t i) (head_words h)) (with_head (view t) i h)
   unfolding with_head
-  head-stored u h e eu =
-      let z : a ≡ domain_place t i + 0 = omega arith in
-      domain-stored u (head_words h) 0 (put_head (get_or (view t).domains i no_domain) h) (omega arith) (omega arith) (rw z at eu)
+  head-stored h =
+      let z : domain_place t i ≡ domain_place t i + 0 = omega arith in
+      domain-stored (stored t (domain_place t i) (head_words h)) (head_words h) 0 (put_head (get_or (view t).domains i no_domain) h) (omega arith) (omega arith) (ap (λ (a : ℕ). stored t a (head_words h)) z)
       (λ q. rw (domain-at t i q) (put-head (sizes_of t).slots (domain_part t i) h (domain-long q)))
 
   -- w words for each domain, by the sizes z
-  module _ (z : Sizes) (w : ℕ) (ez : z ≡ sizes_of t) (ew : w ≡ stride z) where
+  module _ (a : ℕ) (z : Sizes) (w : ℕ) (ez : z ≡ sizes_of t) (ew : w ≡ stride z) where
     wide : w ≡ stride (sizes_of t)
     wide = ew ∙ ap stride ez
 

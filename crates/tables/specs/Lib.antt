@@ -10,3 +10,4 @@ pub mod Accessors
 pub mod Domains
 pub mod Header
 pub mod Layout
+pub mod Zero

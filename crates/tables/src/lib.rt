@@ -1,24 +1,23 @@
 // The engine's tables in lent words: the records, which crates of their own load and store by their numbers.
-// docs/TABLES.md has the layout; a record that is not there is all zero, and is not stored.
+// docs/TABLES.md has the layout; a record that is not there is all zero, and is not stored. That words are as many as their header asks (`Sized`) is asked
+// at each call and held by no type: a struct with the caller's `&mut` owes in each contract that it keeps the borrow.
 
 #![tactic(auto)]
-
-ghost use Rattle.std.specs.Prelude.{◌≡◌};
-ghost use Rattle.tables.specs.Tables.{no_head, no_slot, no_region, no_record, no_update, no_hash, no_interface};
 
 pub mod links;
 pub mod rows;
 
 pub use links::{link_to, slot_to};
 
-#[derive(Clone, Copy)]
+#[derive(Clone, Copy, PartialEq, Eq, Default)]
 pub struct Handle {
     pub slot: u64,
     pub generation: u64,
 }
 
-// A slot of a domain's list. A free one has the free slot after it as its handle's slot.
-#[derive(Clone, Copy)]
+// A slot of a domain's list. A free one has the free slot after it as its handle's slot. A kind, here and below, is a word and no enum: the tables may
+// hold any word, and what is loaded is stored back as it was.
+#[derive(Clone, Copy, PartialEq, Eq, Default)]
 pub struct Slot {
     pub kind: u64,
     pub handle: Handle,
@@ -39,7 +38,7 @@ impl Slot {
 }
 
 // A domain but for its slots: links to its manager and its first tracker record, and its list's head and count.
-#[derive(Clone, Copy)]
+#[derive(Clone, Copy, PartialEq, Eq, Default)]
 pub struct DomainHead {
     pub manager: u64,
     pub cores: u64,
@@ -56,7 +55,7 @@ impl DomainHead {
 }
 
 // A region; owner, parent, first child and next sibling are links.
-#[derive(Clone, Copy)]
+#[derive(Clone, Copy, PartialEq, Eq, Default)]
 pub struct RegionCapa {
     pub kind: u64,
     pub owner: u64,
@@ -77,7 +76,7 @@ impl RegionCapa {
 }
 
 // A tracker record.
-#[derive(Clone, Copy)]
+#[derive(Clone, Copy, PartialEq, Eq, Default)]
 pub struct Region {
     pub start: u64,
     pub end: u64,
@@ -91,7 +90,7 @@ pub struct Region {
 }
 
 // A place of the ring.
-#[derive(Clone, Copy)]
+#[derive(Clone, Copy, PartialEq, Eq, Default)]
 pub struct Update {
     pub kind: u64,
     pub a: u64,
@@ -108,7 +107,7 @@ impl Update {
 }
 
 // The 32 bytes of a hash, byte 0 lowest in the first word.
-#[derive(Clone, Copy)]
+#[derive(Clone, Copy, PartialEq, Eq, Default)]
 pub struct Hash {
     pub word0: u64,
     pub word1: u64,
@@ -117,7 +116,7 @@ pub struct Hash {
 }
 
 // What is stored of a region's hash: whether one was given, 1 or 0, and its words.
-#[derive(Clone, Copy)]
+#[derive(Clone, Copy, PartialEq, Eq, Default)]
 pub struct RegionHash {
     pub given: u64,
     pub word0: u64,
@@ -128,7 +127,7 @@ pub struct RegionHash {
 
 // What a domain may do (document 02, request 2): a word of the bits below, of which any other may be set too, and whether
 // it is frozen, 1 or 0.
-#[derive(Clone, Copy)]
+#[derive(Clone, Copy, PartialEq, Eq, Default)]
 pub struct Interface {
     pub word: u64,
     pub frozen: u64,
@@ -143,88 +142,4 @@ impl Interface {
 
     // The word that a domain opens with: all three.
     pub const OPEN: u64 = Interface::SEND + Interface::ALIAS + Interface::CARVE;
-}
-
-// ---- The records that are all zero
-
-pub fn no_head() -> DomainHead
-    ensures { result ≡ no_head }
-{
-    DomainHead {
-        manager: 0,
-        cores: 0,
-        tracker: 0,
-        head: 0,
-        count: 0,
-    }
-}
-
-pub fn no_slot() -> Slot
-    ensures { result ≡ no_slot }
-{
-    let handle = Handle {
-        slot: 0,
-        generation: 0,
-    };
-    Slot { kind: 0, handle }
-}
-
-pub fn no_region() -> RegionCapa
-    ensures { result ≡ no_region }
-{
-    RegionCapa {
-        kind: 0,
-        owner: 0,
-        parent: 0,
-        start: 0,
-        end: 0,
-        rights: 0,
-        child: 0,
-        next: 0,
-    }
-}
-
-pub fn no_record() -> Region
-    ensures { result ≡ no_record }
-{
-    Region {
-        start: 0,
-        end: 0,
-        ref_count: 0,
-        read_count: 0,
-        write_count: 0,
-        exec_count: 0,
-        super_count: 0,
-        uncache_count: 0,
-        next: 0,
-    }
-}
-
-pub fn no_update() -> Update
-    ensures { result ≡ no_update }
-{
-    Update {
-        kind: 0,
-        a: 0,
-        b: 0,
-        c: 0,
-    }
-}
-
-pub fn no_hash() -> RegionHash
-    ensures { result ≡ no_hash }
-{
-    RegionHash {
-        given: 0,
-        word0: 0,
-        word1: 0,
-        word2: 0,
-        word3: 0,
-    }
-}
-
-pub fn no_interface() -> Interface
-    ensures { result ≡ no_interface }
-{
-    Interface { word: 0, frozen: 0 }
 }

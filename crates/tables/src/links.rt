@@ -6,11 +6,11 @@ ghost use Rattle.tables.specs.Links.{link_to, slot_to};
 pub fn link_to(slot: u64) -> u64
     ensures { result ≡ link_to slot }
 {
-    if slot < u64::MAX { slot + 1 } else { 0 }
+    slot.wrapping_add(1)
 }
 
 pub fn slot_to(link: u64) -> usize
     ensures { result ≡ slot_to link }
 {
-    if 0 < link { (link - 1) as usize } else { 0 }
+    link.saturating_sub(1) as usize
 }

@@ -12,7 +12,7 @@ use Rattle.region.specs.Turns.{Turn, to, over, cut_start, cut_end, merge_at}
 use Rattle.gain_turns.specs.Turns.{fill_turn, raise_turn}
 use Rattle.loss_turns.specs.Turns.{lower_turn}
 use Rattle.walk_cursors.specs.declared.Cursor.{Cursor}
-use Rattle.walk_cursors.specs.declared.Progress.TheVariants.{Going, Over}
+use Rattle.std.proofs.Common.{Continue, Break}
 use Rattle.walk_cursors.specs.Cursors.{next_of}
 use Rattle.tables.specs.Links.{slot_to}
 use Rattle.tracker_records.specs.Links.{first_link}
@@ -23,7 +23,7 @@ use Rattle.tracker_records.specs.Links.{first_link}
 unfoldable pub add_at : Tables → ℕ → AccessRights → Cursor → Region → Turn
 add_at s d a c q =
     pick (ltb c.start q.start) (fill_turn s d a c (pick (ltb q.start a.end) q.start a.end))
-    (pick (leb q.end c.start) (to (Going (next_of c q.next c.start 0)) s)
+    (pick (leb q.end c.start) (to (Continue (next_of c q.next c.start 0)) s)
     (pick (ltb q.start c.start) (cut_start s c)
     (pick (ltb a.end q.end) (cut_end s c a.end) (raise_turn s a c q))))
 
@@ -36,7 +36,7 @@ add_turn s d a c =
 unfoldable pub remove_at : Tables → ℕ → AccessRights → Cursor → Region → Turn
 remove_at s d a c q =
     pick (leb a.end q.start) (over c s)
-    (pick (leb q.end c.start) (to (Going (next_of c q.next c.start 0)) s)
+    (pick (leb q.end c.start) (to (Continue (next_of c q.next c.start 0)) s)
     (pick (ltb q.start c.start) (cut_start s c)
     (pick (ltb a.end q.end) (cut_end s c a.end) (lower_turn s d a c q))))
 
@@ -58,7 +58,7 @@ turn Merge s d a c = merge_turn s c
 -- n turns at most. A walk over linked records needs fewer; 1 where the links go round.
 unfoldable pub walk : Way → ℕ → AccessRights → ℕ → Cursor → Tables → Effect
 walk w d a zero c s = refused memory s
-walk w d a (suc n) c s = elim (turn w s d a c).answer [ Going k ↦ walk w d a n k (turn w s d a c).tables | Over x ↦ record { answer = x; tables = (turn w s d a c).tables } ]
+walk w d a (suc n) c s = elim (turn w s d a c).answer [ Continue k ↦ walk w d a n k (turn w s d a c).tables | Break x ↦ record { answer = x; tables = (turn w s d a c).tables } ]
 
 -- enough for each way: a record has three turns at most
 abbrev pub turns : Tables → ℕ

@@ -12,8 +12,9 @@ ghost use Rattle.tracker.specs.Walks.{walked, add_region, remove_region};
 use answers::Answer;
 use refusals::Refusal;
 use region::{AccessRights, Way};
+use std::ops::ControlFlow;
 use tracker_records::links;
-use walk_cursors::{Cursor, Progress};
+use walk_cursors::Cursor;
 
 // A walk from the first record on. The bound on its turns is met only where links go round.
 fn walk(t: &mut [u64], d: usize, way: Way, a: AccessRights, marks: u64) -> Answer
@@ -21,23 +22,20 @@ fn walk(t: &mut [u64], d: usize, way: Way, a: AccessRights, marks: u64) -> Answe
     ensures value { result ≡ (walked way d a marks (view t.old)).answer }
     ensures left { Left t.new (walked way d a marks (view t.old)).tables }
 {
-    let mut left = 3 * words::size(t, sizes::RECORDS) + 3;
+    let most = 3 * words::size(t, sizes::RECORDS) + 3;
     let mut c = Cursor {
         prev: 0,
         at: links::first(t, d),
         start: a.start,
         marks,
     };
-    while 0 < left {
+    for _ in 0..most {
         match turns::turn(t, d, way, a, c) {
-            Progress::Going(next) => {
-                c = next;
-            }
-            Progress::Over(answer) => return answer,
+            ControlFlow::Continue(next) => c = next,
+            ControlFlow::Break(answer) => return answer,
         }
-        left -= 1;
     }
-    Answer::Refused(Refusal::MEMORY)
+    Err(Refusal::Memory)
 }
 
 // Domain d gains the range; answers the marks of the counts that left or came to 0.
@@ -46,10 +44,8 @@ pub fn add_region(t: &mut [u64], d: usize, a: AccessRights) -> Answer
     ensures value { result ≡ (add_region d a (view t.old)).answer }
     ensures left { Left t.new (add_region d a (view t.old)).tables }
 {
-    match walk(t, d, Way::Add, a, 0) {
-        Answer::Done(marks) => walk(t, d, Way::Merge, a, marks),
-        Answer::Refused(r) => Answer::Refused(r),
-    }
+    let marks = walk(t, d, Way::Add, a, 0)?;
+    walk(t, d, Way::Merge, a, marks)
 }
 
 // Domain d loses the range.
@@ -58,8 +54,6 @@ pub fn remove_region(t: &mut [u64], d: usize, a: AccessRights) -> Answer
     ensures value { result ≡ (remove_region d a (view t.old)).answer }
     ensures left { Left t.new (remove_region d a (view t.old)).tables }
 {
-    match walk(t, d, Way::Remove, a, 0) {
-        Answer::Done(marks) => walk(t, d, Way::Merge, a, marks),
-        Answer::Refused(r) => Answer::Refused(r),
-    }
+    let marks = walk(t, d, Way::Remove, a, 0)?;
+    walk(t, d, Way::Merge, a, marks)
 }

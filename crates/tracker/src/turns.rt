@@ -3,8 +3,8 @@ ghost use Rattle.std.specs.Prelude.{◌≡◌};
 ghost use Rattle.tables.specs.View.{view, Sized, Left};
 ghost use Rattle.tracker.specs.Walks.{add_at, add_turn, remove_at, remove_turn, merge_turn, turn};
 
-use answers::Answer;
 use region::{AccessRights, Way};
+use std::ops::ControlFlow;
 use tables::Region;
 use walk_cursors::{Cursor, Progress};
 
@@ -36,12 +36,12 @@ fn add(t: &mut [u64], d: usize, a: AccessRights, c: Cursor) -> Progress
     ensures left { Left t.new (add_turn (view t.old) d a c).tables }
 {
     if a.end <= c.start {
-        return Progress::Over(Answer::Done(c.marks));
+        return ControlFlow::Break(Ok(c.marks));
     }
     if c.at == 0 {
         return gain_turns::fill(t, d, a, c, a.end);
     }
-    let q = record_rows::load_record(t, tables::slot_to(c.at));
+    let q = rows::load::<Region>(t, tables::slot_to(c.at));
     add_at(t, d, a, c, q)
 }
 
@@ -52,7 +52,7 @@ fn remove_at(t: &mut [u64], d: usize, a: AccessRights, c: Cursor, q: Region) -> 
     ensures left { Left t.new (remove_at (view t.old) d a c q).tables }
 {
     if a.end <= q.start {
-        return Progress::Over(Answer::Done(c.marks));
+        return ControlFlow::Break(Ok(c.marks));
     }
     if q.end <= c.start {
         return walk_cursors::going(c, q.next, c.start, 0);
@@ -73,9 +73,9 @@ fn remove(t: &mut [u64], d: usize, a: AccessRights, c: Cursor) -> Progress
     ensures left { Left t.new (remove_turn (view t.old) d a c).tables }
 {
     if c.at == 0 {
-        return Progress::Over(Answer::Done(c.marks));
+        return ControlFlow::Break(Ok(c.marks));
     }
-    let q = record_rows::load_record(t, tables::slot_to(c.at));
+    let q = rows::load::<Region>(t, tables::slot_to(c.at));
     remove_at(t, d, a, c, q)
 }
 
@@ -86,13 +86,13 @@ fn merge(t: &mut [u64], c: Cursor) -> Progress
     ensures left { Left t.new (merge_turn (view t.old) c).tables }
 {
     if c.at == 0 {
-        return Progress::Over(Answer::Done(c.marks));
+        return ControlFlow::Break(Ok(c.marks));
     }
-    let q = record_rows::load_record(t, tables::slot_to(c.at));
+    let q = rows::load::<Region>(t, tables::slot_to(c.at));
     if q.next == 0 {
-        return Progress::Over(Answer::Done(c.marks));
+        return ControlFlow::Break(Ok(c.marks));
     }
-    let n = record_rows::load_record(t, tables::slot_to(q.next));
+    let n = rows::load::<Region>(t, tables::slot_to(q.next));
     region::turns::merge_at(t, c, q, n)
 }
 

@@ -1,21 +1,16 @@
 -- The links of a domain's records: one more, one cut in two, one less.
-use Rattle.std.specs.Prelude.{Bool, ℕ, eqb}
+use Rattle.std.specs.Prelude.{ℕ, eqb, Option, Some, None, Ok, Err}
 use Rattle.base.specs.Cases.{pick}
 use Rattle.tables.specs.declared.Region.{Region}
 use Rattle.tables.specs.declared.DomainHead.{DomainHead}
 use Rattle.tables.specs.Links.{link_to, slot_to}
 use Rattle.tables.specs.Tables.{Tables, head_at, record_at, with_head, with_record, with_record_pool}
-use Rattle.arena.specs.declared.Given.{Given}
-use Rattle.arena.specs.declared.Given.TheVariants.{At, Full}
-use Rattle.arena.specs.declared.Freed.{Freed}
-use Rattle.arena.specs.declared.Freed.TheVariants as freed
-use Rattle.arena.specs.Arena.{given, allocated, answer_to}
+use Rattle.tables.specs.declared.Handle.{Handle}
+use Rattle.arena.specs.Arena.{Freed, given, allocated, answer_to}
 use Rattle.pools.specs.declared.Pool.TheVariants.{Records}
 use Rattle.pools.specs.Wiping.{slot_freed}
-use Rattle.answers.specs.declared.Answer.{Answer}
-use Rattle.answers.specs.declared.Answer.TheVariants.{Done, Refused}
-use Rattle.refusals.specs.Refusals.{memory, no_tracker, spent}
-use Rattle.answers.specs.Answers.{Effect, done, refused}
+use Rattle.answers.specs.Answers.{Answer, Effect, done, refused}
+use Rattle.refusals.specs.Refusals.{no_tracker}
 
 -- another end and another link; another start
 abbrev pub with_end : Region → ℕ → ℕ → Region
@@ -43,28 +38,28 @@ with_next s d prev k =
 abbrev pub taken : Tables → Tables
 taken s = with_record_pool s (allocated s.record_pool)
 
-abbrev inserted_at : Tables → ℕ → ℕ → Region → Given → Effect
-inserted_at s d prev q (At h) = done (link_to h.slot) (with_next (with_record (taken s) h.slot q) d prev (link_to h.slot))
-inserted_at s d prev q Full = refused no_tracker (taken s)
+abbrev inserted_at : Tables → ℕ → ℕ → Region → Option Handle → Effect
+inserted_at s d prev q (Some h) = done (link_to h.slot) (with_next (with_record (taken s) h.slot q) d prev (link_to h.slot))
+inserted_at s d prev q None = refused no_tracker (taken s)
 
 -- record q in a slot of its own behind prev; the answer is its link
 unfoldable pub inserted : Tables → ℕ → ℕ → Region → Effect
 inserted s d prev q = inserted_at s d prev q (given s.record_pool)
 
-abbrev split_at : Tables → ℕ → ℕ → Given → Effect
-split_at s i a (At h) =
+abbrev split_at : Tables → ℕ → ℕ → Option Handle → Effect
+split_at s i a (Some h) =
     let q = record_at (taken s) i in
     done (link_to h.slot) (with_record (with_record (taken s) h.slot (with_start q a)) i (with_end q a (link_to h.slot)))
-split_at s i a Full = refused no_tracker (taken s)
+split_at s i a None = refused no_tracker (taken s)
 
 -- record i is cut in two at a; the answer is the right half's link (the model's split_at)
 unfoldable pub split : Tables → ℕ → ℕ → Effect
 split s i a = split_at s i a (given s.record_pool)
 
+-- what freeing a slot answers, as the answer of a step
 abbrev pub freed_answer : Freed → Answer
-freed_answer freed.Done = Done 0
-freed_answer freed.Spent = Refused spent
-freed_answer freed.NotHeld = Refused memory
+freed_answer (Ok u) = Ok 0
+freed_answer (Err r) = Err r
 
 -- record i is freed and wiped
 unfoldable pub freed_record : Tables → ℕ → Effect

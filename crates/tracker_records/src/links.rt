@@ -4,16 +4,16 @@ ghost use Rattle.tables.specs.View.{view, Sized, Left};
 ghost use Rattle.tracker_records.specs.Links.{with_end, with_next, first_link, inserted, split, freed_record};
 
 use answers::Answer;
-use arena::{Freed, Given};
+use pools::Pool;
 use refusals::Refusal;
-use tables::Region;
+use tables::{DomainHead, Region};
 
 // The link of domain d's first record.
 pub fn first(t: &[u64], d: usize) -> u64
     requires { Sized t.now }
     ensures { result ≡ first_link (view t.now) d }
 {
-    let h = domain_rows::load_head(t, d);
+    let h = rows::load::<DomainHead>(t, d);
     h.tracker
 }
 
@@ -33,13 +33,13 @@ pub fn set_next(t: &mut [u64], d: usize, prev: u64, next: u64)
     ensures { Left t.new (with_next (view t.old) d prev next) }
 {
     if prev == 0 {
-        let mut h = domain_rows::load_head(t, d);
+        let mut h = rows::load::<DomainHead>(t, d);
         h.tracker = next;
-        domain_rows::store_head(t, d, h);
+        rows::store(t, d, h);
     } else {
         let i = tables::slot_to(prev);
-        let q = record_rows::load_record(t, i);
-        record_rows::store_record(t, i, bounded(q, q.end, next));
+        let q = rows::load::<Region>(t, i);
+        rows::store(t, i, bounded(q, q.end, next));
     }
 }
 
@@ -49,15 +49,11 @@ pub fn insert(t: &mut [u64], d: usize, prev: u64, q: Region) -> Answer
     ensures value { result ≡ (inserted (view t.old) d prev q).answer }
     ensures left { Left t.new (inserted (view t.old) d prev q).tables }
 {
-    match pools::allocate_record(t) {
-        Given::At(h) => {
-            record_rows::store_record(t, h.slot as usize, q);
-            let link = tables::link_to(h.slot);
-            set_next(t, d, prev, link);
-            Answer::Done(link)
-        }
-        Given::Full => Answer::Refused(Refusal::NO_TRACKER),
-    }
+    let h = pools::allocate(t, Pool::Records).ok_or(Refusal::NoTracker)?;
+    rows::store(t, h.slot as usize, q);
+    let link = tables::link_to(h.slot);
+    set_next(t, d, prev, link);
+    Ok(link)
 }
 
 // Record i is cut in two at address a: the right half takes a new slot (`split_region_at`). Answers the right half's link.
@@ -66,18 +62,14 @@ pub fn split_region_at(t: &mut [u64], i: usize, a: u64) -> Answer
     ensures value { result ≡ (split (view t.old) i a).answer }
     ensures left { Left t.new (split (view t.old) i a).tables }
 {
-    match pools::allocate_record(t) {
-        Given::At(h) => {
-            let q = record_rows::load_record(t, i);
-            let mut right = q;
-            right.start = a;
-            record_rows::store_record(t, h.slot as usize, right);
-            let link = tables::link_to(h.slot);
-            record_rows::store_record(t, i, bounded(q, a, link));
-            Answer::Done(link)
-        }
-        Given::Full => Answer::Refused(Refusal::NO_TRACKER),
-    }
+    let h = pools::allocate(t, Pool::Records).ok_or(Refusal::NoTracker)?;
+    let q = rows::load::<Region>(t, i);
+    let mut right = q;
+    right.start = a;
+    rows::store(t, h.slot as usize, right);
+    let link = tables::link_to(h.slot);
+    rows::store(t, i, bounded(q, a, link));
+    Ok(link)
 }
 
 // Frees record i, to which no link leads any more; 16 where its generation is spent.
@@ -86,9 +78,6 @@ pub fn free(t: &mut [u64], i: usize) -> Answer
     ensures value { result ≡ (freed_record (view t.old) i).answer }
     ensures left { Left t.new (freed_record (view t.old) i).tables }
 {
-    match pools::free_record(t, i) {
-        Freed::Done => Answer::Done(0),
-        Freed::Spent => Answer::Refused(Refusal::SPENT),
-        Freed::NotHeld => Answer::Refused(Refusal::MEMORY),
-    }
+    pools::free(t, Pool::Records, i)?;
+    Ok(0)
 }

@@ -1,5 +1,5 @@
 -- What a step can change of the ring: one place, and the read or the write place. Only that is stored.
-use Rattle.std.specs.Prelude.{ℕ, ◌≤◌, ◌≡◌, Bool, true, false, List, length, set}
+use Rattle.std.specs.Prelude.{ℕ, ◌≤◌, ◌≡◌, Bool, true, false, List, length, set, Some, None}
 use Rattle.std.proofs.Common.{sym, ap, ◌∙◌, arith, lt-ltb, set-set}
 use Rattle.std.proofs.Math.ListN.{get_or}
 use Rattle.std.proofs.Math.Seq.{set_out}
@@ -9,9 +9,7 @@ use Rattle.tables.specs.Tables.{with_ring, with_marks, with_places, with_update,
 use Rattle.tables.specs.View.{view, Sized, Left}
 use Rattle.ring.specs.declared.Entry.{Entry}
 use Rattle.ring.specs.declared.Ring.{Ring}
-use Rattle.ring.specs.declared.PushOut.{PushOut}
-use Rattle.ring.specs.declared.PopOut.{PopOut}
-use Rattle.ring.specs.Ring.{cap, no_entry, room_b, put_in, push_of, permission_of, some_b, take_out, pop_of}
+use Rattle.ring.specs.Ring.{PushOut, PopOut, cap, no_entry, room_b, put_in, push_of, permission_of, some_b, take_out, pop_of}
 use Rattle.ring_search.specs.Queueing.{place_of, gathered, found_b, queue_of}
 use Rattle.ring_search.specs.Search.{place-missed}
 use Rattle.stored_ring.specs.Fitted.{fitted, length-fitted}
@@ -52,8 +50,8 @@ module _ (r : Ring) where
   pub pop-at : ButAt r.read r (pop_of r).ring
   unfolding pop_of
   pop-at =
-      either (λ (o : PopOut). o.ring) (some_b r) (record { item = record { got = true; entry = get_or r.places r.read no_entry }; ring = take_out r })
-      (record { item = record { got = false; entry = no_entry }; ring = r }) r.read r (set-got r.places r.read no_entry) (sym (set-get_or r.places r.read no_entry))
+      either (λ (o : PopOut). o.ring) (some_b r) (record { item = Some (get_or r.places r.read no_entry); ring = take_out r })
+      (record { item = None; ring = r }) r.read r (set-got r.places r.read no_entry) (sym (set-get_or r.places r.read no_entry))
 
 -- ---- in the tables
 

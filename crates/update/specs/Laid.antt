@@ -1,5 +1,5 @@
 -- The ring of the tables as a queue, and what each step on the tables leaves of it.
-use Rattle.std.specs.Prelude.{ℕ, ◌+◌, ◌-◌, ◌%◌, ◌<◌, ◌≤◌, ◌≡◌, true, false, List, [], ◌∷◌, ◌++◌, length, get_or}
+use Rattle.std.specs.Prelude.{ℕ, ◌+◌, ◌-◌, ◌%◌, ◌<◌, ◌≤◌, ◌≡◌, true, false, List, [], ◌∷◌, ◌++◌, length, get_or, Some, None}
 use Rattle.std.proofs.Math.Path.{ap}
 use Rattle.std.proofs.Common.{◌∙◌, arith}
 use Rattle.std.proofs.lemmas.List.{length-map}
@@ -8,9 +8,7 @@ use Rattle.base.specs.Cases.{cmp, lt, ge}
 use Rattle.tables.specs.Tables.{Tables, no_update, with_ring, with_marks, with_places}
 use Rattle.ring.specs.declared.Entry.{Entry}
 use Rattle.ring.specs.declared.Ring.{Ring}
-use Rattle.ring.specs.declared.PushOut.{PushOut}
-use Rattle.ring.specs.declared.PopOut.{PopOut}
-use Rattle.ring.specs.Ring.{cap, no_entry, push_of, pop_of, permission_of}
+use Rattle.ring.specs.Ring.{PushOut, PopOut, cap, no_entry, push_of, pop_of, permission_of}
 use Rattle.ring_search.specs.Queueing.{queue_of}
 use Rattle.stored_ring.specs.Fitted.{fitted, length-fitted, get_or-fitted, fitted-back}
 use Rattle.stored_ring.specs.Stored.{entries, updates_of, marks_of, ring_of, with_ring_of, length-entries, get_or-entries, entries-updates, entries-marks}
@@ -118,14 +116,14 @@ module _ (s : Tables) (first : ℕ) (items : List Entry) (l : Laid s first items
   new-laid d g c m h = queue-new (ring_of s) first items (laid-queues s first items l) d g c m h
 
 -- "Pop of an empty ring answers none."
-pub empty-laid : (s : Tables) (first : ℕ) → Laid s first [] → ((pop_of (ring_of s)).item ≡ record { got = false; entry = no_entry }) × (with_ring_of s (pop_of (ring_of s)).ring ≡ s)
+pub empty-laid : (s : Tables) (first : ℕ) → Laid s first [] → ((pop_of (ring_of s)).item ≡ None) × (with_ring_of s (pop_of (ring_of s)).ring ≡ s)
 empty-laid s first l =
     let e = pop-empty (ring_of s) first (laid-queues s first [] l) in
     (ap (λ (o : PopOut). o.item) e, ap (λ (o : PopOut). with_ring_of s o.ring) e ∙ same s first [] l)
 
 -- the oldest entry leaves
 pub pop-laid : (s : Tables) (first : ℕ) (u : Entry) (us : List Entry) → Laid s first (u ∷ us)
-    → ((pop_of (ring_of s)).item ≡ record { got = true; entry = u }) × Laid (with_ring_of s (pop_of (ring_of s)).ring) ((first + 1) % (s.sizes.updates + 1)) us
+    → ((pop_of (ring_of s)).item ≡ Some u) × Laid (with_ring_of s (pop_of (ring_of s)).ring) ((first + 1) % (s.sizes.updates + 1)) us
 unfolding ring_of
 pop-laid s first u us l =
     let (item, q) = pop-takes (ring_of s) first u us (laid-queues s first (u ∷ us) l) in

@@ -8,43 +8,43 @@ ghost use Rattle.ring.specs.Ring.{cleanup_of, push_of, pop_of};
 ghost use Rattle.ring_search.specs.Queueing.{queue_of};
 ghost use Rattle.stored_ring.specs.Stored.{ring_of, with_ring_of};
 
-use ring::{Item, cleanup};
+use ring::{Entry, cleanup};
 
 // Queues the domain with its core map and marks, or gathers the marks where it is queued already; false where there is no room.
 pub fn queue_domain(t: &mut [u64], slot: u64, generation: u64, cores: u64, marks: u64) -> bool
     requires { Sized t.old }
-    ensures { (result ≡ (queue_of (ring_of (view t.old)) slot generation cores marks).ok)
-        × Left t.new (with_ring_of (view t.old) (queue_of (ring_of (view t.old)) slot generation cores marks).ring) }
+    ensures value { result ≡ (queue_of (ring_of (view t.old)) slot generation cores marks).ok }
+    ensures left { Left t.new (with_ring_of (view t.old) (queue_of (ring_of (view t.old)) slot generation cores marks).ring) }
 {
-    let ring = stored_ring::load_ring(t);
-    let at = ring_search::place_of(ring, slot, generation);
-    let p = lent_ring::queue_lent(ring, slot, generation, cores, marks);
-    stored_ring::store_place(t, at, p.ring);
-    p.ok
+    let mut ring = stored_ring::load_ring(t);
+    let at = ring_search::place_of(&ring, slot, generation);
+    let ok = ring_search::queue(&mut ring, slot, generation, cores, marks);
+    stored_ring::store_place(t, at, &ring);
+    ok
 }
 
 // Queues start and end for cleanup; false where the ring is full.
 pub fn push_cleanup(t: &mut [u64], start: u64, end: u64) -> bool
     requires { Sized t.old }
-    ensures { (result ≡ (push_of (ring_of (view t.old)) (cleanup_of start end)).ok)
-        × Left t.new (with_ring_of (view t.old) (push_of (ring_of (view t.old)) (cleanup_of start end)).ring) }
+    ensures value { result ≡ (push_of (ring_of (view t.old)) (cleanup_of start end)).ok }
+    ensures left { Left t.new (with_ring_of (view t.old) (push_of (ring_of (view t.old)) (cleanup_of start end)).ring) }
 {
-    let ring = stored_ring::load_ring(t);
+    let mut ring = stored_ring::load_ring(t);
     let at = ring.write;
-    let p = lent_ring::push_lent(ring, cleanup(start, end));
-    stored_ring::store_place(t, at, p.ring);
-    p.ok
+    let ok = ring.push(cleanup(start, end));
+    stored_ring::store_place(t, at, &ring);
+    ok
 }
 
 // Pop of an empty ring answers none.
-pub fn pop_update(t: &mut [u64]) -> Item
+pub fn pop_update(t: &mut [u64]) -> Option<Entry>
     requires { Sized t.old }
-    ensures { (result ≡ (pop_of (ring_of (view t.old))).item)
-        × Left t.new (with_ring_of (view t.old) (pop_of (ring_of (view t.old))).ring) }
+    ensures value { result ≡ (pop_of (ring_of (view t.old))).item }
+    ensures left { Left t.new (with_ring_of (view t.old) (pop_of (ring_of (view t.old))).ring) }
 {
-    let ring = stored_ring::load_ring(t);
+    let mut ring = stored_ring::load_ring(t);
     let at = ring.read;
-    let p = lent_ring::pop_lent(ring);
-    stored_ring::store_place(t, at, p.ring);
-    p.item
+    let item = ring.pop();
+    stored_ring::store_place(t, at, &ring);
+    item
 }

@@ -1,7 +1,13 @@
 -- Where a walk over a domain's records goes on.
 use Rattle.std.specs.Prelude.{ℕ}
 use Rattle.std.specs.Int.Bits.{bit_or}
+use Rattle.std.specs.declared.ops.ControlFlow.{ControlFlow}
+use Rattle.answers.specs.Answers.{Answer}
 use Rattle.walk_cursors.specs.declared.Cursor.{Cursor}
+
+-- what one turn of a walk comes to: it goes on from a cursor, or is over with the walk's answer
+abbrev pub Progress : Type 0
+Progress = ControlFlow Answer Cursor
 
 -- further marks
 abbrev pub noted : Cursor → ℕ → ℕ

@@ -3,10 +3,11 @@
 #![tactic(auto)]
 
 ghost use Rattle.std.specs.Prelude.{◌≡◌};
-ghost use Rattle.walk_cursors.specs.declared.Progress.TheVariants.{Going};
+ghost use Rattle.std.proofs.Common.{Continue};
 ghost use Rattle.walk_cursors.specs.Cursors.{next_of, dropped_of};
 
 use answers::Answer;
+use std::ops::ControlFlow;
 
 // Where a walk is: the links of the record before and of the record at hand, the address from which the range is still to be
 // done, and the marks of the counts that left or came to 0 so far (`PermissionChange`; document 02, request 4).
@@ -18,18 +19,14 @@ pub struct Cursor {
     pub marks: u64,
 }
 
-// What one turn of a walk comes to.
-#[derive(Clone, Copy)]
-pub enum Progress {
-    Going(Cursor),
-    Over(Answer),
-}
+// What one turn of a walk comes to: it goes on from a cursor, or is over with the walk's answer.
+pub type Progress = ControlFlow<Answer, Cursor>;
 
 // On to the record behind the one at hand, with the range done up to `start`.
 pub fn going(c: Cursor, next: u64, start: u64, marks: u64) -> Progress
-    ensures { result ≡ Going (next_of c next start marks) }
+    ensures { result ≡ Continue (next_of c next start marks) }
 {
-    Progress::Going(Cursor {
+    ControlFlow::Continue(Cursor {
         prev: c.at,
         at: next,
         start,
@@ -39,9 +36,9 @@ pub fn going(c: Cursor, next: u64, start: u64, marks: u64) -> Progress
 
 // The record at hand is gone.
 pub fn dropped(c: Cursor, next: u64, marks: u64) -> Progress
-    ensures { result ≡ Going (dropped_of c next marks) }
+    ensures { result ≡ Continue (dropped_of c next marks) }
 {
-    Progress::Going(Cursor {
+    ControlFlow::Continue(Cursor {
         prev: c.prev,
         at: next,
         start: c.start,

@@ -3,22 +3,14 @@
 #![tactic(auto)]
 
 ghost use Rattle.std.specs.Prelude.{◌≡◌, length, get_or, set, replicate};
-ghost use Rattle.base.specs.Tests.{both as both_b};
 ghost use Rattle.words.specs.Runs.{fetched, stored};
 ghost use Rattle.words.specs.Copies.{copied};
-
-// Both tests as one value, with no branch for the caller.
-pub fn both(a: bool, b: bool) -> bool
-    ensures { result ≡ both_b a b }
-{
-    if a { b } else { false }
-}
 
 // The word at i, or 0 past the end.
 pub fn word(t: &[u64], i: usize) -> u64
     ensures { result ≡ get_or t.now i 0 }
 {
-    if i < t.len() { t[i] } else { 0 }
+    t.get(i).copied().unwrap_or(0)
 }
 
 // The same as a size.
@@ -41,13 +33,8 @@ pub fn put(t: &mut [u64], i: usize, v: u64)
 pub fn copy(from: &[u64], to: &mut [u64])
     ensures { to.new ≡ copied from.now to.old }
 {
-    let n = from.len();
-    if n == to.len() {
-        let mut i = 0;
-        while i < n {
-            to[i] = from[i];
-            i += 1;
-        }
+    if from.len() == to.len() {
+        to.copy_from_slice(from);
     }
 }
 
@@ -55,25 +42,18 @@ pub fn copy(from: &[u64], to: &mut [u64])
 pub fn clear(t: &mut [u64])
     ensures { t.new ≡ replicate (length t.old) 0 }
 {
-    let n = t.len();
-    let mut i = 0;
-    while i < n {
-        t[i] = 0;
-        i += 1;
-    }
+    t.fill(0);
 }
 
 // The n words from a on; none where they do not all lie in the slice.
-pub fn run<'a>(t: &'a [u64], a: usize, n: usize) -> &'a [u64]
+pub fn run(t: &[u64], a: usize, n: usize) -> &[u64]
     ensures { result.now ≡ fetched t.now a n }
 {
-    if n <= t.len() {
-        if a <= t.len() - n {
-            let e = a + n;
-            return &t[a..e];
-        }
+    if n <= t.len() && a <= t.len() - n {
+        &t[a..a + n]
+    } else {
+        &[]
     }
-    &t[0..0]
 }
 
 // Writes the words vs from a on; nothing where they do not all fit.
@@ -81,10 +61,7 @@ pub fn store(t: &mut [u64], a: usize, vs: &[u64])
     ensures { t.new ≡ stored t.old a vs.now }
 {
     let n = vs.len();
-    if n <= t.len() {
-        if a <= t.len() - n {
-            let e = a + n;
-            copy(vs, &mut t[a..e]);
-        }
+    if n <= t.len() && a <= t.len() - n {
+        t[a..a + n].copy_from_slice(vs);
     }
 }

@@ -2,14 +2,13 @@
 use mathlib.Core.Path.{sym, ap, ◌∙◌}
 use Rattle.tables.specs.Tests.{sized-true}
 use Rattle.bench.specs.Steps.{freed_of, taken, refused}
-use borrow.Author.Rules.{rules}
 use Rattle.bench.proofs.bench_free.Goals as goal
 
-pub free_region-requires : goal.free_region-requires
-free_region-requires c = sized-true _ (sym c.is_sized.ensures ∙ c.if-is_sized.true)
+pub free-requires : goal.free-requires
+free-requires c = sized-true _ (sym c.is_sized.ensures ∙ c.if-is_sized.true)
 
 pub returns-then-is_sized : goal.returns-then-is_sized
-returns-then-is_sized c = taken _ _ c.is_sized.ensures c.if-is_sized.true _ _ (c.freed.ensures ∙ ap freed_of c.free_region.ensures.value) _ _ c.free_region.ensures.left
+returns-then-is_sized c = taken _ _ c.is_sized.ensures c.if-is_sized.true _ _ (c.freed.ensures ∙ ap freed_of c.free.ensures.value) _ _ c.free.ensures.left
 
 pub returns : goal.returns
 returns c = refused _ _ c.is_sized.ensures c.if-is_sized.false _ _

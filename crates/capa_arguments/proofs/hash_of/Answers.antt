@@ -1,6 +1,5 @@
 -- Each word is a number of eight bytes.
-use borrow.Author.Rules.{rules}
 use Rattle.capa_arguments.proofs.hash_of.Goals as goal
 
 pub returns : goal.returns
-returns c = rw (c.eight.ensures, c.eight-2.ensures, c.eight-3.ensures, c.eight-4.ensures)
+returns c = rw (c.number_at.ensures.value, c.number_at-2.ensures.value, c.number_at-3.ensures.value, c.number_at-4.ensures.value)

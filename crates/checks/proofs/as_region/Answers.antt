@@ -1,13 +1,12 @@
 -- By the kind.
-use borrow.Author.Tests.{eq-eqb, ne_eqb}
+use Rattle.std.proofs.Common.{arith, ne_eqb}
 use Rattle.checks.specs.Checks.{as_region}
-use borrow.Author.Rules.{rules}
 use Rattle.checks.proofs.as_region.Goals as goal
 
-pub returns-then-x-eq-REGION : goal.returns-then-x-eq-REGION
+pub returns-in-2 : goal.returns-in-2
 unfolding as_region
-returns-then-x-eq-REGION c = rw (eq-eqb _ _ c.if-x-eq-REGION.true) c.live_region.ensures
+returns-in-2 c = rw c.in-2.is c.live_region.ensures
 
-pub returns : goal.returns
+pub returns-in_default : goal.returns-in_default
 unfolding as_region
-returns c = rw (ne_eqb _ _ c.if-x-eq-REGION.false)
+returns-in_default c = rw (ne_eqb c.args.x.kind 2 (λ e. omega arith))

@@ -1,17 +1,21 @@
 -- By the kind.
-use borrow.Author.Tests.{eq-eqb, ne_eqb}
+use Rattle.std.proofs.Common.{◌≡◌, arith, eq-eqb, ne_eqb}
+use Rattle.base.specs.Cases.{cmp, lt, ge}
 use Rattle.checks.specs.Checks.{as_target}
-use borrow.Author.Rules.{rules}
 use Rattle.checks.proofs.as_target.Goals as goal
 
-pub returns-then-x-eq-MANAGEMENT : goal.returns-then-x-eq-MANAGEMENT
+pub returns-in-4 : goal.returns-in-4
 unfolding as_target
-returns-then-x-eq-MANAGEMENT c = rw (eq-eqb _ _ c.if-x-eq-MANAGEMENT.true) c.live_domain.ensures
+returns-in-4 c =
+    elim (cmp c.args.x.kind 5) [
+      | lt q ↦ let e : c.args.x.kind ≡ 4 = omega arith in rw (eq-eqb c.args.x.kind 4 e) c.live_domain.ensures
+      | ge q ↦ let e : c.args.x.kind ≡ 5 = omega arith in rw (ne_eqb c.args.x.kind 4 (λ z. omega arith), eq-eqb c.args.x.kind 5 e) c.live_domain.ensures
+    ]
 
-pub returns-then-x-eq-CHANNEL : goal.returns-then-x-eq-CHANNEL
+pub returns-in_default : goal.returns-in_default
 unfolding as_target
-returns-then-x-eq-CHANNEL c = rw (ne_eqb _ _ c.if-x-eq-MANAGEMENT.false, eq-eqb _ _ c.if-x-eq-CHANNEL.true) c.live_domain-then-x-eq-CHANNEL.ensures
+returns-in_default c = rw (ne_eqb c.args.x.kind 4 (λ e. omega arith), ne_eqb c.args.x.kind 5 (λ e. omega arith))
 
-pub returns : goal.returns
+pub returns-in_default-2 : goal.returns-in_default-2
 unfolding as_target
-returns c = rw (ne_eqb _ _ c.if-x-eq-MANAGEMENT.false, ne_eqb _ _ c.if-x-eq-CHANNEL.false)
+returns-in_default-2 c = rw (ne_eqb c.args.x.kind 4 (λ e. omega arith), ne_eqb c.args.x.kind 5 (λ e. omega arith))

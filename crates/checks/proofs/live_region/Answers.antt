@@ -1,12 +1,11 @@
 -- By the test.
 use Rattle.checks.specs.Checks.{live_region}
-use borrow.Author.Rules.{rules}
 use Rattle.checks.proofs.live_region.Goals as goal
 
-pub returns-then-region_is_live : goal.returns-then-region_is_live
+pub returns-then-is_live : goal.returns-then-is_live
 unfolding live_region
-returns-then-region_is_live c = rw (← c.region_is_live.ensures, c.if-region_is_live.true)
+returns-then-is_live c = rw (← c.is_live.ensures, c.if-is_live.true)
 
-pub returns-else-region_is_live : goal.returns-else-region_is_live
+pub returns-else-is_live : goal.returns-else-is_live
 unfolding live_region
-returns-else-region_is_live c = rw (← c.region_is_live.ensures, c.if-region_is_live.false)
+returns-else-is_live c = rw (← c.is_live.ensures, c.if-is_live.false)

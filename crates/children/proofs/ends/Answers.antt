@@ -1,6 +1,5 @@
 -- By the search.
 use mathlib.Core.Path.{◌∙◌}
-use borrow.Author.Rules.{rules}
 use Rattle.children.proofs.ends.Goals as goal
 
 pub returns-in-After : goal.returns-in-After

@@ -1,5 +1,4 @@
 -- A remainder by 256 is a byte.
-use borrow.Author.Rules.{rules}
 use native.Mathlib.Omega.{arith}
 use Rattle.children.proofs.rights_of.Goals as goal
 

@@ -1,32 +1,18 @@
--- Row by row.
-use Prim.Native.Nat.{◌-◌}
-use mathlib.Core.Path.{◌≡◌}
-use native.Mathlib.Omega.{arith}
+-- The test of each row, as far as the first that passes.
+use Rattle.std.proofs.Common.{◌-◌, ◌∙◌, refl, rules, tests}
+use Rattle.std.proofs.lemmas.Iterator.{YieldsList-from_range}
+use Rattle.std.proofs.lemmas.Iterator.Search.{any_from_yields_List}
 use Rattle.tables.specs.View.{view}
 use Rattle.tables.specs.Header.{regions-seen}
-use Rattle.closing_checks.specs.Closes.{some_from, root_to_close_b, closes_root_b}
-use Rattle.closing_checks.specs.Steps.{some-start, some-here, some-on, some-none}
-use borrow.Author.Rules.{rules}
+use Rattle.closing_checks.specs.Closes.{root_to_close_b, closes_root_b}
+use Rattle.closing_checks.specs.Steps.{some-start}
+use Rattle.closing_checks.proofs.Any.{any_some}
 use Rattle.closing_checks.proofs.closes_root.Goals as goal
 
-pub loop-i-init : goal.loop-i-init
-unfolding closes_root_b
-loop-i-init c = some-start _ _ _ (regions-seen _ _ c.size-n.ensures)
-
-pub root_to_close-requires : goal.root_to_close-requires
-root_to_close-requires c = c.requires
-
-pub returns-then-root_to_close : goal.returns-then-root_to_close
-returns-then-root_to_close c = some-here _ _ _ _ c.loop-i.invariant _ c.loop-i-test.true c.root_to_close.ensures c.if-root_to_close.true
-
-pub overflow_add-i : goal.overflow_add-i
-overflow_add-i c = omega arith
-
-pub loop-i-smaller : goal.loop-i-smaller
-loop-i-smaller c = omega arith
-
-pub loop-i-preserved : goal.loop-i-preserved
-loop-i-preserved c = some-on _ _ _ _ c.loop-i.invariant _ c.loop-i-test.true c.root_to_close.ensures c.if-root_to_close.false
-
 pub returns : goal.returns
-returns c = some-none _ _ _ _ c.loop-i.invariant c.loop-i-test.false
+unfolding closes_root_b
+returns c =
+    let n = c.size.result in
+    let test = root_to_close_b (view c.args.t.now) c.args.d in
+    any_from_yields_List test _ _ c.any.result c.any.ensures.ran (YieldsList-from_range 0 n (n - 0) refl refl) (λ x b q k. search (rules, tests))
+    ∙ any_some test 0 (n - 0) ∙ some-start test n _ (regions-seen _ _ c.size.ensures)

@@ -1,9 +1,7 @@
 -- The copy; whether it is sized, and the old words as many as they should be; then the marks.
-use mathlib.Core.Path.{refl}
-use borrow.Author.Rules.{rules}
+use mathlib.Core.Path.{refl, ap}
 use Rattle.base.specs.Tests.{true-false}
 use Rattle.converted_words.specs.Fits.{not-sized, is-sized, in-limits, other_length, all-built}
-use mathlib.Core.Path.{ap}
 use mathlib.Core.Bool.{not}
 use Rattle.converted_words.proofs.build.Goals as goal
 
@@ -17,7 +15,7 @@ pub mark_all-requires : goal.mark_all-requires
 mark_all-requires c = is-sized _ _ _ c.store.ensures _ c.is_sized.ensures (ap not c.if-not-is_sized.false)
 
 pub returns-then-old-marks_at : goal.returns-then-old-marks_at
-returns-then-old-marks_at c = let x = all-built _ _ _ c.store.ensures _ c.is_sized.ensures (ap not c.if-not-is_sized.false) _ c.read_sizes-z.ensures _ c.marks_at.ensures c.if-old-marks_at.true _ c.mark_all.ensures in record { value = x.0; v_after = λ e. x.1 }
+returns-then-old-marks_at c = record { value = other_length _ _ _ c.store.ensures _ c.is_sized.ensures (ap not c.if-not-is_sized.false) _ c.read_sizes-z.ensures _ c.marks_at.ensures c.if-old-marks_at.true; v_after = λ e. absurd (true-false e refl) }
 
 pub returns : goal.returns
-returns c = record { value = other_length _ _ _ c.store.ensures _ c.is_sized.ensures (ap not c.if-not-is_sized.false) _ c.read_sizes-z.ensures _ c.marks_at.ensures c.if-old-marks_at.false; v_after = λ e. absurd (true-false e refl) }
+returns c = let x = all-built _ _ _ c.store.ensures _ c.is_sized.ensures (ap not c.if-not-is_sized.false) _ c.read_sizes-z.ensures _ c.marks_at.ensures c.if-old-marks_at.false _ c.mark_all.ensures in record { value = x.0; v_after = λ e. x.1 }

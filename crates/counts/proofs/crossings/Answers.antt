@@ -5,7 +5,6 @@ use native.Mathlib.Omega.{arith}
 use Rattle.base.specs.Cases.{pick}
 use Rattle.tables.specs.declared.Region.{Region}
 use Rattle.counts.specs.Counts.{crosses_b, crossings_of}
-use borrow.Author.Rules.{rules}
 use Rattle.counts.proofs.crossings.Goals as goal
 
 most : (b : Bool) (m : ℕ) → pick b m 0 ≤ m

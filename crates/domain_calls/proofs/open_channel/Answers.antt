@@ -1,23 +1,22 @@
 -- Step after step.
-use Rattle.answers.specs.Then.{on-done, on-refused}
+use Rattle.answers.specs.Then.{on-done, on-err}
 use Rattle.checks.specs.Reads.{ran-domain}
 use Rattle.domain_calls.specs.Calls.{open_channel}
-use borrow.Author.Rules.{rules}
 use Rattle.base.specs.Clauses.{value_left}
 use Rattle.domain_calls.proofs.open_channel.Goals as goal
 
-pub returns-in-Done-reserve : goal.returns-in-Done-reserve
+pub returns : goal.returns
 unfolding open_channel
-returns-in-Done-reserve c = value_left (on-done _ _ _ _ (ran-domain _ _ c.requires _ c.live_domain.ensures) _ _ _ c.in-Done.is (on-done _ _ _ _ (ran-domain _ _ c.requires _ c.live_domain-in-Done.ensures) _ _ _ c.in-Done-live_domain.is (on-done _ _ _ _ (c.reserve.ensures.value, c.reserve.ensures.left) _ _ _ c.in-Done-reserve.is (c.insert.ensures.value, c.insert.ensures.left))))
+returns c = value_left (on-done _ _ _ _ (ran-domain _ _ c.requires _ c.live_domain.ensures) _ _ _ c.in_ok-d.was (on-done _ _ _ _ (ran-domain _ _ c.requires _ c.live_domain-2.ensures) _ _ _ c.in_ok-live_domain.was (on-done _ _ _ _ (c.reserve.ensures.value, c.reserve.ensures.left) _ _ _ c.in_ok-reserve.was (c.insert.ensures.value, c.insert.ensures.left))))
 
-pub returns-in-Refused-reserve : goal.returns-in-Refused-reserve
+pub returns-in_err-reserve : goal.returns-in_err-reserve
 unfolding open_channel
-returns-in-Refused-reserve c = value_left (on-done _ _ _ _ (ran-domain _ _ c.requires _ c.live_domain.ensures) _ _ _ c.in-Done.is (on-done _ _ _ _ (ran-domain _ _ c.requires _ c.live_domain-in-Done.ensures) _ _ _ c.in-Done-live_domain.is (on-refused _ _ _ _ (c.reserve.ensures.value, c.reserve.ensures.left) _ c.in-Refused-reserve.is)))
+returns-in_err-reserve c = value_left (on-done _ _ _ _ (ran-domain _ _ c.requires _ c.live_domain.ensures) _ _ _ c.in_ok-d.was (on-done _ _ _ _ (ran-domain _ _ c.requires _ c.live_domain-2.ensures) _ _ _ c.in_ok-live_domain.was (on-err _ _ _ _ (c.reserve.ensures.value, c.reserve.ensures.left) _ c.in_err-reserve.was _ c.from_residual-in_err-reserve.ensures.1)))
 
-pub returns-in-Refused-live_domain : goal.returns-in-Refused-live_domain
+pub returns-in_err-live_domain : goal.returns-in_err-live_domain
 unfolding open_channel
-returns-in-Refused-live_domain c = value_left (on-done _ _ _ _ (ran-domain _ _ c.requires _ c.live_domain.ensures) _ _ _ c.in-Done.is (on-refused _ _ _ _ (ran-domain _ _ c.requires _ c.live_domain-in-Done.ensures) _ c.in-Refused-live_domain.is))
+returns-in_err-live_domain c = value_left (on-done _ _ _ _ (ran-domain _ _ c.requires _ c.live_domain.ensures) _ _ _ c.in_ok-d.was (on-err _ _ _ _ (ran-domain _ _ c.requires _ c.live_domain-2.ensures) _ c.in_err-live_domain.was _ c.from_residual-in_err-live_domain.ensures.1))
 
-pub returns-in-Refused : goal.returns-in-Refused
+pub returns-in_err-d : goal.returns-in_err-d
 unfolding open_channel
-returns-in-Refused c = value_left (on-refused _ _ _ _ (ran-domain _ _ c.requires _ c.live_domain.ensures) _ c.in-Refused.is)
+returns-in_err-d c = value_left (on-err _ _ _ _ (ran-domain _ _ c.requires _ c.live_domain.ensures) _ c.in_err-d.was _ c.from_residual.ensures.1)

@@ -4,8 +4,8 @@ use Rattle.input.specs.Buffered.{Within, Keeps, left}
 use Rattle.input.specs.Brings.{Brings, Ended}
 use Rattle.input.proofs.read_on.Given as goal
 
-abbrev pub invariant-loop-r : goal.invariant-loop-r
-invariant-loop-r g l = record {
+abbrev pub invariant-loop-input : goal.invariant-loop-input
+invariant-loop-input g l = record {
   within : Within l.r (length l.initial.b);
   keeps : Keeps l.initial.r l.initial.b l.r l.b;
   same_start : l.r.at ≡ l.initial.r.at;
@@ -13,5 +13,5 @@ invariant-loop-r g l = record {
   ended : l.initial.r.at + 52 ≤ length l.initial.b → Ended l.initial.r (g.R.Read.remaining l.initial.input) → Ended l.r (g.R.Read.remaining l.input);
 }
 
-abbrev pub decreases-loop-r : goal.decreases-loop-r
-decreases-loop-r g l = left l.r
+abbrev pub decreases-loop-input : goal.decreases-loop-input
+decreases-loop-input g l = left l.r

@@ -2,7 +2,6 @@
 use Rattle.frame.specs.Finish.{each_word}
 use Rattle.frame.specs.Law.{admitted-sized}
 use Rattle.lent_readings.specs.Readings.{holders-returns, holders-refused}
-use borrow.Author.Rules.{rules}
 use Rattle.lent_readings.proofs.holders.Goals as goal
 
 pub holders-requires : goal.holders-requires
@@ -12,4 +11,4 @@ pub returns-then-admits : goal.returns-then-admits
 returns-then-admits c = holders-returns _ _ _ _ _ c.admits.ensures.0 _ c.admits.ensures.1 (each_word c.args.t.now (λ i. c.shared_slice_known-1.given i)) c.if-admits.true _ _ c.holders.ensures.value c.holders.ensures.run_after
 
 pub returns : goal.returns
-returns c = holders-refused _ _ _ _ _ c.admits.ensures.0 _ c.admits.ensures.1 c.if-admits.false _ c.refused.ensures
+returns c = holders-refused _ _ _ _ _ c.admits.ensures.0 _ c.admits.ensures.1 c.if-admits.false _ c.from.ensures

@@ -6,7 +6,6 @@ use Rattle.lent_steps.specs.Law.{call_returns}
 use Rattle.lent_steps.specs.Steps.{ran-step}
 use Rattle.call.specs.Steps.{step_named}
 use Rattle.model.specs.Perform.{Call}
-use borrow.Author.Rules.{rules}
 use Rattle.lent_steps.proofs.run.Goals as goal
 
 pub step-a-requires : goal.step-a-requires
@@ -19,4 +18,4 @@ returns-then-begin c =
     e.0 e.1 c.step-a.auto.t _ _ _ c.finish.ensures.0 c.finish.ensures.1 c.finish.ensures.2
 
 pub returns : goal.returns
-returns c = memory-returns reply_of _ _ (Call.Do (step_named c.args.call)) tt _ c.begin.ensures.0 c.if-begin.false _ _ c.refused.ensures c.begin.ensures.1
+returns c = memory-returns reply_of _ _ (Call.Do (step_named c.args.call)) tt _ c.begin.ensures.0 c.if-begin.false _ _ c.from.ensures c.begin.ensures.1

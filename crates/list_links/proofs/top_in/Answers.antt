@@ -1,6 +1,5 @@
 -- The first two words of the pool.
 use Rattle.list_links.specs.Reads.{pool-top}
-use borrow.Author.Rules.{rules}
 use Rattle.list_links.proofs.top_in.Goals as goal
 
 pub returns : goal.returns

@@ -1,6 +1,5 @@
 -- Five numbers put one by one.
 use Rattle.listing.proofs.Filling.{line-put}
-use borrow.Author.Rules.{rules}
 use Rattle.listing.proofs.put_line.Goals as goal
 
 pub returns : goal.returns

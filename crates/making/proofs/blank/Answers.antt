@@ -1,7 +1,6 @@
 -- The words are cleared, and the header has the sizes.
 use Rattle.making.specs.Made.{blank-is}
 use Rattle.words.specs.Zeros.{zeros}
-use borrow.Author.Rules.{rules}
 use mathlib.Core.Path.{◌∙◌, ap}
 use Rattle.making.proofs.blank.Goals as goal
 

@@ -1,7 +1,6 @@
 -- Blank words with three new pools are the empty tables.
 use Rattle.making.specs.Made.{made}
-use borrow.Author.Rules.{rules}
 use Rattle.making.proofs.make_empty.Goals as goal
 
 pub returns : goal.returns
-returns c = made c.args.z _ _ _ _ c.blank.ensures c.fresh_in.ensures c.fresh_in-2.ensures c.fresh_in-3.ensures
+returns c = made c.args.z _ _ _ _ c.blank.ensures c.fresh.ensures c.fresh-2.ensures c.fresh-3.ensures

@@ -1,7 +1,6 @@
 -- The section of domains.
 use Rattle.managers.specs.Managers.{managers-lent, place-fits}
 use native.Mathlib.Omega.{arith}
-use borrow.Author.Rules.{rules}
 use Rattle.managers.proofs.domains_of.Goals as goal
 
 pub domains_at-requires : goal.domains_at-requires

@@ -3,7 +3,6 @@ use mathlib.Core.Path.{ap}
 use Prim.Native.Nat.{◌/◌, ◌%◌, ◌^◌}
 use lib.Dec.{eqb}
 use Rattle.marks.specs.Marks.{marked}
-use borrow.Author.Rules.{rules}
 use Rattle.marks.proofs.is_marked.Goals as goal
 
 pub returns : goal.returns

@@ -5,7 +5,6 @@ use lib.Bits.{bit_or}
 use lib.ListN.{set}
 use Rattle.marks.specs.Marks.{with_mark}
 use Rattle.marks.specs.Laws.{shifted}
-use borrow.Author.Rules.{rules}
 use Rattle.marks.proofs.mark.Goals as goal
 
 pub returns : goal.returns

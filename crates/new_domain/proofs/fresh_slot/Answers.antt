@@ -1,8 +1,8 @@
 -- By the two tests.
+use Rattle.tables.specs.Zero.{slot-zero}
 use mathlib.Core.Path.{◌∙◌}
 use borrow.Author.Tests.{lt-ltb, le-ltb}
 use Rattle.new_domain.specs.Fresh.{fresh_slot}
-use borrow.Author.Rules.{rules}
 use Rattle.new_domain.proofs.fresh_slot.Goals as goal
 
 pub returns-then-k-n : goal.returns-then-k-n
@@ -15,4 +15,4 @@ returns-then-i-n c = c.free_slot-then-i-n.ensures ∙ rw (lt-ltb _ _ c.if-i-n.tr
 
 pub returns : goal.returns
 unfolding fresh_slot
-returns c = c.no_slot.ensures ∙ rw (le-ltb _ _ c.if-i-n.false)
+returns c = (slot-zero c.default.result c.default.ensures) ∙ rw (le-ltb _ _ c.if-i-n.false)

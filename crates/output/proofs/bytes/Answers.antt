@@ -1,7 +1,7 @@
--- The bytes copied so far stand in the run.
+-- The bytes stand in the part that they are copied into.
 use Rattle.std.proofs.Common.{arith}
-use Rattle.output.specs.Puts.{puts-more}
+use Rattle.output.specs.Puts.{puts-copied}
 use Rattle.output.proofs.bytes.Goals as goal
 
-pub loop-i-preserved : goal.loop-i-preserved
-loop-i-preserved c = (omega arith, puts-more _ _ _ _ _ c.loop-i.invariant.1 c.loop-i-test.true c.byte.ensures)
+pub returns : goal.returns
+returns c = rw c.copy_from_slice.ensures.after (puts-copied c.args.text.now c.args.n c.args.s.now _ (omega arith) c.requires)

@@ -4,7 +4,7 @@ use Rattle.output.specs.Lines.{begun_more, begun_all}
 use Rattle.output.proofs.domain_line.Goals as goal
 
 pub loop-i-preserved : goal.loop-i-preserved
-loop-i-preserved c = (omega arith, omega (arith, c.number-m.ensures.upper_bound), begun_more _ _ _ _ _ _ _ c.loop-i.invariant.2 c.loop-i-test.true c.word.ensures c.number-m.ensures.puts)
+loop-i-preserved c = (omega (arith, c.number-m.ensures.upper_bound), begun_more _ _ _ _ _ _ _ c.loop-i.invariant.1 c.loop-i-test.true c.word.ensures c.number-m.ensures.puts)
 
 pub returns-clause-puts : goal.returns-clause-puts
-returns-clause-puts c = begun_all _ _ _ _ _ _ _ c.loop-i.invariant.2 c.loop-i-test.false c.byte-m.ensures c.byte.ensures
+returns-clause-puts c = begun_all _ _ _ _ _ _ _ c.loop-i.invariant.1 c.loop-i-test.false c.byte-m.ensures c.byte.ensures

@@ -1,6 +1,5 @@
 -- The union of a flag for each count.
 use Rattle.readings.proofs.Flags.{flags-join}
-use borrow.Author.Rules.{rules}
 use Rattle.readings.proofs.get_ops.Goals as goal
 
 pub returns : goal.returns

@@ -1,33 +1,16 @@
--- The largest so far and what is left from here are the whole.
-use Prim.Native.Nat.{◌+◌, max}
-use Rattle.readings.proofs.Reading.{records-end, records-none, records-more, records-start, reach-done, reach-more}
-use Rattle.readings.specs.Readings.{records_from, largest_reach}
+-- The most of the records' reaches, or 0 of none.
+use Rattle.std.proofs.Common.{ℕ, ◌+◌, ◌∙◌, max, rules}
+use Rattle.std.proofs.lemmas.Iterator.Consumers.{YieldsList-from_first, fold_from_yields_List}
+use Rattle.base.specs.Cases.{pick}
+use Rattle.tables.specs.declared.Region.{Region}
 use Rattle.tables.specs.View.{view}
-use borrow.Author.Rules.{rules}
-use mathlib.Core.Path.{◌≡◌, ap, ◌∙◌}
-use native.Mathlib.Omega.{arith}
+use Rattle.readings.specs.declared.Records.{Records}
+use Rattle.readings.specs.Readings.{records_from, meets}
+use Rattle.readings.proofs.Reading.{reach_folded}
 use Rattle.readings.proofs.largest_reach.Goals as goal
 
-pub first-k-requires : goal.first-k-requires
-first-k-requires c = c.requires
-
-pub loop-left-init : goal.loop-left-init
-loop-left-init c = omega arith
-
-pub returns-then-k-eq0 : goal.returns-then-k-eq0
-returns-then-k-eq0 c = reach-done _ _ _ _ (records-none _ _ _ c.if-k-eq0.true) ∙ c.loop-left.invariant ∙ ap (largest_reach _ _) (records-start _ _ _ _ c.size-left.ensures c.first-k.ensures)
-
-pub load_record-q-requires : goal.load_record-q-requires
-load_record-q-requires c = c.requires
-
-pub overflow_sub-left : goal.overflow_sub-left
-overflow_sub-left c = omega arith
-
-pub loop-left-smaller : goal.loop-left-smaller
-loop-left-smaller c = omega arith
-
-pub loop-left-preserved : goal.loop-left-preserved
-loop-left-preserved c = rw (c.larger-most.ensures, c.reach_in.ensures, c.load_record-q.ensures, c.slot_to.ensures) (reach-more _ _ _ _ _ _ (records-more _ _ _ c.loop-left-test.true c.if-k-eq0.false) ∙ c.loop-left.invariant)
-
 pub returns : goal.returns
-returns c = reach-done _ _ _ _ (records-end _ _ _ c.loop-left-test.false) ∙ c.loop-left.invariant ∙ ap (largest_reach _ _) (records-start _ _ _ _ c.size-left.ensures c.first-k.ensures)
+returns c =
+    let larger = λ (most : ℕ) (q : Region). max most (pick (meets c.args.start (c.args.last + 1) q) q.ref_count 0) in
+    let walk = YieldsList-from_first (λ (q : Region). q) (λ (r : Records). records_from r.left (view r.t.now) r.at) _ c.of.ensures in
+    fold_from_yields_List _ larger _ _ c.fold.ensures.ran walk (λ a x b q k. search rules) ∙ reach_folded _ _ _

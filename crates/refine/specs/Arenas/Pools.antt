@@ -1,5 +1,5 @@
 -- A sound pool in its words: allocating and freeing a slot, the test of a handle and the room left are what the model says.
-use Rattle.std.specs.Prelude.{◌≡◌, refl, Bool, true, false, not, eqb, ltb}
+use Rattle.std.specs.Prelude.{◌≡◌, refl, Bool, true, false, not, eqb, ltb, Some, None, Ok, Err}
 use Rattle.std.proofs.Common.{sym, subst, ◌∙◌}
 use Rattle.std.proofs.Math.Path.{ap}
 use Prim.Native.Nat.{ℕ, suc, ◌+◌, ◌-◌, ◌^◌, ◌≤◌, ◌<◌}
@@ -21,11 +21,8 @@ use Rattle.laws.specs.Lists.{word_at}
 use Rattle.laws.specs.Tree.Sum.{sum}
 use Rattle.laws.specs.Tree.Slots.{count-sum}
 use Rattle.tables.specs.declared.Handle.{Handle}
-use Rattle.arena.specs.declared.Given.{Given}
-use Rattle.arena.specs.declared.Given.TheVariants.{At, Full}
-use Rattle.arena.specs.declared.Freed.{Freed}
-use Rattle.arena.specs.declared.Freed.TheVariants.{Done, Spent}
-use Rattle.arena.specs.Arena.{head_link, given, taken, pushed, allocated, held_b, raisable_b, answer_to, frees_b, freed, live_b, capacity_of}
+use Rattle.arena.specs.Arena.{Freed, Given, head_link, given, taken, pushed, allocated, held_b, raisable_b, answer_to, frees_b, freed, live_b, capacity_of}
+use Rattle.refusals.specs.Refusals.{spent}
 use Rattle.decoded.specs.Sizes.{and_both}
 use Rattle.decoded.specs.Rows.{map-up-length, get_or-up, set-up}
 use Rattle.decoded.specs.Links.{link-top, link-under}
@@ -35,12 +32,12 @@ use Rattle.decoded.specs.Tables.{handle_for, pool_of}
 -- ---- what the model's outcomes are to the code
 
 abbrev pub given_by : state.Pool → Outcome (ℕ × state.Pool) → Given
-given_by p (ok x) = At (handle_for (handle_of p x.0))
-given_by p (refuse r) = Full
+given_by p (ok x) = Some (handle_for (handle_of p x.0))
+given_by p (refuse r) = None
 
 abbrev pub answer_by : Outcome state.Pool → Freed
-answer_by (ok q) = Done
-answer_by (refuse r) = Spent
+answer_by (ok q) = Ok tt
+answer_by (refuse r) = Err spent
 
 abbrev pub pool_freed : state.Pool → Outcome state.Pool → state.Pool
 pool_freed p (ok q) = q
@@ -72,7 +69,7 @@ module _ (n : ℕ) (gs : List ℕ) where
   unfolding head_link pool_of
   no-link = rw (links-many n [], le-ltb (n - 0) n (omega arith))
 
-  pub given-none : given (pool_of n (pool gs [])) ≡ Full
+  pub given-none : given (pool_of n (pool gs [])) ≡ None
   unfolding given
   given-none = rw no-link
 
@@ -89,7 +86,7 @@ module _ (n : ℕ) (gs : List ℕ) where
     linked : ltb 0 (head_link (pool_of n (pool gs (i ∷ is)))) ≡ true
     linked = ap (ltb 0) first-link ∙ lt-ltb 0 (suc (slot_or0 (first_of is))) (omega arith)
 
-    pub given-some : given (pool_of n (pool gs (i ∷ is))) ≡ At (handle_for (handle_of (pool gs (i ∷ is)) i))
+    pub given-some : given (pool_of n (pool gs (i ∷ is))) ≡ Some (handle_for (handle_of (pool gs (i ∷ is)) i))
     unfolding given pool_of
     given-some = rw linked
 
@@ -131,7 +128,7 @@ module _ (n : ℕ) (used : ℕ → ℕ) (p : state.Pool) (h : PoolSound n used p
     as-stack : p ≡ pool p.gens (i ∷ is)
     as-stack = λ t. record { gens = p.gens; free = e t }
 
-    pub given-first : given (pool_of n p) ≡ At (handle_for (handle_of p i))
+    pub given-first : given (pool_of n p) ≡ Some (handle_for (handle_of p i))
     given-first = ap (λ q. given (pool_of n q)) as-stack ∙ given-some n p.gens used i is (subst (PoolSound n used) as-stack h)
 
     pub allocated-first : allocated (pool_of n p) ≡ pool_of n (record { gens = p.gens; free = is })

@@ -1,5 +1,5 @@
 -- A send's options (document 02, request 1): the check of them, and the flags that join the rights of a region, with its hash stored or cleared.
-use Rattle.std.specs.Prelude.{◌≡◌, ℕ, ◌%◌, ◌<◌, Bool, not, ◌||◌, length}
+use Rattle.std.specs.Prelude.{◌≡◌, ℕ, ◌%◌, ◌<◌, Bool, not, ◌||◌, length, Ok, Err}
 use Rattle.std.proofs.Math.Path.{refl, sym, ap}
 use Rattle.std.proofs.Common.{◌∙◌}
 use Rattle.std.proofs.Math.Bool.{true, false}
@@ -17,7 +17,6 @@ use Rattle.model.specs.Calls as model
 use Rattle.laws.specs.Tree.Steps.{region-at}
 use Rattle.tables.specs.declared.RegionCapa.{RegionCapa}
 use Rattle.tables.specs.Tables.{Tables, with_region, with_hash}
-use Rattle.answers.specs.declared.Answer.TheVariants.{Done, Refused}
 use Rattle.answers.specs.Answers.{Effect, and_then}
 use Rattle.send_options.specs.declared.SendOptions.{SendOptions}
 use Rattle.send_options.specs.declared.SendOptions.TheVariants as options
@@ -38,7 +37,7 @@ options_in o = options_for o.flags o.hash
 
 -- 18, then 19, and what follows where they pass
 module _ (t : Tables) (f : Tables → Effect) (m : Outcome (ℕ × State)) (h : Agrees (f t) m) where
-  tested : (b d c : Bool) → Agrees (and_then (record { answer = pick b (pick d (Done 0) (pick c (Refused no_hash) (Done 0))) (Refused bad_flag); tables = t }) (λ u. f)) ((require b bad_flag >> require (not c || d) no_hash) >> m)
+  tested : (b d c : Bool) → Agrees (and_then (record { answer = pick b (pick d (Ok 0) (pick c (Err no_hash) (Ok 0))) (Err bad_flag); tables = t }) (λ u. f)) ((require b bad_flag >> require (not c || d) no_hash) >> m)
   unfolding and_then require ◌>>◌
   tested true true true = h
   tested true true false = h

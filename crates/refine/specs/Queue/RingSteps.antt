@@ -1,15 +1,15 @@
--- The ring by value is the ring of the tables. Where it holds a queue of the model, entry by entry, the tables with it put back are those of the state with
+-- The engine's ring is the ring of the tables. Where it holds a queue of the model, entry by entry, the tables with it put back are those of the state with
 -- that queue (`laid-tables`); so each step on the ring is the model's, by what it does to the queue.
-use Rattle.std.specs.Prelude.{◌≡◌, ℕ, zero, suc, ◌+◌, ◌-◌, ◌%◌, ◌≤◌, ◌<◌, Bool, true, false, ◌||◌, eqb, if◌then◌else◌}
+use Rattle.std.specs.Prelude.{◌≡◌, ℕ, zero, suc, ◌+◌, ◌-◌, ◌%◌, ◌≤◌, ◌<◌, Bool, true, false, ◌||◌, eqb, if◌then◌else◌, Option as Maybe, Some, None}
 use Rattle.std.proofs.Math.Path.{refl, sym, ap, subst}
-use Rattle.std.proofs.Common.{◌∙◌, arith, length-append}
+use Rattle.std.proofs.Common.{◌∙◌, arith}
 use Rattle.std.proofs.Math.Option.{Option, none, some}
 use mathlib.Core.List.{List, [], ◌∷◌, ◌++◌, map}
 use Rattle.std.proofs.Math.ListN.{length, get_or, get_elem?, length-map}
 use Rattle.std.proofs.Math.Seq.{ext_get_or}
 use Rattle.base.specs.Cases.{lt, ge, cmp, holds, fails, test, pick}
 use Rattle.base.specs.Tests.{true-is}
-use Rattle.model.specs.Lists.{one_if, is_some, exists, count_if, In}
+use Rattle.model.specs.Lists.{one_if, exists, count_if, In}
 use Rattle.model.specs.State as state
 use Rattle.model.specs.State.{State, permission, with_queue}
 use Rattle.model.specs.Layout.{at_place}
@@ -26,11 +26,9 @@ use Rattle.tables.specs.Tables.{Tables, no_update, update_at, mark_at, with_plac
 use Rattle.refusals.specs.Refusals.{ring_full}
 use Rattle.answers.specs.Answers.{Effect}
 use Rattle.ring.specs.declared.Entry.{Entry}
-use Rattle.ring.specs.declared.PushOut.{PushOut}
-use Rattle.ring.specs.declared.Item.{Item}
 use Rattle.ring.specs.declared.Ring.{Ring}
-use Rattle.ring.specs.Ring.{no_entry, push_of, pop_of}
-use Rattle.ring_search.specs.Queueing.{names_of, gathered, queue_of}
+use Rattle.ring.specs.Ring.{PushOut, no_entry, push_of, pop_of}
+use Rattle.ring_search.specs.Queueing.{names_of, queue_of}
 use Rattle.stored_ring.specs.Stored.{ring_of, with_ring_of}
 use Rattle.ring_search.specs.Search.{any_names, gather_first}
 use Rattle.update.specs.Laid.{Laid, push-laid, full-laid, queue-laid, new-laid, empty-laid, pop-laid}
@@ -50,8 +48,9 @@ abbrev pub queued_for : state.Update → Entry
 queued_for u = entry_for (some u)
 
 -- what a pop answers for what left the queue
-abbrev pub item_for : Option state.Update → Item
-item_for o = record { got = is_some o; entry = entry_for o }
+abbrev pub item_for : Option state.Update → Maybe Entry
+item_for none = None
+item_for (some u) = Some (queued_for u)
 
 -- what a push on the ring of t answers and leaves
 abbrev pub pushed : Tables → PushOut → Effect

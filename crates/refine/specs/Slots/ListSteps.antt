@@ -1,6 +1,6 @@
 -- A domain's list as the record that is read out, changed and put back. `list_for` is that record for a list of the model; each step by value is the
 -- model's step under it, and a list put back is the model's domain with that list. So a step on the tables is three equations: read, step, put.
-use Rattle.std.specs.Prelude.{◌≡◌, ℕ, suc, ◌+◌, ◌-◌, ◌≤◌, ◌<◌, Bool, replicate, ltb}
+use Rattle.std.specs.Prelude.{◌≡◌, ℕ, suc, ◌+◌, ◌-◌, ◌≤◌, ◌<◌, Bool, replicate, ltb, Err, Some, None}
 use Rattle.std.proofs.Math.Path.{refl, sym, ap}
 use Rattle.std.proofs.Common.{subst, ◌∙◌, arith, length-set, set-set, lt-ltb, le-ltb}
 use Rattle.std.proofs.Math.Bool.{true, false, not}
@@ -26,10 +26,8 @@ use Rattle.laws.specs.Tree.Slots.{in-length}
 use Rattle.laws.specs.Tree.Steps.{domain-at}
 use Rattle.tables.specs.declared.Slot.{Slot}
 use Rattle.tables.specs.Tables.{Domain, no_slot, with_domains}
-use Rattle.answers.specs.declared.Answer.TheVariants.{Refused}
 use Rattle.slot_list.specs.declared.SlotList.{SlotList}
 use Rattle.slot_list.specs.declared.Given.{Given}
-use Rattle.slot_list.specs.declared.Inserted.TheVariants.{At, Full}
 use Rattle.slot_list.specs.Lists.{is_free_b, slot_in, put_in, empty_slot, gives_b, allocated, give_slot, freed, take_slot}
 use Rattle.stored_slots.specs.Record.{padded, list_of, put_list, list_at, with_list}
 use Rattle.slots.specs.Capas.{with_capa, without_capa, with_empty, capa_at}
@@ -112,7 +110,7 @@ module _ (n : ℕ) (l : LocalList) (listed : Listed n l) where
       go [] h = le-ltb (n - 0) n (omega arith)
       go (i ∷ f) h = lt-ltb (n - suc (length f)) n (omega arith)
 
-  pub give-none : l.free ≡ [] → give_slot (list_for n l) ≡ record { at = Full; list = list_for n l }
+  pub give-none : l.free ≡ [] → give_slot (list_for n l) ≡ record { at = None; list = list_for n l }
   unfolding give_slot gives_b
   give-none e = rw (room_for ∙ ap (λ (f : List ℕ). not (is_empty f)) e, no_room _ _)
     where
@@ -142,12 +140,12 @@ module _ (n : ℕ) (l : LocalList) (listed : Listed n l) where
     unfolding gives_b
     gives = rw (lt-ltb (slot_or0 (first_of l.free)) n (omega (arith, first-top, first_below)), room_for ∙ ap (λ (f : List ℕ). not (is_empty f)) e, first-free)
 
-    give-some : give_slot (list_for n l) ≡ record { at = At (slot_or0 (first_of l.free)); list = allocated (list_for n l) }
+    give-some : give_slot (list_for n l) ≡ record { at = Some (slot_or0 (first_of l.free)); list = allocated (list_for n l) }
     unfolding give_slot
-    give-some = ap (λ (b : Bool). pick b (record { at = At (slot_or0 (first_of l.free)); list = allocated (list_for n l) }) (record { at = Full; list = list_for n l })) gives
+    give-some = ap (λ (b : Bool). pick b (record { at = Some (slot_or0 (first_of l.free)); list = allocated (list_for n l) }) (record { at = None; list = list_for n l })) gives
 
-    pub give-first : (give_slot (list_for n l)).at ≡ At i
-    give-first = ap (λ (g : Given). g.at) give-some ∙ ap At first-top
+    pub give-first : (give_slot (list_for n l)).at ≡ Some i
+    give-first = ap (λ (g : Given). g.at) give-some ∙ ap Some first-top
 
     -- given and filled
     pub give-filled : (c : Capa) → put_in (give_slot (list_for n l)).list i (capa_slot c) ≡ list_for n (record { held = set l.held i (some c); free = is })
@@ -210,12 +208,12 @@ module _ (s : State) (long : length s.domains ≡ s.sizes.domains) (d : ℕ) (x 
   module _ (listed : Listed s.sizes.slots x.locals) where
     -- ---- a capability goes in
 
-    insert-full : (c : Capa) → x.locals.free ≡ [] → (insert d (capa_slot c) (tables_of s)).answer ≡ Refused no_local
+    insert-full : (c : Capa) → x.locals.free ≡ [] → (insert d (capa_slot c) (tables_of s)).answer ≡ Err no_local
     unfolding insert
     insert-full c e = ap (λ m. inserted_answer (give_slot m).at) list-for ∙ ap (λ (g : Given). inserted_answer g.at) (give-none s.sizes.slots x.locals listed e)
 
     module _ (c : Capa) (i : ℕ) (is : List ℕ) (e : x.locals.free ≡ i ∷ is) where
-      given-at : (give_slot (list_at (tables_of s) d)).at ≡ At i
+      given-at : (give_slot (list_at (tables_of s) d)).at ≡ Some i
       given-at = ap (λ m. (give_slot m).at) list-for ∙ give-first s.sizes.slots x.locals listed i is e
 
       insert-first : Agrees (insert d (capa_slot c) (tables_of s)) (ok (i, inserted s d x c i is))

@@ -1,6 +1,6 @@
 -- A domain is opened: the slot that the pool gives has no record yet, so that its words are all zero, and the new record with its fresh list is put there.
 -- In a fresh list slot i is free with i + 1 behind it, and the last has 0: the links of the stack 0, 1, 2, ..
-use Rattle.std.specs.Prelude.{◌≡◌, List, [], ◌∷◌, map, ltb, get_or, set, replicate}
+use Rattle.std.specs.Prelude.{◌≡◌, List, [], ◌∷◌, map, ltb, get_or, set, replicate, Some, None, Err}
 use Rattle.std.proofs.Math.Path.{refl, sym, ap}
 use Rattle.std.proofs.Common.{◌∙◌, arith, add-one, set-set, get_or-set_same, lt-ltb, le-ltb}
 use Prim.Native.Nat.{ℕ, zero, suc, ◌+◌, ◌-◌, ◌≤◌, ◌<◌}
@@ -23,9 +23,7 @@ use Rattle.laws.specs.Parts.{up-length}
 use Rattle.tables.specs.declared.Slot.{Slot}
 use Rattle.tables.specs.declared.DomainHead.{DomainHead}
 use Rattle.tables.specs.Tables.{Tables, Domain, no_domain, no_slot, put_head, with_head, with_interface, with_domains, with_domain_pool}
-use Rattle.arena.specs.declared.Given.TheVariants.{At, Full}
 use Rattle.arena.specs.Arena.{given}
-use Rattle.answers.specs.declared.Answer.TheVariants.{Refused}
 use Rattle.slot_list.specs.declared.SlotList.{SlotList}
 use Rattle.stored_slots.specs.Record.{put_list, with_list}
 use Rattle.new_domain.specs.Opened.{fresh_from, fresh_list, new_head, open_interface, taken, new_domain}
@@ -105,7 +103,7 @@ both-put t i h l b =
 module _ (s : State) (long : length s.domains ≡ s.sizes.domains) (pool : PoolSound s.sizes.domains (slot_uses s.domains) s.domain_pool) (high : s.sizes.slots ≤ most_slots) (m : Option ℕ) (cores : ℕ) where
   -- no slot is free
   module _ (e : s.domain_pool.free ≡ []) where
-    none-given : given (tables_of s).domain_pool ≡ Full
+    none-given : given (tables_of s).domain_pool ≡ None
     unfolding tables_of allocate
     none-given = given_is s.sizes.domains (slot_uses s.domains) s.domain_pool pool no_domain_room ∙ rw e
 
@@ -113,7 +111,7 @@ module _ (s : State) (long : length s.domains ≡ s.sizes.domains) (pool : PoolS
     unfolding calls.new_domain allocate ◌>>=◌
     open-refused = rw e
 
-    refused-too : (new_domain (link m) cores (tables_of s)).answer ≡ Refused no_domain_room
+    refused-too : (new_domain (link m) cores (tables_of s)).answer ≡ Err no_domain_room
     unfolding new_domain
     refused-too = rw none-given
 
@@ -125,7 +123,7 @@ module _ (s : State) (long : length s.domains ≡ s.sizes.domains) (pool : PoolS
     inside : i < s.sizes.domains
     inside = first-inside s.sizes.domains (slot_uses s.domains) s.domain_pool pool i is e
 
-    slot-given : given (tables_of s).domain_pool ≡ At (handle_for (handle_of s.domain_pool i))
+    slot-given : given (tables_of s).domain_pool ≡ Some (handle_for (handle_of s.domain_pool i))
     unfolding tables_of
     slot-given = given-first s.sizes.domains (slot_uses s.domains) s.domain_pool pool i is e
 

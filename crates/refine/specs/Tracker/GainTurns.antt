@@ -2,7 +2,7 @@
 -- starts at st. Each law says what the turn does to the tables of the state in the middle of the walk.
 use Rattle.std.specs.Prelude.{◌≡◌, refl, ltb}
 use Rattle.std.proofs.Math.Path.{ap}
-use Rattle.std.proofs.Common.{◌∙◌, arith}
+use Rattle.std.proofs.Common.{◌∙◌, arith, Continue}
 use Prim.Native.Nat.{ℕ, suc, ◌≤◌, ◌<◌, min}
 use mathlib.Core.List.{List, [], ◌∷◌, ◌++◌}
 use borrow.Author.Tests.{lt-ltb, le-ltb, ne_eqb, le-leb, lt-leb}
@@ -15,7 +15,6 @@ use Rattle.tables.specs.declared.Region.{Region}
 use Rattle.tables.specs.Tables.{Tables, no_record, record_at, with_record}
 use Rattle.region.specs.declared.AccessRights.{AccessRights}
 use Rattle.walk_cursors.specs.declared.Cursor.{Cursor}
-use Rattle.walk_cursors.specs.declared.Progress.TheVariants.{Going}
 use Rattle.region.specs.declared.Way.TheVariants.{Add}
 use Rattle.tables.specs.Links.{slot_to}
 use Rattle.tracker_records.specs.Links.{inserted, split}
@@ -44,7 +43,7 @@ module _ (t : Tables) (d : ℕ) (a : AccessRights) (c : Cursor) (q : Region) whe
   unfolding add_at
   at_gap h = pick-t _ _ _ (lt-ltb c.start q.start h)
 
-  at-pass : q.start ≤ c.start → q.end ≤ c.start → add_at t d a c q ≡ to (Going (next_of c q.next c.start 0)) t
+  at-pass : q.start ≤ c.start → q.end ≤ c.start → add_at t d a c q ≡ to (Continue (next_of c q.next c.start 0)) t
   unfolding add_at
   at-pass h k = pick-f _ _ _ (le-ltb c.start q.start h) ∙ pick-t _ _ _ (le-leb q.end c.start k)
 
@@ -103,7 +102,7 @@ module _ (s : State) (d : ℕ) (x : Domain) (a : AccessRights) (st z : ℕ) (b :
       turn_gap k = turn-row ∙ at_gap t d a c row k ∙ ap (fill_turn t d a c) (pick-min q.start a.end) ∙ fill_is (q ∷ l) (min a.end q.start)
 
       -- q lies before the range
-      pub turn-pass : q.start ≤ st → q.end ≤ st → turn Add t d a c ≡ to (Going (behind q l st (union z 0))) t
+      pub turn-pass : q.start ≤ st → q.end ≤ st → turn Add t d a c ≡ to (Continue (behind q l st (union z 0))) t
       unfolding cursor
       turn-pass k m = turn-row ∙ at-pass t d a c row k m
 
@@ -119,15 +118,15 @@ module _ (s : State) (d : ℕ) (x : Domain) (a : AccessRights) (st z : ℕ) (b :
         turn-trim m = turn-row ∙ at-start t d a c row same (omega arith) ∙ pick-t _ _ _ (lt-ltb a.end q.end m) ∙ ap (λ (i : ℕ). onward (split t i a.end) (λ k. c)) (slot-of q.slot)
 
         pub turn-raise : q.end ≤ a.end → Raisable q.counts
-            → turn Add t d a c ≡ to (Going (behind (raised_record a.ops.0 q) l q.end (union z (raises a.ops.0 q)))) (tables (raised_record a.ops.0 q ∷ l))
+            → turn Add t d a c ≡ to (Continue (behind (raised_record a.ops.0 q) l q.end (union z (raises a.ops.0 q)))) (tables (raised_record a.ops.0 q ∷ l))
         unfolding raise_turn cursor
         turn-raise m u =
             let r = raised_record a.ops.0 q in
-            let next : Region → Turn = λ y. to (Going (next_of c (link (first_slot l)) q.end (crossings_of row y))) (with_record t (slot_to (suc q.slot)) y) in
+            let next : Region → Turn = λ y. to (Continue (next_of c (link (first_slot l)) q.end (crossings_of row y))) (with_record t (slot_to (suc q.slot)) y) in
             turn-row
             ∙ at-start t d a c row same (omega arith)
             ∙ pick-f _ _ _ (le-ltb a.end q.end m)
             ∙ ap next (raised_is a.ops.0 q (first_slot l) u)
-            ∙ ap (λ (i : ℕ). to (Going (next_of c (link (first_slot l)) q.end (crossings_of row (record_for r (first_slot l))))) (with_record t i (record_for r (first_slot l)))) (slot-of q.slot)
-            ∙ ap (λ (u : Tables). to (Going (next_of c (link (first_slot l)) q.end (crossings_of row (record_for r (first_slot l))))) u) (changed-here s d x b l q p h r refl)
-            ∙ ap (λ (k : ℕ). to (Going (next_of c (link (first_slot l)) q.end k)) (tables (r ∷ l))) (crossings-is q r (first_slot l) (first_slot l))
+            ∙ ap (λ (i : ℕ). to (Continue (next_of c (link (first_slot l)) q.end (crossings_of row (record_for r (first_slot l))))) (with_record t i (record_for r (first_slot l)))) (slot-of q.slot)
+            ∙ ap (λ (u : Tables). to (Continue (next_of c (link (first_slot l)) q.end (crossings_of row (record_for r (first_slot l))))) u) (changed-here s d x b l q p h r refl)
+            ∙ ap (λ (k : ℕ). to (Continue (next_of c (link (first_slot l)) q.end k)) (tables (r ∷ l))) (crossings-is q r (first_slot l) (first_slot l))

@@ -2,7 +2,7 @@
 -- Each law says what the turn does to the tables of the state in the middle of the walk.
 use Rattle.std.specs.Prelude.{◌≡◌, Bool, true, false, List, [], ◌∷◌, ◌++◌, eqb, ltb, if◌then◌else◌}
 use Rattle.std.proofs.Math.Path.{refl, sym, ap}
-use Rattle.std.proofs.Common.{◌∙◌, arith, lt-ltb, le-ltb, ne_eqb, le-leb}
+use Rattle.std.proofs.Common.{◌∙◌, arith, lt-ltb, le-ltb, ne_eqb, le-leb, Continue}
 use Prim.Native.Nat.{ℕ, suc, ◌≤◌, ◌<◌}
 use Rattle.std.proofs.lemmas.Bool.{lt-leb}
 use Rattle.base.specs.Cases.{pick, pick-t, pick-f}
@@ -15,7 +15,6 @@ use Rattle.tables.specs.declared.Region.{Region}
 use Rattle.tables.specs.Tables.{Tables, no_record, record_at, with_record}
 use Rattle.region.specs.declared.AccessRights.{AccessRights}
 use Rattle.walk_cursors.specs.declared.Cursor.{Cursor}
-use Rattle.walk_cursors.specs.declared.Progress.TheVariants.{Going}
 use Rattle.region.specs.declared.Way.TheVariants.{Remove}
 use Rattle.tables.specs.Links.{slot_to}
 use Rattle.tracker_records.specs.Links.{with_next, split, freed_record}
@@ -38,7 +37,7 @@ module _ (t : Tables) (d : ℕ) (a : AccessRights) (c : Cursor) (q : Region) whe
   unfolding remove_at
   at-beyond h = pick-t _ _ _ (le-leb a.end q.start h)
 
-  at-pass : q.start < a.end → q.end ≤ c.start → remove_at t d a c q ≡ to (Going (next_of c q.next c.start 0)) t
+  at-pass : q.start < a.end → q.end ≤ c.start → remove_at t d a c q ≡ to (Continue (next_of c q.next c.start 0)) t
   unfolding remove_at
   at-pass h k = pick-f _ _ _ (lt-leb a.end q.start h) ∙ pick-t _ _ _ (le-leb q.end c.start k)
 
@@ -79,7 +78,7 @@ module _ (s : State) (d : ℕ) (x : Domain) (a : AccessRights) (st z : ℕ) (b :
 
     module _ (near : q.start < a.end) where
       -- q lies before the range
-      pub turn-pass : q.end ≤ st → turn Remove t d a c ≡ to (Going (behind q l st (union z 0))) t
+      pub turn-pass : q.end ≤ st → turn Remove t d a c ≡ to (Continue (behind q l st (union z 0))) t
       unfolding cursor
       turn-pass m = turn-row ∙ at-pass t d a c row near m
 
@@ -107,7 +106,7 @@ module _ (s : State) (d : ℕ) (x : Domain) (a : AccessRights) (st z : ℕ) (b :
           next : Region → Turn
           next y =
               pick (eqb y.ref_count 0) (onward (freed_record without (slot_to (suc q.slot))) (λ u. dropped_of c (link (first_slot l)) (crossings_of row no_record)))
-              (to (Going (next_of c (link (first_slot l)) st (crossings_of row y))) (with_record t (slot_to (suc q.slot)) y))
+              (to (Continue (next_of c (link (first_slot l)) st (crossings_of row y))) (with_record t (slot_to (suc q.slot)) y))
 
           turn-lower : turn Remove t d a c ≡ next (record_for r (first_slot l))
           unfolding lower_turn cursor next
@@ -126,16 +125,16 @@ module _ (s : State) (d : ℕ) (x : Domain) (a : AccessRights) (st z : ℕ) (b :
           leaves-is e = drops-is q (first_slot l) ∙ sym (ap marks_of e)
 
           pub turn-keep : eqb (lower a.ops.0 q.counts).reach 0 ≡ false
-              → turn Remove t d a c ≡ to (Going (behind (lowered_record a.ops.0 q) l st (union z (lowers a.ops.0 q)))) (tables (lowered_record a.ops.0 q ∷ l))
+              → turn Remove t d a c ≡ to (Continue (behind (lowered_record a.ops.0 q) l st (union z (lowers a.ops.0 q)))) (tables (lowered_record a.ops.0 q ∷ l))
           unfolding cursor next
           turn-keep e =
               let go : ℕ → Cursor = λ k. next_of c (link (first_slot l)) st k in
               let y = record_for r (first_slot l) in
               turn-lower
               ∙ pick-f _ _ _ e
-              ∙ ap (λ (k : ℕ). to (Going (go k)) (with_record t (slot_to (suc q.slot)) y)) (keeps-is e)
-              ∙ ap (λ (i : ℕ). to (Going (go (lowers a.ops.0 q))) (with_record t i y)) (slot-of q.slot)
-              ∙ ap (to (Going (go (lowers a.ops.0 q)))) (changed-here s d x b l q p h r refl)
+              ∙ ap (λ (k : ℕ). to (Continue (go k)) (with_record t (slot_to (suc q.slot)) y)) (keeps-is e)
+              ∙ ap (λ (i : ℕ). to (Continue (go (lowers a.ops.0 q))) (with_record t i y)) (slot-of q.slot)
+              ∙ ap (to (Continue (go (lowers a.ops.0 q)))) (changed-here s d x b l q p h r refl)
 
           pub turn-drop : eqb (lower a.ops.0 q.counts).reach 0 ≡ true
               → turn Remove t d a c ≡ onward (freed_record (with_next t d (last_link b) (link (first_slot l))) q.slot) (λ v. cursor b l st (union z (lowers a.ops.0 q)))

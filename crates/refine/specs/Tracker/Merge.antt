@@ -2,7 +2,7 @@
 -- as many turns as records, and one more. Invariant: every record slot is in use or free once.
 use Rattle.std.specs.Prelude.{◌≡◌, true, false, eqb, length}
 use Rattle.std.proofs.Math.Path.{refl, ap}
-use Rattle.std.proofs.Common.{sym, ◌∙◌, arith, ne_eqb}
+use Rattle.std.proofs.Common.{sym, ◌∙◌, arith, ne_eqb, Continue}
 use Prim.Native.Nat.{ℕ, zero, suc, ◌+◌, ◌<◌}
 use Rattle.std.proofs.Math.Option.{some}
 use mathlib.Core.List.{List, [], ◌∷◌, ◌++◌}
@@ -19,7 +19,6 @@ use Rattle.tables.specs.declared.Region.{Region}
 use Rattle.tables.specs.Tables.{Tables, record_at, with_record}
 use Rattle.region.specs.declared.AccessRights.{AccessRights}
 use Rattle.walk_cursors.specs.declared.Cursor.{Cursor}
-use Rattle.walk_cursors.specs.declared.Progress.TheVariants.{Going}
 use Rattle.region.specs.declared.Way.TheVariants.{Merge}
 use Rattle.tables.specs.Links.{slot_to}
 use Rattle.tracker_records.specs.Links.{freed_record}
@@ -106,7 +105,7 @@ module _ (s : State) (d : ℕ) (x : Domain) (a : AccessRights) (st z : ℕ) (b :
           (ap (λ (i : ℕ). onward (freed_record (with_record t i r) (slot_to (suc n.slot))) (λ v. c)) (slot-of q.slot)
           ∙ ap (λ (i : ℕ). onward (freed_record (with_record t q.slot r) i) (λ v. c)) (slot-of n.slot))
 
-      turn_on : mergeable q n ≡ false → turn Merge (tables (q ∷ n ∷ l)) d a (cursor b (q ∷ n ∷ l) st z) ≡ to (Going (behind q (n ∷ l) st (union z 0))) (tables (q ∷ n ∷ l))
+      turn_on : mergeable q n ≡ false → turn Merge (tables (q ∷ n ∷ l)) d a (cursor b (q ∷ n ∷ l) st z) ≡ to (Continue (behind q (n ∷ l) st (union z 0))) (tables (q ∷ n ∷ l))
       unfolding merge_at cursor
       turn_on e = turn_two ∙ rw (mergeable-is q n (some n.slot) (first_slot l) ∙ e)
 

@@ -1,22 +1,22 @@
 -- The code's steps on a domain's records against the model: a record more, a record cut in two, a record less. Each step takes or frees a slot and
 -- changes the list in one: between the two, the slot taken is in no list, and no state of the model has such tables.
 -- Invariant (`Held`): domain x stands in slot d, and every record slot is in use or free once.
-use Rattle.std.specs.Prelude.{◌≡◌, List, [], ◌∷◌, ◌++◌, length, get_or}
+use Rattle.std.specs.Prelude.{◌≡◌, List, [], ◌∷◌, ◌++◌, length, get_or, Some, None, Err}
 use Rattle.std.proofs.Math.Path.{refl, sym, ap}
-use Rattle.std.proofs.Common.{subst, ◌∙◌, arith, set-set, lt-ltb}
+use Rattle.std.proofs.Common.{◌∙◌, arith, set-set, lt-ltb}
 use Prim.Native.Nat.{ℕ, suc, ◌+◌, ◌-◌, ◌^◌, ◌≤◌, ◌<◌}
 use Rattle.std.proofs.Math.Option.{Option, none, some}
 use Rattle.std.proofs.Math.ListN.{length-set}
 use Rattle.std.proofs.Math.Seq.{get_or-set_same}
 use Rattle.model.specs.Lists.{In}
 use Rattle.refusals.specs.declared.Refusal.{Refusal}
-use Rattle.model.specs.Outcome.{Outcome, ok, refuse, ◌>>=◌}
+use Rattle.model.specs.Outcome.{ok, refuse, ◌>>=◌}
 use Rattle.model.specs.State as state
 use Rattle.model.specs.State.{State, Record, Pool, Domain, put_domain, with_tracker}
 use Rattle.model.specs.Pool.{allocate, free}
 use Rattle.model.specs.Tracker.{with_end}
 use Rattle.model.specs.Sound.{PoolSound, record_uses}
-use Rattle.laws.specs.Accepted.{all-ok, All, accepted}
+use Rattle.laws.specs.Accepted.{all-ok}
 use Rattle.laws.specs.Answers.{answer}
 use Rattle.laws.specs.Stack.{none-beyond, once-at-most}
 use Rattle.laws.specs.Words.SameTrackers.{uses, first_slot}
@@ -26,9 +26,7 @@ use Rattle.laws.specs.Tree.Slots.{in-length}
 use Rattle.tables.specs.declared.Handle.{Handle}
 use Rattle.tables.specs.declared.Region.{Region}
 use Rattle.tables.specs.Tables.{Tables, record_at, with_record, with_record_pool}
-use Rattle.arena.specs.declared.Given.TheVariants.{At, Full}
 use Rattle.arena.specs.Arena as arena
-use Rattle.answers.specs.declared.Answer.TheVariants.{Refused}
 use Rattle.refusals.specs.Refusals.{no_tracker}
 use Rattle.answers.specs.Answers.{Effect, done, refused}
 use Rattle.tracker_records.specs.Links as links
@@ -117,20 +115,20 @@ link-to : (i : ℕ) → i < 1024 → link_to i ≡ suc i
 link-to i h = rw (lt-ltb i (2 ^ 64 - 1) (omega arith)) (omega arith)
 
 module _ (t : Tables) where
-  inserted-full : (d k : ℕ) (q : Region) → arena.given t.record_pool ≡ Full → inserted t d k q ≡ refused no_tracker (taken t)
+  inserted-full : (d k : ℕ) (q : Region) → arena.given t.record_pool ≡ None → inserted t d k q ≡ refused no_tracker (taken t)
   unfolding inserted
   inserted-full d k q e = rw e
 
-  inserted-at : (d k : ℕ) (q : Region) (h : Handle) → arena.given t.record_pool ≡ At h
+  inserted-at : (d k : ℕ) (q : Region) (h : Handle) → arena.given t.record_pool ≡ Some h
       → inserted t d k q ≡ done (link_to h.slot) (with_next (with_record (taken t) h.slot q) d k (link_to h.slot))
   unfolding inserted
   inserted-at d k q h e = rw e
 
-  split-full : (i c : ℕ) → arena.given t.record_pool ≡ Full → split t i c ≡ refused no_tracker (taken t)
+  split-full : (i c : ℕ) → arena.given t.record_pool ≡ None → split t i c ≡ refused no_tracker (taken t)
   unfolding split
   split-full i c e = rw e
 
-  split_at_lem : (i c : ℕ) (h : Handle) → arena.given t.record_pool ≡ At h
+  split_at_lem : (i c : ℕ) (h : Handle) → arena.given t.record_pool ≡ Some h
       → split t i c
       ≡ done (link_to h.slot) (with_record (with_record (taken t) h.slot (links.with_start (record_at (taken t) i) c)) i (links.with_end (record_at (taken t) i) c (link_to h.slot)))
   unfolding split
@@ -144,7 +142,7 @@ moves-in p p' i n l m e k u = frame (all-ok _ _ (i, p') (answer (allocate-moves 
 module _ (s : State) (d : ℕ) (x : Domain) (h : Held s d x) where
   -- a step that takes slot i, and leaves the list f i
   module _ (f : ℕ → List Record) (y : Effect) where
-    taking : (arena.given (tables_of s).record_pool ≡ Full → y.answer ≡ Refused no_tracker)
+    taking : (arena.given (tables_of s).record_pool ≡ None → y.answer ≡ Err no_tracker)
         → ((i : ℕ) (is : List ℕ) → s.record_pool.free ≡ i ∷ is → Agrees y (ok (suc i, tracked s d x (f i) (rest s.record_pool is))))
         → Agrees y (allocate no_tracker s.record_pool >>= λ z. ok (suc z.0, tracked s d x (f z.0) z.1))
     unfolding ◌>>=◌ tables_of
@@ -157,7 +155,7 @@ module _ (s : State) (d : ℕ) (x : Domain) (h : Held s d x) where
         ]
 
   module _ (i : ℕ) (is : List ℕ) (e : s.record_pool.free ≡ i ∷ is) where
-    given-slot : arena.given (tables_of s).record_pool ≡ At (record { slot = i; generation = get_or s.record_pool.gens i 0 })
+    given-slot : arena.given (tables_of s).record_pool ≡ Some (record { slot = i; generation = get_or s.record_pool.gens i 0 })
     unfolding tables_of
     given-slot = given-first s.sizes.records (record_uses s.domains) s.record_pool h.sound i is e
 

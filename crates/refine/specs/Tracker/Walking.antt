@@ -1,9 +1,9 @@
 -- Turns of the code's walks, and the tables that they meet. A walk over a domain's records is in the middle: the records b are done, the records l are
 -- still to come. The tables are those of the state with the tracker b ++ l and the record pool p; the cursor has the link of the last record of b and of
 -- the first of l. The walk agrees with the model where it agrees with the model's walk over l, put behind b.
-use Rattle.std.specs.Prelude.{◌≡◌, List, [], ◌∷◌, ◌++◌, set}
+use Rattle.std.specs.Prelude.{◌≡◌, List, [], ◌∷◌, ◌++◌, set, Ok, Err}
 use Rattle.std.proofs.Math.Path.{refl, ap, subst}
-use Rattle.std.proofs.Common.{sym, ◌∙◌, append_assoc, arith}
+use Rattle.std.proofs.Common.{sym, ◌∙◌, append_assoc, arith, Continue, Break}
 use Prim.Native.Nat.{ℕ, suc, ◌+◌}
 use Rattle.std.proofs.Math.Option.{Option, none}
 use Rattle.std.proofs.lemmas.List.{set-get_or}
@@ -20,12 +20,9 @@ use Rattle.laws.specs.Words.SameTrackers.{uses, first_slot}
 use Rattle.laws.specs.Tracker.Pools.{Moved, moved_none, frame}
 use Rattle.tables.specs.declared.DomainHead.{DomainHead}
 use Rattle.tables.specs.Tables.{Tables, record_at, with_record}
-use Rattle.answers.specs.declared.Answer.{Answer}
-use Rattle.answers.specs.declared.Answer.TheVariants.{Done, Refused}
-use Rattle.answers.specs.Answers.{Effect, and_then}
+use Rattle.answers.specs.Answers.{Answer, Effect, and_then}
 use Rattle.region.specs.declared.AccessRights.{AccessRights}
 use Rattle.walk_cursors.specs.declared.Cursor.{Cursor}
-use Rattle.walk_cursors.specs.declared.Progress.TheVariants.{Going, Over}
 use Rattle.region.specs.declared.Way.{Way}
 use Rattle.tracker_records.specs.Links.{with_next, first_link, inserted, split, freed_record}
 use Rattle.region.specs.Turns.{Turn, to, onward}
@@ -43,7 +40,7 @@ use Rattle.refine.specs.Tracker.WalkSteps.{ahead}
 
 module _ (w : Way) (d : ℕ) (a : AccessRights) (n : ℕ) where
   abbrev next : Turn → Effect
-  next y = elim y.answer [ Going k ↦ walk w d a n k y.tables | Over x ↦ record { answer = x; tables = y.tables } ]
+  next y = elim y.answer [ Continue k ↦ walk w d a n k y.tables | Break x ↦ record { answer = x; tables = y.tables } ]
 
   walk-next : (c : Cursor) (t : Tables) → walk w d a (suc n) c t ≡ next (turn w t d a c)
   unfolding walk
@@ -51,14 +48,14 @@ module _ (w : Way) (d : ℕ) (a : AccessRights) (n : ℕ) where
 
   next-onward : (x : Answer) (u : Tables) (f : ℕ → Cursor) → next (onward (record { answer = x; tables = u }) f) ≡ and_then (record { answer = x; tables = u }) (λ v u. walk w d a n (f v) u)
   unfolding and_then
-  next-onward (Done v) u f = refl
-  next-onward (Refused r) u f = refl
+  next-onward (Ok v) u f = refl
+  next-onward (Err r) u f = refl
 
   module _ (c : Cursor) (t : Tables) where
-    pub walk-going : (k : Cursor) (u : Tables) → turn w t d a c ≡ to (Going k) u → walk w d a (suc n) c t ≡ walk w d a n k u
+    pub walk-going : (k : Cursor) (u : Tables) → turn w t d a c ≡ to (Continue k) u → walk w d a (suc n) c t ≡ walk w d a n k u
     walk-going k u e = walk-next c t ∙ ap next e
 
-    pub walk-over : (x : Answer) (u : Tables) → turn w t d a c ≡ to (Over x) u → walk w d a (suc n) c t ≡ record { answer = x; tables = u }
+    pub walk-over : (x : Answer) (u : Tables) → turn w t d a c ≡ to (Break x) u → walk w d a (suc n) c t ≡ record { answer = x; tables = u }
     walk-over x u e = walk-next c t ∙ ap next e
 
     walk-onward : (x : Effect) (f : ℕ → Cursor) → turn w t d a c ≡ onward x f → walk w d a (suc n) c t ≡ and_then x (λ v u. walk w d a n (f v) u)

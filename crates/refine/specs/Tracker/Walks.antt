@@ -1,7 +1,7 @@
 -- A walk in the middle agrees with the model's walk over the rest: how one turn leads to the next. A turn ends the walk, goes on to the next record,
 -- or takes or frees a slot and goes on.
-use Rattle.std.specs.Prelude.{◌≡◌, refl}
-use Rattle.std.proofs.Common.{sym, ◌∙◌, arith}
+use Rattle.std.specs.Prelude.{◌≡◌, refl, Ok}
+use Rattle.std.proofs.Common.{sym, ◌∙◌, arith, Continue}
 use Rattle.std.proofs.Math.Path.{ap}
 use Prim.Native.Nat.{ℕ, suc}
 use mathlib.Core.List.{List, [], ◌∷◌, ◌++◌, append_assoc}
@@ -16,11 +16,9 @@ use Rattle.model.specs.Tracker.{Walk, with_end}
 use Rattle.laws.specs.Words.SameTrackers.{first_slot}
 use Rattle.laws.specs.Tracker.Pools.{uses-append}
 use Rattle.tables.specs.Tables.{Tables}
-use Rattle.answers.specs.declared.Answer.TheVariants.{Done}
 use Rattle.answers.specs.Answers.{Effect, done}
 use Rattle.region.specs.declared.AccessRights.{AccessRights}
 use Rattle.walk_cursors.specs.declared.Cursor.{Cursor}
-use Rattle.walk_cursors.specs.declared.Progress.TheVariants.{Going}
 use Rattle.region.specs.declared.Way.{Way}
 use Rattle.tracker_records.specs.Links.{split}
 use Rattle.region.specs.Turns.{to, over, onward}
@@ -52,7 +50,7 @@ module _ {s : State} {d : ℕ} {x : Domain} {a : AccessRights} {w : Way} where
     walks-over e =
         let t = tables_of (tracked s d x (b ++ l) p) in
         let y : Outcome (ℕ × State) = ok (union z 0, tracked s d x (b ++ l) p) in
-        record { agrees = agrees-step _ (done z t) y (walk-over w d a n (cursor b l st z) t (Done z) t e) (ap Done (sym (or_zero_r z)), refl) }
+        record { agrees = agrees-step _ (done z t) y (walk-over w d a n (cursor b l st z) t (Ok z) t e) (ap Ok (sym (or_zero_r z)), refl) }
 
   -- the last record done, in the cursor and in the tables
   pub behind-last : {n st z : ℕ} {l : List Record} {p : Pool} {m : Outcome Walk} (b : List Record) (q : Record) → Walks s d x a w n st z (b ++ q ∷ []) l p m
@@ -65,7 +63,7 @@ module _ {s : State} {d : ℕ} {x : Domain} {a : AccessRights} {w : Way} where
 
   -- on to the records l: r is done, with marks k
   pub walks-on : {n st st' z : ℕ} {b l₀ l : List Record} {p₀ p : Pool} {m : Outcome Walk} (r : Record) (k : ℕ)
-      → turn w (tables_of (tracked s d x (b ++ l₀) p₀)) d a (cursor b l₀ st z) ≡ to (Going (behind r l st' (union z k))) (tables_of (tracked s d x (b ++ r ∷ l) p))
+      → turn w (tables_of (tracked s d x (b ++ l₀) p₀)) d a (cursor b l₀ st z) ≡ to (Continue (behind r l st' (union z k))) (tables_of (tracked s d x (b ++ r ∷ l) p))
       → Walks s d x a w n st' (union z k) (b ++ r ∷ []) l p m → Walks s d x a w (suc n) st z b l₀ p₀ (ahead (r ∷ []) k m)
   walks-on {n} {st} {st'} {z} {b} {l₀} {l} {p₀} {p} {m} r k e h =
       let next = behind r l st' (union z k) in

@@ -1,6 +1,6 @@
 -- A region made, freed, and left alone: the steps on the region pool and the region's row. A new region's slot is in no child list, because children are
 -- live, so its row has no next link.
-use Rattle.std.specs.Prelude.{◌≡◌, ℕ, ◌-◌, ◌^◌, ◌<◌, List, [], ◌∷◌, T, eqb, length, set}
+use Rattle.std.specs.Prelude.{◌≡◌, ℕ, ◌-◌, ◌^◌, ◌<◌, List, [], ◌∷◌, T, eqb, length, set, Some, None}
 use Rattle.std.proofs.Math.Path.{refl}
 use Rattle.std.proofs.Common.{sym, ap, ◌∙◌, arith}
 use Rattle.std.proofs.Math.Option.{Option, none, some}
@@ -21,7 +21,6 @@ use Rattle.tables.specs.declared.Handle.{Handle}
 use Rattle.tables.specs.declared.RegionCapa.{RegionCapa}
 use Rattle.tables.specs.Tables as rows
 use Rattle.tables.specs.Tables.{Tables, Arena, with_region_pool, with_region, with_hash}
-use Rattle.arena.specs.declared.Given.TheVariants.{At, Full}
 use Rattle.arena.specs.Arena.{given, allocated}
 use Rattle.pools.specs.Wiping.{slot_freed}
 use Rattle.answers.specs.Answers.{Effect, done, refused}
@@ -64,11 +63,11 @@ module _ (rs : List (Option state.Region)) (live : ChildrenLive rs) (i : ℕ) (f
 
 -- ---- a region is made
 
-made_at_lem : (r : RegionCapa) (t : Tables) (h : Handle) → given t.region_pool ≡ At h → new_region r t ≡ done h.slot (with_region (with_region_pool t (allocated t.region_pool)) h.slot r)
+made_at_lem : (r : RegionCapa) (t : Tables) (h : Handle) → given t.region_pool ≡ Some h → new_region r t ≡ done h.slot (with_region (with_region_pool t (allocated t.region_pool)) h.slot r)
 unfolding new_region
 made_at_lem r t h e = rw (new_region, e)
 
-made_none : (r : RegionCapa) (t : Tables) → given t.region_pool ≡ Full → new_region r t ≡ refused no_region (with_region_pool t (allocated t.region_pool))
+made_none : (r : RegionCapa) (t : Tables) → given t.region_pool ≡ None → new_region r t ≡ refused no_region (with_region_pool t (allocated t.region_pool))
 unfolding new_region
 made_none r t e = rw (new_region, e)
 
@@ -108,7 +107,7 @@ module _ (s : State) (long : length s.regions ≡ s.sizes.regions) (sound : Pool
 
   by-free : (is : List ℕ) → s.region_pool.free ≡ is → Agrees (new_region capa (tables_of s)) (model.new_region d k (access_for a) s)
   by-free [] e =
-      let full : given (tables_of s).region_pool ≡ Full = ap given pool-here ∙ ap (λ l. given (pool_of s.sizes.regions (record { gens = s.region_pool.gens; free = l }))) e ∙ given-none s.sizes.regions s.region_pool.gens in
+      let full : given (tables_of s).region_pool ≡ None = ap given pool-here ∙ ap (λ l. given (pool_of s.sizes.regions (record { gens = s.region_pool.gens; free = l }))) e ∙ given-none s.sizes.regions s.region_pool.gens in
       agrees-no _ _ no_region _ (made_none capa (tables_of s) full) (model-none e)
   by-free (i ∷ is) e =
       let at = ap given pool-here ∙ given-first s.sizes.regions (slot_uses s.regions) s.region_pool sound i is e in

@@ -1,16 +1,15 @@
 -- Step after step.
-use Rattle.answers.specs.Then.{on-done, on-refused}
+use Rattle.answers.specs.Then.{on-done, on-err}
 use Rattle.checks.specs.Reads.{ran-domain, ran-held}
 use Rattle.revoke_calls.specs.Parts.{revoker-is}
-use borrow.Author.Rules.{rules}
 use Rattle.base.specs.Clauses.{value_left}
 use Rattle.revoke_calls.proofs.create_revoke_capa.Goals as goal
 
-pub returns-in-Done-region_held : goal.returns-in-Done-region_held
-returns-in-Done-region_held c = rw revoker-is (value_left (on-done _ _ _ _ (ran-domain _ _ c.requires _ c.live_domain.ensures) _ _ _ c.in-Done.is (on-done _ _ _ _ (ran-held _ _ c.requires _ _ c.region_held.ensures) _ _ _ c.in-Done-region_held.is (c.add_revoker.ensures.value, c.add_revoker.ensures.left))))
+pub returns : goal.returns
+returns c = rw revoker-is (value_left (on-done _ _ _ _ (ran-domain _ _ c.requires _ c.live_domain.ensures) _ _ _ c.in_ok-d.was (on-done _ _ _ _ (ran-held _ _ c.requires _ _ c.region_held.ensures) _ _ _ c.in_ok-i.was (c.add_revoker.ensures.value, c.add_revoker.ensures.left))))
 
-pub returns-in-Refused-region_held : goal.returns-in-Refused-region_held
-returns-in-Refused-region_held c = rw revoker-is (value_left (on-done _ _ _ _ (ran-domain _ _ c.requires _ c.live_domain.ensures) _ _ _ c.in-Done.is (on-refused _ _ _ _ (ran-held _ _ c.requires _ _ c.region_held.ensures) _ c.in-Refused-region_held.is)))
+pub returns-in_err-i : goal.returns-in_err-i
+returns-in_err-i c = rw revoker-is (value_left (on-done _ _ _ _ (ran-domain _ _ c.requires _ c.live_domain.ensures) _ _ _ c.in_ok-d.was (on-err _ _ _ _ (ran-held _ _ c.requires _ _ c.region_held.ensures) _ c.in_err-i.was _ c.from_residual-in_err-i.ensures.1)))
 
-pub returns-in-Refused : goal.returns-in-Refused
-returns-in-Refused c = rw revoker-is (value_left (on-refused _ _ _ _ (ran-domain _ _ c.requires _ c.live_domain.ensures) _ c.in-Refused.is))
+pub returns-in_err-d : goal.returns-in_err-d
+returns-in_err-d c = rw revoker-is (value_left (on-err _ _ _ _ (ran-domain _ _ c.requires _ c.live_domain.ensures) _ c.in_err-d.was _ c.from_residual.ensures.1))

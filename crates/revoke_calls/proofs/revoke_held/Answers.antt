@@ -1,15 +1,14 @@
 -- Step after step.
-use Rattle.answers.specs.Then.{on-done, on-refused}
+use Rattle.answers.specs.Then.{on-done, on-err}
 use Rattle.checks.specs.Reads.{ran-region}
 use Rattle.revoke_calls.specs.Parts.{revoked_held}
-use borrow.Author.Rules.{rules}
 use Rattle.base.specs.Clauses.{value_left}
 use Rattle.revoke_calls.proofs.revoke_held.Goals as goal
 
-pub returns-in-Done : goal.returns-in-Done
+pub returns : goal.returns
 unfolding revoked_held
-returns-in-Done c = value_left (on-done _ _ _ _ (ran-region _ _ c.requires _ c.live_region.ensures) _ _ _ c.in-Done.is (c.revoke_unless_root.ensures.value, c.revoke_unless_root.ensures.left))
+returns c = value_left (on-done _ _ _ _ (ran-region _ _ c.requires _ c.live_region.ensures) _ _ _ c.in_ok-i.was (c.revoke_unless_root.ensures.value, c.revoke_unless_root.ensures.left))
 
-pub returns-in-Refused : goal.returns-in-Refused
+pub returns-in_err-i : goal.returns-in_err-i
 unfolding revoked_held
-returns-in-Refused c = value_left (on-refused _ _ _ _ (ran-region _ _ c.requires _ c.live_region.ensures) _ c.in-Refused.is)
+returns-in_err-i c = value_left (on-err _ _ _ _ (ran-region _ _ c.requires _ c.live_region.ensures) _ c.in_err-i.was _ c.from_residual.ensures.1)

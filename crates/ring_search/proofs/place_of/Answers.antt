@@ -1,44 +1,31 @@
 -- The search from i on, with as many rounds as are left, is the search from the read place.
-use Prim.Native.Nat.{◌-◌}
-use mathlib.Core.Path.{◌≡◌, refl, sym, ◌∙◌}
-use native.Mathlib.Omega.{arith}
-use borrow.Author.Rules.{rules}
+use Rattle.std.proofs.Common.{refl, sym, ◌∙◌}
 use borrow.Author.Tests.{eq-eqb, ne_eqb, lt-ltb, le-ltb}
-use Rattle.ring.specs.Ring.{cap}
-use Rattle.ring_search.specs.Queueing.{place_of, place_from, place-step, place_none}
+use Rattle.ring_search.specs.Queueing.{place_of, place-step, place_none}
 use Rattle.ring_search.proofs.place_of.Goals as goal
+use Rattle.ring_search.proofs.place_of.Goals.{else-loop-test, then-loop-test+then-i-ring, then-i-ring-via-then-i-ring, then-i-ring-via-else-i-ring+then-i-ge-PLACES}
 
-pub loop-n-init : goal.loop-n-init
+pub loop-init : goal.loop-init
 unfolding place_of
-loop-n-init c = search rules
-
-pub returns-then-i-write : goal.returns-then-i-write
-returns-then-i-write c = sym (c.loop-n.invariant.2 ∙ place-step _ _ _ _ _ c.loop-n-test.true ∙ simp (eq-eqb _ _ c.if-i-write.true))
-
-pub returns-then-i-ge-PLACES : goal.returns-then-i-ge-PLACES
-returns-then-i-ge-PLACES c = sym (c.loop-n.invariant.2 ∙ place-step _ _ _ _ _ c.loop-n-test.true ∙ simp (ne_eqb _ _ c.if-i-write.false, le-ltb _ _ c.if-i-ge-PLACES.true))
-
-pub bounds-ring-i : goal.bounds-ring-i
-bounds-ring-i c = omega arith
+loop-init c = refl
 
 pub returns-then-names : goal.returns-then-names
 returns-then-names c =
-    sym (c.loop-n.invariant.2 ∙ place-step _ _ _ _ _ c.loop-n-test.true
-    ∙ simp (ne_eqb _ _ c.if-i-write.false, lt-ltb _ _ c.if-i-ge-PLACES.false, sym c.names.ensures ∙ c.if-names.true))
+    sym (c.loop.invariant ∙ place-step _ _ _ _ _ c.loop-test.true
+    ∙ simp (ne_eqb _ _ c.if-i-ring.false, lt-ltb _ _ c.if-i-ge-PLACES.false, sym c.names.ensures ∙ c.if-names.true))
 
-pub overflow_add-n : goal.overflow_add-n
-overflow_add-n c = omega arith
-
-pub loop-n-smaller : goal.loop-n-smaller
-loop-n-smaller c = omega arith
-
-pub loop-n-preserved : goal.loop-n-preserved
-loop-n-preserved c = (
-  refl,
-  refl,
-  c.loop-n.invariant.2 ∙ place-step _ _ _ _ _ c.loop-n-test.true
-      ∙ simp (ne_eqb _ _ c.if-i-write.false, lt-ltb _ _ c.if-i-ge-PLACES.false, sym c.names.ensures ∙ c.if-names.false, c.after-i.ensures),
-)
+pub loop-preserved : goal.loop-preserved
+loop-preserved c =
+    c.loop.invariant ∙ place-step _ _ _ _ _ c.loop-test.true
+    ∙ simp (ne_eqb _ _ c.if-i-ring.false, lt-ltb _ _ c.if-i-ge-PLACES.false, sym c.names.ensures ∙ c.if-names.false, c.after-i.ensures)
 
 pub returns : goal.returns
-returns c = sym (c.loop-n.invariant.2 ∙ place_none _ _ _ _ _ c.loop-n-test.false)
+returns c = elim c.loop-test.branch [
+  | else-loop-test w ↦ sym (c.loop.invariant ∙ place_none _ _ _ _ _ w.loop-test.false)
+  | then-loop-test+then-i-ring w ↦
+      let step = c.loop.invariant ∙ place-step _ _ _ _ _ w.loop-test.true in
+      elim w.then-i-ring.branch [
+        | then-i-ring-via-then-i-ring v ↦ sym (step ∙ simp (eq-eqb _ _ v.if-i-ring.true))
+        | then-i-ring-via-else-i-ring+then-i-ge-PLACES v ↦ sym (step ∙ simp (ne_eqb _ _ v.if-i-ring.false, le-ltb _ _ v.if-i-ge-PLACES.true))
+      ]
+]

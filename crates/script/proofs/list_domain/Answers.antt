@@ -16,13 +16,12 @@ domain_line-requires-clause-at_bound g c = let l = lines-few c.args.t.now c.args
 pub loop-i-preserved : goal.loop-i-preserved
 loop-i-preserved g c = (
   omega (arith, c.domain_line.ensures.upper_bound, c.room-q.ensures.n_in_bounds_2, c.loop-i.auto.text),
-  omega arith,
   λ f.
-      line-printed _ _ f (c.loop-i.invariant.2 f) c.loop-i-test.true
+      line-printed _ _ f (c.loop-i.invariant.1 f) c.loop-i-test.true
       (prints-next _ _ _ c.room-q.ensures.value c.room-q.ensures.n_value c.room-q.ensures.failed_value c.domain_line.ensures.puts (omega (arith, c.domain_line.ensures.upper_bound, c.room-q.ensures.n_in_bounds_2))),
 )
 
 pub returns-clause-prints : goal.returns-clause-prints
 returns-clause-prints g c = λ s h.
     found-printed _ s h _ (replicate 640 0) (length-replicate {A = ℕ} 640 0) c.fill_lines-lines.ensures.run_after (search rules) c.fill_lines-lines.ensures.value
-    (λ f. lines-printed _ _ f (c.loop-i.invariant.2 f) c.loop-i-test.false)
+    (λ f. lines-printed _ _ f (c.loop-i.invariant.1 f) c.loop-i-test.false)

@@ -1,5 +1,5 @@
--- The bytes at hand stay in their run, and the text in its. Each record leads the tables on, and its line follows the others. The lines that can still be numbered fall.
-use Rattle.std.proofs.Common.{◌≡◌, ◌-◌, ◌≤◌, length}
+-- The bytes at hand stay in their run, and the text in its. Each record leads the tables on, and its line follows the others.
+use Rattle.std.proofs.Common.{◌≡◌, ◌≤◌, length}
 use Rattle.model.specs.State.{State}
 use Rattle.model.specs.Memory.{Lent}
 use Rattle.script_text.proofs.Reading.{At}
@@ -14,6 +14,3 @@ invariant-loop-k g l =
     × (length l.b ≡ length l.initial.b)
     × Leads l.initial.t l.t
     × ((s : State) → Lent l.initial.t l.initial.w s → At s l.k l.h l.b l.t l.w l.text l.p)
-
-abbrev pub decreases-loop-k : goal.decreases-loop-k
-decreases-loop-k g l = 18446744073709551615 - l.k

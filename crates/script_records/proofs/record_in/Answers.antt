@@ -1,6 +1,5 @@
 -- Field by field.
-use borrow.Author.Rules.{rules}
 use Rattle.script_records.proofs.record_in.Goals as goal
 
 pub returns : goal.returns
-returns c = rw (c.eight.ensures, c.eight-2.ensures, c.eight-3.ensures, c.eight-4.ensures, c.eight-5.ensures, c.eight-6.ensures)
+returns c = rw (c.number_at.ensures.value, c.number_at-2.ensures.value, c.number_at-3.ensures.value, c.number_at-4.ensures.value, c.number_at-5.ensures.value, c.number_at-6.ensures.value)

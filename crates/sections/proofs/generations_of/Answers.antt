@@ -1,7 +1,6 @@
 -- The words behind the links.
 use Rattle.sections.specs.Pools.{generations-lent}
 use mathlib.Core.Path.{◌∙◌}
-use borrow.Author.Rules.{rules}
 use Rattle.sections.proofs.generations_of.Goals as goal
 
 pub returns : goal.returns

@@ -1,7 +1,6 @@
 -- The words behind the head and the count.
 use Rattle.sections.specs.Pools.{links-lent}
 use mathlib.Core.Path.{◌∙◌}
-use borrow.Author.Rules.{rules}
 use Rattle.sections.proofs.links_of.Goals as goal
 
 pub returns : goal.returns

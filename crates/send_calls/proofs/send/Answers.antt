@@ -1,19 +1,18 @@
 -- Step after step.
-use Rattle.answers.specs.Then.{on-done, on-refused}
+use Rattle.answers.specs.Then.{on-done, on-err}
 use Rattle.checks.specs.Reads.{ran-caller, ran-target}
 use Rattle.send_calls.specs.Parts.{send-is}
-use borrow.Author.Rules.{rules}
 use Rattle.base.specs.Clauses.{value_left}
 use Rattle.send_calls.proofs.send.Goals as goal
 
-pub returns-in-Done-reserve : goal.returns-in-Done-reserve
-returns-in-Done-reserve c = rw send-is (value_left (on-done _ _ _ _ (ran-caller _ _ c.requires _ _ c.caller_with.ensures) _ _ _ c.in-Done.is (on-done _ _ _ _ (ran-target _ _ c.requires _ _ c.target_held.ensures) _ _ _ c.in-Done-target_held.is (on-done _ _ _ _ (c.reserve.ensures.value, c.reserve.ensures.left) _ _ _ c.in-Done-reserve.is (c.pass.ensures.value, c.pass.ensures.left)))))
+pub returns : goal.returns
+returns c = rw send-is (value_left (on-done _ _ _ _ (ran-caller _ _ c.requires _ _ c.caller_with.ensures) _ _ _ c.in_ok-d.was (on-done _ _ _ _ (ran-target _ _ c.requires _ _ c.target_held.ensures) _ _ _ c.in_ok-to.was (on-done _ _ _ _ (c.reserve.ensures.value, c.reserve.ensures.left) _ _ _ c.in_ok-reserve.was (c.pass.ensures.value, c.pass.ensures.left)))))
 
-pub returns-in-Refused-reserve : goal.returns-in-Refused-reserve
-returns-in-Refused-reserve c = rw send-is (value_left (on-done _ _ _ _ (ran-caller _ _ c.requires _ _ c.caller_with.ensures) _ _ _ c.in-Done.is (on-done _ _ _ _ (ran-target _ _ c.requires _ _ c.target_held.ensures) _ _ _ c.in-Done-target_held.is (on-refused _ _ _ _ (c.reserve.ensures.value, c.reserve.ensures.left) _ c.in-Refused-reserve.is))))
+pub returns-in_err-reserve : goal.returns-in_err-reserve
+returns-in_err-reserve c = rw send-is (value_left (on-done _ _ _ _ (ran-caller _ _ c.requires _ _ c.caller_with.ensures) _ _ _ c.in_ok-d.was (on-done _ _ _ _ (ran-target _ _ c.requires _ _ c.target_held.ensures) _ _ _ c.in_ok-to.was (on-err _ _ _ _ (c.reserve.ensures.value, c.reserve.ensures.left) _ c.in_err-reserve.was _ c.from_residual-in_err-reserve.ensures.1))))
 
-pub returns-in-Refused-target_held : goal.returns-in-Refused-target_held
-returns-in-Refused-target_held c = rw send-is (value_left (on-done _ _ _ _ (ran-caller _ _ c.requires _ _ c.caller_with.ensures) _ _ _ c.in-Done.is (on-refused _ _ _ _ (ran-target _ _ c.requires _ _ c.target_held.ensures) _ c.in-Refused-target_held.is)))
+pub returns-in_err-to : goal.returns-in_err-to
+returns-in_err-to c = rw send-is (value_left (on-done _ _ _ _ (ran-caller _ _ c.requires _ _ c.caller_with.ensures) _ _ _ c.in_ok-d.was (on-err _ _ _ _ (ran-target _ _ c.requires _ _ c.target_held.ensures) _ c.in_err-to.was _ c.from_residual-in_err-to.ensures.1)))
 
-pub returns-in-Refused : goal.returns-in-Refused
-returns-in-Refused c = rw send-is (value_left (on-refused _ _ _ _ (ran-caller _ _ c.requires _ _ c.caller_with.ensures) _ c.in-Refused.is))
+pub returns-in_err-d : goal.returns-in_err-d
+returns-in_err-d c = rw send-is (value_left (on-err _ _ _ _ (ran-caller _ _ c.requires _ _ c.caller_with.ensures) _ c.in_err-d.was _ c.from_residual.ensures.1))

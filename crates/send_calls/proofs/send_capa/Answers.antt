@@ -1,23 +1,21 @@
 -- By the kind.
-use mathlib.Core.Path.{refl}
-use borrow.Author.Tests.{eq-eqb, ne_eqb}
+use Rattle.std.proofs.Common.{arith, refl, ne_eqb}
 use Rattle.answers.specs.Then.{stays}
 use Rattle.send_calls.specs.Calls.{send_capa}
-use borrow.Author.Rules.{rules}
 use Rattle.send_calls.proofs.send_capa.Goals as goal
 
-pub returns-then-x-eq-FREE : goal.returns-then-x-eq-FREE
+pub returns-in-1 : goal.returns-in-1
 unfolding send_capa
-returns-then-x-eq-FREE c = rw (eq-eqb _ _ c.if-x-eq-FREE.true) record { value = refl; left = stays _ c.requires }
+returns-in-1 c = rw c.in-1.is record { value = refl; left = stays _ c.requires }
 
-pub returns-then-x-eq-MANAGEMENT : goal.returns-then-x-eq-MANAGEMENT
+pub returns-in-4 : goal.returns-in-4
 unfolding send_capa
-returns-then-x-eq-MANAGEMENT c = rw (ne_eqb _ _ c.if-x-eq-FREE.false, eq-eqb _ _ c.if-x-eq-MANAGEMENT.true) record { value = refl; left = stays _ c.requires }
+returns-in-4 c = rw c.in-4.is record { value = refl; left = stays _ c.requires }
 
-pub returns-then-x-eq-REGION : goal.returns-then-x-eq-REGION
+pub returns-in-2 : goal.returns-in-2
 unfolding send_capa
-returns-then-x-eq-REGION c = rw (ne_eqb _ _ c.if-x-eq-FREE.false, ne_eqb _ _ c.if-x-eq-MANAGEMENT.false, eq-eqb _ _ c.if-x-eq-REGION.true) record { value = c.send_held.ensures.value; left = c.send_held.ensures.left }
+returns-in-2 c = rw c.in-2.is record { value = c.send_held.ensures.value; left = c.send_held.ensures.left }
 
-pub returns : goal.returns
+pub returns-in_default : goal.returns-in_default
 unfolding send_capa
-returns c = rw (ne_eqb _ _ c.if-x-eq-FREE.false, ne_eqb _ _ c.if-x-eq-MANAGEMENT.false, ne_eqb _ _ c.if-x-eq-REGION.false) record { value = refl; left = stays _ c.requires }
+returns-in_default c = rw (ne_eqb c.args.x.kind 1 (λ e. omega arith), ne_eqb c.args.x.kind 4 (λ e. omega arith), ne_eqb c.args.x.kind 2 (λ e. omega arith)) record { value = refl; left = stays _ c.requires }

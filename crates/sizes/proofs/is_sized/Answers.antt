@@ -11,4 +11,4 @@ pub returns-then-limits_hold : goal.returns-then-limits_hold
 returns-then-limits_hold c = sized-then _ _ _ _ c.read_sizes-z.ensures c.limits_hold.ensures c.if-limits_hold.true c.total_of.ensures
 
 pub returns-else-limits_hold : goal.returns-else-limits_hold
-returns-else-limits_hold c = sized-else _ _ _ c.read_sizes-z.ensures c.limits_hold.ensures c.if-limits_hold.false
+returns-else-limits_hold c = c.if-limits_hold.false ∙ sized-else _ _ _ c.read_sizes-z.ensures c.limits_hold.ensures c.if-limits_hold.false

@@ -1,57 +1,42 @@
--- The slots from i on are left to sweep.
+-- The slots from i on are left to sweep; those past the size are left as they are.
+use Rattle.std.proofs.Common.{◌≡◌, ℕ, zero, suc, ◌-◌, ◌<◌, ◌≤◌, Bool, ltb, length, refl, sym, ◌∙◌, arith, lt-ltb, le-ltb}
+use Rattle.base.specs.Cases.{cmp, lt, ge}
+use Rattle.base.specs.Tests.{both}
 use Rattle.sizes.specs.Limits.{most_slots}
-use Prim.Native.Nat.{◌-◌, ◌≤◌}
+use Rattle.tables.specs.declared.Slot.{Slot}
+use Rattle.tables.specs.View.{view}
+use Rattle.slot_list.specs.declared.SlotList.{SlotList}
 use Rattle.slot_list.specs.Arrays.{length-mapped}
 use Rattle.slot_sweep.specs.Sweep.{is_invalid_b, sweep_slot, sweep_from, sweep}
 use Rattle.slot_sweep.specs.Steps.{sweep-turn, sweep-end, sweep-freed, sweep-left}
-use Rattle.slot_list.specs.declared.SlotList.{SlotList}
-use Rattle.tables.specs.View.{view}
-use borrow.Author.Rules.{rules}
-use lib.ListN.{length}
-use mathlib.Core.Logic.{⊎_elim}
-use mathlib.Core.Path.{◌≡◌, refl, sym, ◌∙◌}
-use native.Mathlib.Omega.{arith}
 use Rattle.slot_sweep.proofs.free_invalid_capas.Goals as goal
-use Rattle.slot_sweep.proofs.free_invalid_capas.Goals.{then-both, else-both}
+use Rattle.slot_sweep.proofs.free_invalid_capas.Goals.{then-is_invalid, else-is_invalid}
 
-pub loop-i-init : goal.loop-i-init
-loop-i-init c = (omega arith, refl)
+within : (i n : ℕ) (b c : Bool) → i < n → b ≡ c → both (ltb i n) b ≡ c
+within i n b c h e = rw (lt-ltb i n h, e)
 
-pub offset_bounds-slots-i : goal.offset_bounds-slots-i
-offset_bounds-slots-i c = omega arith
-
-pub bounds-slots-i : goal.bounds-slots-i
-bounds-slots-i c = omega arith
-
-pub is_invalid-requires : goal.is_invalid-requires
-is_invalid-requires c = c.requires
-
-pub offset_bounds-slots-i-then-both : goal.offset_bounds-slots-i-then-both
-offset_bounds-slots-i-then-both c = omega arith
-
-pub bounds-slots-i-then-both : goal.bounds-slots-i-then-both
-bounds-slots-i-then-both c = omega arith
-
-pub overflow_add-i : goal.overflow_add-i
-overflow_add-i c = omega arith
-
-pub loop-i-smaller : goal.loop-i-smaller
-loop-i-smaller c = omega arith
+sweep_past : (bad : Slot → Bool) (l : SlotList) (n i : ℕ) → l.size ≤ i → sweep_from bad n i l ≡ l
+unfolding sweep_from sweep_slot
+sweep_past bad l zero i h = refl
+sweep_past bad l (suc n) i h = rw (le-ltb i l.size h) (sweep_past bad l n (suc i) (omega arith))
 
 pub loop-i-preserved : goal.loop-i-preserved
 loop-i-preserved c =
-    let a = c.args in
     let k = c.loop-i in
-    let bad = is_invalid_b (view a.t.now) in
-    let l : SlotList = record { slots = k.slots; head = k.head; count = k.count; size = a.list.size } in
-    let m : SlotList = record { slots = c.if-both.slots; head = c.if-both.head; count = c.if-both.count; size = a.list.size } in
-    let e : m ≡ sweep_slot bad l k.i =
-    elim c.if-both.branch [
-      | then-both w ↦ rw (w.slots-is, w.head-is, w.count-is, w.free_slot.ensures, w.less_one-count.ensures) (sweep-freed bad l k.i _ _ _ refl c.is_invalid.ensures c.both.ensures w.if-both.true)
-      | else-both w ↦ rw (w.slots-is, w.head-is, w.count-is) (sweep-left bad l k.i _ _ _ refl c.is_invalid.ensures c.both.ensures w.if-both.false)
+    let bad = is_invalid_b (view c.args.t.now) in
+    let h : k.i < k.list.size = omega arith in
+    let e : (c.if-is_invalid.list.size ≡ k.list.size) × (c.if-is_invalid.list ≡ sweep_slot bad k.list k.i) =
+    elim c.if-is_invalid.branch [
+      | then-is_invalid w ↦ rw (w.list-is, w.free_slot.ensures, w.less_one.ensures) (refl, sweep-freed bad k.list k.i _ _ _ refl c.is_invalid.ensures refl (within _ _ _ _ h w.if-is_invalid.true))
+      | else-is_invalid w ↦ rw w.list-is (refl, sweep-left bad k.list k.i _ _ _ refl c.is_invalid.ensures refl (within _ _ _ _ h w.if-is_invalid.false))
     ] in
-    (omega arith, sweep-turn bad l k.i m c.loop-i-test.true e ∙ k.invariant.1)
+    record { size_kept = e.0 ∙ k.invariant.size_kept; swept = sweep-turn bad k.list k.i c.if-is_invalid.list (omega arith) e.1 ∙ k.invariant.swept }
 
 pub returns : goal.returns
 unfolding sweep
-returns c = let n : length c.args.list.slots ≡ most_slots = search length-mapped in sym (sweep-end _ _ c.loop-i.i c.loop-i-test.false) ∙ c.loop-i.invariant.1 ∙ rw n
+returns c =
+    let k = c.loop-i in
+    let n : length c.args.list.slots ≡ most_slots = search length-mapped in
+    let bad = is_invalid_b (view c.args.t.now) in
+    let rest : sweep_from bad (most_slots - k.i) k.i k.list ≡ k.list = elim (cmp k.i k.list.size) [ lt h ↦ sweep-end bad k.list k.i (omega arith) | ge h ↦ sweep_past bad k.list (most_slots - k.i) k.i h ] in
+    sym rest ∙ k.invariant.swept ∙ rw n

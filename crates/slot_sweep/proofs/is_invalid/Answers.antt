@@ -1,7 +1,6 @@
 -- One law for each pair of kinds.
 use Rattle.slot_sweep.specs.Sweep.{is_invalid_b}
 use Rattle.slot_sweep.specs.Steps.{by-region, by-domain, by-other}
-use borrow.Author.Rules.{rules}
 use mathlib.Core.Path.{◌≡◌}
 use native.Mathlib.Omega.{arith}
 use Rattle.slot_sweep.proofs.is_invalid.Goals as goal
@@ -12,11 +11,11 @@ returns-in-0 c = rw c.in-0.is
 
 pub returns-in-2 : goal.returns-in-2
 unfolding is_invalid_b
-returns-in-2 c = rw c.region_is_live.ensures (by-region _ _ c.args.x.kind (omega arith) (omega arith))
+returns-in-2 c = rw c.is_live.ensures (by-region _ _ c.args.x.kind (omega arith) (omega arith))
 
 pub returns-in-4 : goal.returns-in-4
 unfolding is_invalid_b
-returns-in-4 c = rw c.domain_is_live.ensures (by-domain _ _ c.args.x.kind (omega arith) (omega arith))
+returns-in-4 c = rw c.is_live-in-4.ensures (by-domain _ _ c.args.x.kind (omega arith) (omega arith))
 
 pub returns-in_default : goal.returns-in_default
 unfolding is_invalid_b

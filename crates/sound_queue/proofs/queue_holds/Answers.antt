@@ -1,38 +1,41 @@
 -- Each test leaves the answer to those behind it.
-use Prim.Native.Nat.{◌+◌}
-use mathlib.Core.Path.{ap, ◌∙◌}
-use native.Mathlib.Omega.{arith}
+use Rattle.std.proofs.Common.{◌+◌, ap, ◌∙◌, arith}
 use Rattle.tables.specs.View.{view}
 use Rattle.sizes.specs.Sizes.{sizes_of}
-use Rattle.sound_queue.specs.Steps.{updates_seen, queued-fits, ring-outside, ring-inside, ring-stop, ring-go}
-use borrow.Author.Rules.{rules}
-use mathlib.Core.Bool.{not}
+use Rattle.sound_queue.specs.Steps.{updates_seen, queued-fits, read-outside, write-outside, ring-go, ring-stop}
 use Rattle.sound_queue.proofs.queue_holds.Goals as goal
+use Rattle.sound_queue.proofs.queue_holds.Goals.{then-n-read-via-then-n-read, then-n-read-via-else-n-read+then-n-write}
 
 pub overflow_add-n : goal.overflow_add-n
 unfolding sizes_of
 overflow_add-n c = omega (arith, c.size-n.ensures, c.requires.limits.updates-high)
 
-pub returns-then-not-inside : goal.returns-then-not-inside
-returns-then-not-inside c = ring-outside (view c.args.t.now) _ _ _ _ (ap (λ x. x + 1) (c.size-n.ensures ∙ updates_seen c.args.t.now)) c.read_place-read.ensures c.write_place-write.ensures c.both-inside.ensures (ap not c.if-not-inside.true)
+pub returns-then-n-read : goal.returns-then-n-read
+returns-then-n-read c =
+    let n = ap (λ x. x + 1) (c.size-n.ensures ∙ updates_seen c.args.t.now) in
+    elim c.then-n-read.branch [
+      | then-n-read-via-then-n-read w ↦ read-outside (view c.args.t.now) _ _ _ n c.read_place-read.ensures c.write_place-write.ensures w.if-n-read.true
+      | then-n-read-via-else-n-read+then-n-write w ↦ write-outside (view c.args.t.now) _ _ _ n c.read_place-read.ensures c.write_place-write.ensures (omega arith) w.if-n-write.true
+    ]
 
 pub overflow_add-m : goal.overflow_add-m
 unfolding sizes_of
-overflow_add-m c = let h = ring-inside (view c.args.t.now) _ _ _ _ (ap (λ x. x + 1) (c.size-n.ensures ∙ updates_seen c.args.t.now)) c.read_place-read.ensures c.write_place-write.ensures c.both-inside.ensures (ap not c.if-not-inside.false) in omega (arith, c.size-n.ensures, c.requires.limits.updates-high)
+overflow_add-m c = omega (arith, c.size-n.ensures, c.requires.limits.updates-high)
 
-pub overflow_sub-m : goal.overflow_sub-m
-overflow_sub-m c = let h = ring-inside (view c.args.t.now) _ _ _ _ (ap (λ x. x + 1) (c.size-n.ensures ∙ updates_seen c.args.t.now)) c.read_place-read.ensures c.write_place-write.ensures c.both-inside.ensures (ap not c.if-not-inside.false) in omega arith
-
-pub numbers_hold-hold-requires : goal.numbers_hold-hold-requires
+pub numbers_hold-requires-clause-n_bound : goal.numbers_hold-requires-clause-n_bound
 unfolding sizes_of
-numbers_hold-hold-requires c = let h = ring-inside (view c.args.t.now) _ _ _ _ (ap (λ x. x + 1) (c.size-n.ensures ∙ updates_seen c.args.t.now)) c.read_place-read.ensures c.write_place-write.ensures c.both-inside.ensures (ap not c.if-not-inside.false) in record { sized = c.requires; n_bound = omega (arith, h, c.size-n.ensures, c.requires.limits.updates-high) }
+numbers_hold-requires-clause-n_bound c = omega (arith, c.size-n.ensures, c.requires.limits.updates-high)
 
-pub returns-then-not-hold : goal.returns-then-not-hold
-returns-then-not-hold c = ring-stop (view c.args.t.now) _ _ _ _ (ap (λ x. x + 1) (c.size-n.ensures ∙ updates_seen c.args.t.now)) c.read_place-read.ensures c.write_place-write.ensures c.both-inside.ensures (ap not c.if-not-inside.false) _ c.numbers_hold-hold.ensures (ap not c.if-not-hold.true)
-
-pub is_singly-requires : goal.is_singly-requires
+pub is_singly-requires-clause-m_bound : goal.is_singly-requires-clause-m_bound
 unfolding sizes_of
-is_singly-requires c = let h = ring-inside (view c.args.t.now) _ _ _ _ (ap (λ x. x + 1) (c.size-n.ensures ∙ updates_seen c.args.t.now)) c.read_place-read.ensures c.write_place-write.ensures c.both-inside.ensures (ap not c.if-not-inside.false) in record { sized = c.requires; n_nonzero = omega arith; m_bound = queued-fits _ _ _ h.0 (omega (arith, c.size-n.ensures, c.requires.limits.updates-high)) }
+is_singly-requires-clause-m_bound c = queued-fits _ _ _ (omega arith) (omega (arith, c.size-n.ensures, c.requires.limits.updates-high))
 
-pub returns : goal.returns
-returns c = c.is_singly.ensures ∙ ring-go (view c.args.t.now) _ _ _ _ (ap (λ x. x + 1) (c.size-n.ensures ∙ updates_seen c.args.t.now)) c.read_place-read.ensures c.write_place-write.ensures c.both-inside.ensures (ap not c.if-not-inside.false) _ c.numbers_hold-hold.ensures (ap not c.if-not-hold.false)
+pub returns-then-numbers_hold : goal.returns-then-numbers_hold
+returns-then-numbers_hold c =
+    let n = ap (λ x. x + 1) (c.size-n.ensures ∙ updates_seen c.args.t.now) in
+    ring-go (view c.args.t.now) _ _ _ n c.read_place-read.ensures c.write_place-write.ensures (omega arith) (omega arith) _ c.numbers_hold.ensures _ c.if-numbers_hold.true c.is_singly.ensures
+
+pub returns-else-numbers_hold : goal.returns-else-numbers_hold
+returns-else-numbers_hold c =
+    let n = ap (λ x. x + 1) (c.size-n.ensures ∙ updates_seen c.args.t.now) in
+    ring-stop (view c.args.t.now) _ _ _ n c.read_place-read.ensures c.write_place-write.ensures (omega arith) (omega arith) _ c.numbers_hold.ensures c.if-numbers_hold.false

@@ -1,33 +1,18 @@
--- The rows before i hold.
-use mathlib.Core.Path.{ap, ◌∙◌}
-use Prim.Native.Nat.{◌-◌}
-use native.Mathlib.Omega.{arith}
-use borrow.Author.Rules.{rules}
-use borrow.Author.Tests.{not-true, not-false}
-use Rattle.base.specs.Tests.{all_from}
+-- Each row by its number, beside the link of the pool.
+use Rattle.std.proofs.Common.{ℕ, refl, arith, rules, get_or}
+use Rattle.std.proofs.lemmas.Iterator.{YieldsList-from_range}
+use Rattle.std.proofs.lemmas.Iterator.Search.{all_from_yields_List}
+use Rattle.base.specs.Ranges.{all-in}
 use Rattle.tables.specs.View.{view}
-use Rattle.list_links.specs.declared.Stack.TheVariants.{Records}
-use Rattle.sound_rows.specs.Hold.{row_holds, rows_hold}
-use Rattle.sound_rows.specs.Passed.{Passed, passed_start, passed-go, passed-stop, passed-end}
-use Rattle.sound_rows.specs.Rows.{record-row}
+use Rattle.sound_rows.specs.Hold.{rows_hold}
+use Rattle.sound_rows.specs.Rows.{record_fits, record-row}
 use Rattle.sound_rows.proofs.records_hold.Goals as goal
 
-pub loop-i-init : goal.loop-i-init
-loop-i-init c = passed_start _ _
-
-pub returns-then-not-holds : goal.returns-then-not-holds
-unfolding rows_hold
-returns-then-not-holds c = passed-stop _ _ c.loop-i.i c.loop-i.invariant c.record_holds-holds.result c.loop-i-test.true (c.record_holds-holds.ensures ∙ record-row (view c.args.t.now) _ _ c.loop-i.i _ c.links_of-free.ensures c.records_of-rows.ensures (omega (arith, c.slots_of-n.ensures, c.loop-i-test.true)) c.word.ensures) (c.if-not-holds.true) ∙ ap (all_from (row_holds (view c.args.t.now) Records) 0) c.slots_of-n.ensures
-
-pub overflow_add-i : goal.overflow_add-i
-overflow_add-i c = omega arith
-
-pub loop-i-smaller : goal.loop-i-smaller
-loop-i-smaller c = omega arith
-
-pub loop-i-preserved : goal.loop-i-preserved
-loop-i-preserved c = passed-go _ _ c.loop-i.i c.loop-i.invariant c.record_holds-holds.result c.loop-i-test.true (c.record_holds-holds.ensures ∙ record-row (view c.args.t.now) _ _ c.loop-i.i _ c.links_of-free.ensures c.records_of-rows.ensures (omega (arith, c.slots_of-n.ensures, c.loop-i-test.true)) c.word.ensures) (c.if-not-holds.false)
-
 pub returns : goal.returns
-unfolding rows_hold
-returns c = passed-end _ _ c.loop-i.i c.loop-i.invariant c.loop-i-test.false ∙ ap (all_from (row_holds (view c.args.t.now) Records) 0) c.slots_of-n.ensures
+unfolding rows_hold record_fits
+returns c =
+    let test = λ (i : ℕ). record_fits (get_or c.links_of-links.result.now i 0) c.rows_of-rows.result.now i in
+    all-in test _ c.slots_of-n.result _ c.all.result
+    (all_from_yields_List test _ _ c.all.result c.all.ensures.ran (YieldsList-from_range 0 c.slots_of-n.result c.slots_of-n.result refl (omega arith)) (λ x b q k. search rules))
+    c.slots_of-n.ensures
+    (λ i h. record-row (view c.args.t.now) _ _ i _ c.links_of-links.ensures c.rows_of-rows.ensures h refl)

@@ -1,34 +1,34 @@
 -- The three tests in turn; clearing leaves the words of w as they were.
-use native.Mathlib.Omega.{arith}
+use Rattle.std.proofs.Common.{◌∙◌, ap, arith, length-take, rules}
+use Rattle.std.proofs.Math.ListN.{replicate}
 use Rattle.sound_tree.specs.Whole.{regions-few, regions-fit, children-few, rows-fail, lists-fail, all_tested, marks-inside}
 use Rattle.sound_tree.specs.Ways.{all-cleared}
-use mathlib.Core.Path.{refl, ◌∙◌}
-use borrow.Author.Rules.{rules}
 use Rattle.sound_tree.proofs.tree_holds.Goals as goal
 
-pub regions_of-p-requires : goal.regions_of-p-requires
-regions_of-p-requires c = c.requires.sized
+pub count_children-requires : goal.count_children-requires
+count_children-requires c = regions-few _ _ c.requires.sized c.size-n.ensures
 
-pub links_of-links-requires : goal.links_of-links-requires
-links_of-links-requires c = c.requires.sized
-
-pub count_children-many-requires : goal.count_children-many-requires
-count_children-many-requires c = regions-few _ _ c.requires.sized c.size-n.ensures
-
-pub overflow_sub-many : goal.overflow_sub-many
-overflow_sub-many c = omega arith
+pub returns-in_default-clause-value : goal.returns-in_default-clause-value
+returns-in_default-clause-value c = rows-fail _ _ c.requires.sized c.size-n.ensures _ c.rows_of-p.ensures _ c.links_of-links.ensures c.in_default.ensures
 
 pub lists_hold-requires : goal.lists_hold-requires
-lists_hold-requires c = (regions-few _ _ c.requires.sized c.size-n.ensures, children-few _ _ c.requires.sized c.size-n.ensures _ c.regions_of-p.ensures _ c.links_of-links.ensures _ c.count_children-many.ensures c.if-many-gt0.true)
+lists_hold-requires c = (regions-few _ _ c.requires.sized c.size-n.ensures, children-few _ _ c.requires.sized c.size-n.ensures _ c.rows_of-p.ensures _ c.links_of-links.ensures _ c.in-Some.ensures)
 
-pub clear_first-requires : goal.clear_first-requires
-clear_first-requires c = omega (arith, regions-fit _ _ c.requires.sized c.size-n.ensures, c.requires.w_len, c.roots_hold-rooted.auto.w)
+pub returns-then-not-lists_hold-clause-value : goal.returns-then-not-lists_hold-clause-value
+returns-then-not-lists_hold-clause-value c = lists-fail _ _ c.requires.sized c.size-n.ensures _ c.rows_of-p.ensures _ c.links_of-links.ensures _ c.in-Some.ensures _ c.lists_hold.ensures c.if-not-lists_hold.true
 
-pub returns-then-lists_hold : goal.returns-then-lists_hold
-returns-then-lists_hold c = record { value = all_tested _ _ c.requires.sized c.size-n.ensures _ c.regions_of-p.ensures _ c.links_of-links.ensures _ c.count_children-many.ensures _ c.if-many-gt0.true c.lists_hold.ensures _ c.requires.w_len c.requires.w_value _ c.if-lists_hold.true c.roots_hold-rooted.ensures.value; w_unchanged = all-cleared _ _ _ _ (omega (arith, regions-fit _ _ c.requires.sized c.size-n.ensures, c.requires.w_len)) c.requires.w_value (marks-inside _ _ c.requires.sized c.size-n.ensures _ c.regions_of-p.ensures _ _ c.roots_hold-rooted.ensures.w_after) c.clear_first.ensures }
+pub slice_bounds-fill-end : goal.slice_bounds-fill-end
+slice_bounds-fill-end c = omega (arith, regions-fit _ _ c.requires.sized c.size-n.ensures, c.requires.w_len, c.roots_hold-rooted.auto.w)
 
-pub returns-else-lists_hold : goal.returns-else-lists_hold
-returns-else-lists_hold c = record { value = lists-fail _ _ c.requires.sized c.size-n.ensures _ c.regions_of-p.ensures _ c.links_of-links.ensures _ c.count_children-many.ensures _ c.if-many-gt0.true c.lists_hold.ensures c.if-lists_hold.false; w_unchanged = refl }
+pub slice_bounds-fill-end-2 : goal.slice_bounds-fill-end-2
+slice_bounds-fill-end-2 c = simp length-take (omega (arith, regions-fit _ _ c.requires.sized c.size-n.ensures, c.requires.w_len, c.roots_hold-rooted.auto.w))
 
-pub returns-else-many-gt0 : goal.returns-else-many-gt0
-returns-else-many-gt0 c = record { value = rows-fail _ _ c.requires.sized c.size-n.ensures _ c.regions_of-p.ensures _ c.links_of-links.ensures _ c.count_children-many.ensures c.if-many-gt0.false; w_unchanged = refl }
+pub returns-clause-value : goal.returns-clause-value
+returns-clause-value c = all_tested _ _ c.requires.sized c.size-n.ensures _ c.rows_of-p.ensures _ c.links_of-links.ensures _ c.in-Some.ensures _ c.lists_hold.ensures _ c.requires.w_len c.requires.w_value _ c.if-not-lists_hold.false c.roots_hold-rooted.ensures.value
+
+pub returns-clause-w_unchanged : goal.returns-clause-w_unchanged
+returns-clause-w_unchanged c =
+    let b = regions-fit _ _ c.requires.sized c.size-n.ensures in
+    all-cleared _ _ _ _ (omega (arith, b, c.requires.w_len)) c.requires.w_value
+    (marks-inside _ _ c.requires.sized c.size-n.ensures _ c.rows_of-p.ensures _ _ c.roots_hold-rooted.ensures.w_after)
+    (c.fill.ensures.after (λ y h. search rules) ∙ ap (λ m. replicate m 0) (simp length-take (omega (arith, b, c.requires.w_len, c.roots_hold-rooted.auto.w))))

@@ -1,6 +1,9 @@
--- Each word is 0.
-use borrow.Author.Rules.{rules}
+-- Every word is 0.
+use Rattle.std.proofs.Common.{arith}
+use Rattle.std.proofs.lemmas.Grind.{common_steps}
+use Rattle.sound_updates.specs.Updates.{clear_b}
 use Rattle.sound_updates.proofs.is_clear.Goals as goal
 
 pub returns : goal.returns
-returns c = rw (c.both-2.ensures, c.both.ensures, c.both-front.ensures)
+unfolding clear_b
+returns c = grind (arith, common_steps)

@@ -1,7 +1,6 @@
 -- What is lent is the ring, and its marks.
 use mathlib.Core.Path.{◌∙◌}
 use Rattle.stored_ring.specs.Stored.{ring-read}
-use borrow.Author.Rules.{rules}
 use Rattle.stored_ring.proofs.load_ring.Goals as goal
 
 pub returns : goal.returns

@@ -1,7 +1,6 @@
 -- The ring and its marks are two of the sections, and lie in the words.
 use Rattle.stored_ring.specs.Stored.{ring-found}
 use native.Mathlib.Omega.{arith}
-use borrow.Author.Rules.{rules}
 use Rattle.stored_ring.proofs.span_of.Goals as goal
 
 pub ring_at-start-requires : goal.ring_at-start-requires

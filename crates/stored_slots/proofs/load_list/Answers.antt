@@ -2,7 +2,6 @@
 use Rattle.stored_slots.specs.Record.{list_of, list_at}
 use Rattle.stored_slots.specs.Rows.{row_read}
 use Rattle.stored_slots.specs.Steps.{domain-there, no-list}
-use borrow.Author.Rules.{rules}
 use mathlib.Core.Path.{ap, ◌∙◌}
 use Rattle.stored_slots.proofs.load_list.Goals as goal
 

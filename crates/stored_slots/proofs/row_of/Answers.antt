@@ -2,7 +2,6 @@
 use Prim.Native.Nat.{ℕ, ◌*◌}
 use Rattle.stored_slots.specs.Rows.{row-found}
 use Rattle.tables.specs.Rows.{rows_inside}
-use borrow.Author.Rules.{rules}
 use mathlib.Core.Path.{sym, ap}
 use native.Mathlib.Omega.{arith}
 use Rattle.stored_slots.proofs.row_of.Goals as goal

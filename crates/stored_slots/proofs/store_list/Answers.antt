@@ -1,7 +1,6 @@
 -- The row comes back with the list in it.
 use Rattle.stored_slots.specs.Rows.{row_back}
 use Rattle.stored_slots.specs.Steps.{domain-there, not-stored}
-use borrow.Author.Rules.{rules}
 use Rattle.stored_slots.proofs.store_list.Goals as goal
 
 pub row_of-r-requires : goal.row_of-r-requires

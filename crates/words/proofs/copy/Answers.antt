@@ -1,26 +1,13 @@
--- The first i words are those of `from`.
-use Rattle.words.specs.Copies.{copied, begun-none, begun_more, begun_all}
-use borrow.Author.Tests.{eq-eqb, ne_eqb}
-use mathlib.Core.Path.{refl, sym}
-use native.Mathlib.Omega.{arith}
+-- By the test of the lengths.
+use Rattle.std.proofs.Common.{eq-eqb}
+use borrow.Author.Tests.{ne_eqb}
+use Rattle.words.specs.Copies.{copied}
 use Rattle.words.proofs.copy.Goals as goal
 
-pub loop-i-init : goal.loop-i-init
-loop-i-init c = (omega arith, begun-none _ _ (sym c.if-n-to.true))
-
-pub offset_bounds-to-i : goal.offset_bounds-to-i
-offset_bounds-to-i c = omega (arith, c.loop-i.invariant.1.long)
-
-pub bounds-to-i : goal.bounds-to-i
-bounds-to-i c = omega (arith, c.loop-i.invariant.1.long)
-
-pub loop-i-preserved : goal.loop-i-preserved
-loop-i-preserved c = (omega arith, begun_more _ _ _ _ c.loop-i-test.true (c.loop-i.invariant.1) refl)
-
-pub returns-after-loop-i : goal.returns-after-loop-i
+pub returns-then-from-to : goal.returns-then-from-to
 unfolding copied
-returns-after-loop-i c = rw (eq-eqb _ _ c.if-n-to.true) (begun_all _ _ _ (c.loop-i.invariant.1) c.loop-i-test.false)
+returns-then-from-to c = rw (eq-eqb _ _ c.if-from-to.true) c.copy_from_slice.ensures.after
 
-pub returns-else-n-to : goal.returns-else-n-to
+pub returns-else-from-to : goal.returns-else-from-to
 unfolding copied
-returns-else-n-to c = rw (ne_eqb _ _ c.if-n-to.false)
+returns-else-from-to c = rw (ne_eqb _ _ c.if-from-to.false)

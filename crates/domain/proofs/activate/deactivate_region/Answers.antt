@@ -1,13 +1,12 @@
 -- One step after the other.
 use Rattle.domain.specs.Activate.{deactivate}
-use Rattle.answers.specs.Then.{on-done, on-refused}
-use borrow.Author.Rules.{rules}
+use Rattle.answers.specs.Then.{on-done, on-err}
 use Rattle.domain.proofs.activate.deactivate_region.Goals as goal
 
-pub returns-in-Done : goal.returns-in-Done
+pub returns : goal.returns
 unfolding deactivate
-returns-in-Done c = let h = on-done _ _ _ _ (c.remove_region.ensures.value, c.remove_region.ensures.left) _ _ _ c.in-Done.is (c.notify_if.ensures.value, c.notify_if.ensures.left) in record { value = h.0; left = h.1 }
+returns c = let h = on-done _ _ _ _ (c.remove_region.ensures.value, c.remove_region.ensures.left) _ _ _ c.in_ok-marks.was (c.notify_if.ensures.value, c.notify_if.ensures.left) in record { value = h.0; left = h.1 }
 
-pub returns-in-Refused : goal.returns-in-Refused
+pub returns-in_err-marks : goal.returns-in_err-marks
 unfolding deactivate
-returns-in-Refused c = let h = on-refused _ _ _ _ (c.remove_region.ensures.value, c.remove_region.ensures.left) _ c.in-Refused.is in record { value = h.0; left = h.1 }
+returns-in_err-marks c = let h = on-err _ _ _ _ (c.remove_region.ensures.value, c.remove_region.ensures.left) _ c.in_err-marks.was _ c.from_residual.ensures.1 in record { value = h.0; left = h.1 }

@@ -1,11 +1,8 @@
 -- After k turns the run and the link at hand are what the first k turns make of them.
-use Rattle.std.proofs.Common.{◌≡◌, ◌-◌, ◌≤◌}
+use Rattle.std.proofs.Common.{◌≡◌}
 use Rattle.tables.specs.View.{view}
 use Rattle.readings.specs.Listing.{link_at, run_at}
 use Rattle.engine.proofs.read.mityvurno_permissions.Given as goal
 
 abbrev pub invariant-loop-k : goal.invariant-loop-k
-invariant-loop-k l = (l.k ≤ l.p.turns) × (l.at ≡ link_at (view l.t) l.p.at l.k) × (l.run ≡ run_at (view l.t) l.p.at l.initial.run l.k)
-
-abbrev pub decreases-loop-k : goal.decreases-loop-k
-decreases-loop-k l = l.p.turns - l.k
+invariant-loop-k l = (l.at ≡ link_at (view l.t) l.p.at l.k) × (l.run ≡ run_at (view l.t) l.p.at l.initial.run l.k)

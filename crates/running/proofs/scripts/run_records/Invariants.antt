@@ -1,13 +1,8 @@
 -- The calls so far, and those of the bytes that are left, are the script's. Each record takes four bytes at least, so that the bytes left fall.
 use Prim.Native.Nat.{◌-◌}
-use mathlib.Core.Path.{◌≡◌, refl, ap}
-use lib.ListN.{length, length-drop}
-use native.Mathlib.Omega.{arith}
-use Rattle.script_progress.specs.declared.Place.{Place}
-use Rattle.running.specs.Outcomes.{taken-size, was-run, was-short, was-bad}
+use mathlib.Core.Path.{◌≡◌}
+use lib.ListN.{length}
 use Rattle.running.specs.BetweenRecords.{BetweenRecords}
-use Rattle.running.specs.Steps.{part-rest, half-start, half-ended, half-short, half-bad, half-behind}
-use borrow.Author.Rules.{rules}
 use Rattle.running.proofs.scripts.run_records.Given as goal
 
 abbrev pub invariant-loop-p : goal.invariant-loop-p

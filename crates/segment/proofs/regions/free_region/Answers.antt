@@ -1,17 +1,12 @@
--- By what freeing answers.
-use mathlib.Core.Path.{refl}
+-- What the pool answers.
+use Rattle.answers.specs.Then.{passed}
 use Rattle.segment.specs.Regions.{freed_region}
-use borrow.Author.Rules.{rules}
 use Rattle.segment.proofs.regions.free_region.Goals as goal
 
-pub returns-in-Done : goal.returns-in-Done
+pub returns : goal.returns
 unfolding freed_region
-returns-in-Done c = rw (← c.free_region.ensures.value, c.in-Done.is) record { value = refl; left = c.free_region.ensures.left }
+returns c = record { value = rw (← c.free.ensures.value, c.in_ok-free.was); left = c.free.ensures.left }
 
-pub returns-in-Spent : goal.returns-in-Spent
+pub returns-in_err-free : goal.returns-in_err-free
 unfolding freed_region
-returns-in-Spent c = rw (← c.free_region.ensures.value, c.in-Spent.is) record { value = refl; left = c.free_region.ensures.left }
-
-pub returns-in-NotHeld : goal.returns-in-NotHeld
-unfolding freed_region
-returns-in-NotHeld c = rw (← c.free_region.ensures.value, c.in-NotHeld.is) record { value = refl; left = c.free_region.ensures.left }
+returns-in_err-free c = record { value = rw (← c.free.ensures.value, c.in_err-free.was, passed _ _ c.from_residual.ensures.1); left = c.free.ensures.left }

@@ -1,19 +1,19 @@
 -- One step after the other, where the piece is not empty.
-use mathlib.Core.Path.{refl}
+use Rattle.std.proofs.Common.{refl}
 use borrow.Author.Tests.{lt-ltb, le-ltb}
-use Rattle.answers.specs.Then.{stays, on-done, on-refused}
+use Rattle.base.specs.Clauses.{value_left}
+use Rattle.answers.specs.Then.{stays, on-done, on-err}
 use Rattle.segment.specs.Regions.{move_piece}
-use borrow.Author.Rules.{rules}
 use Rattle.segment.proofs.regions.move_piece.Goals as goal
 
-pub returns-in-Done : goal.returns-in-Done
+pub returns-then-x-y : goal.returns-then-x-y
 unfolding move_piece
-returns-in-Done c = rw (lt-ltb _ _ c.if-x-y.true, ← c.access-a.ensures) (let h = on-done _ _ _ _ (c.deactivate_region.ensures.value, c.deactivate_region.ensures.left) _ _ _ c.in-Done.is (c.activate_region.ensures.value, c.activate_region.ensures.left) in record { value = h.0; left = h.1 })
-
-pub returns-in-Refused : goal.returns-in-Refused
-unfolding move_piece
-returns-in-Refused c = rw (lt-ltb _ _ c.if-x-y.true, ← c.access-a.ensures) (let h = on-refused _ _ _ _ (c.deactivate_region.ensures.value, c.deactivate_region.ensures.left) _ c.in-Refused.is in record { value = h.0; left = h.1 })
+returns-then-x-y c = rw (le-ltb _ _ c.if-x-y.true) record { value = refl; left = stays _ c.requires }
 
 pub returns : goal.returns
 unfolding move_piece
-returns c = rw (le-ltb _ _ c.if-x-y.false) record { value = refl; left = stays _ c.requires }
+returns c = rw (lt-ltb _ _ c.if-x-y.false, ← c.access-a.ensures) (value_left (on-done _ _ _ _ (c.deactivate_region.ensures.value, c.deactivate_region.ensures.left) _ _ _ c.in_ok-deactivate_region.was (c.activate_region.ensures.value, c.activate_region.ensures.left)))
+
+pub returns-in_err-deactivate_region : goal.returns-in_err-deactivate_region
+unfolding move_piece
+returns-in_err-deactivate_region c = rw (lt-ltb _ _ c.if-x-y.false, ← c.access-a.ensures) (value_left (on-err _ _ _ _ (c.deactivate_region.ensures.value, c.deactivate_region.ensures.left) _ c.in_err-deactivate_region.was _ c.from_residual.ensures.1))

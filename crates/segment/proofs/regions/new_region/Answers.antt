@@ -1,13 +1,14 @@
--- The slot that is given gets the region.
-use mathlib.Core.Path.{refl}
+-- The slot that is given gets the region; or none is free.
+use Rattle.std.specs.Prelude.{Err}
+use Rattle.std.proofs.Common.{refl, sym, ap, ◌∙◌}
+use Rattle.answers.specs.Then.{passed, or-some, or-none}
 use Rattle.segment.specs.Regions.{new_region}
-use borrow.Author.Rules.{rules}
 use Rattle.segment.proofs.regions.new_region.Goals as goal
 
-pub returns-in-At : goal.returns-in-At
+pub returns : goal.returns
 unfolding new_region
-returns-in-At c = rw (← c.allocate_region.ensures.value, c.in-At.is) record { value = refl; left = rw c.allocate_region.ensures.left.seen at c.store_region.ensures }
+returns c = rw (← c.allocate.ensures.value, or-some _ _ _ (sym c.ok_or.ensures.value ∙ c.in_ok-h.was)) record { value = refl; left = rw c.allocate.ensures.left.seen at c.store.ensures }
 
-pub returns-in-Full : goal.returns-in-Full
+pub returns-in_err-h : goal.returns-in_err-h
 unfolding new_region
-returns-in-Full c = rw (← c.allocate_region.ensures.value, c.in-Full.is) record { value = refl; left = c.allocate_region.ensures.left }
+returns-in_err-h c = let n = or-none _ _ _ (sym c.ok_or.ensures.value ∙ c.in_err-h.was) in rw (← c.allocate.ensures.value, n.0) record { value = passed _ _ c.from_residual.ensures.1 ∙ ap Err n.1; left = c.allocate.ensures.left }

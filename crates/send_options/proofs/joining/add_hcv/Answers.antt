@@ -1,8 +1,7 @@
 -- The region is read, its rights joined with the flags, and stored.
 use Rattle.send_options.specs.Joining.{add_hcv}
-use borrow.Author.Rules.{rules}
 use Rattle.send_options.proofs.joining.add_hcv.Goals as goal
 
 pub returns : goal.returns
 unfolding add_hcv
-returns c = rw (c.union-ops.ensures, c.rights_of.ensures, c.load_region-r.ensures) at c.store_region.ensures
+returns c = rw (c.union-ops.ensures, c.rights_of.ensures, c.load-r.ensures) at c.store.ensures

@@ -1,6 +1,5 @@
 -- A row of the walk: nothing, or the slots and the head.
 use Rattle.sound_capas.specs.Rows.{row-free, row-used}
-use borrow.Author.Rules.{rules}
 use Rattle.sound_capas.proofs.walk.domain_walk.Goals as goal
 
 pub returns-then-word-gt0 : goal.returns-then-word-gt0

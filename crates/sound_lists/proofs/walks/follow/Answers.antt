@@ -1,32 +1,36 @@
 -- What is left to walk, with the marks so far, finds what the whole walk finds.
-use mathlib.Core.Path.{◌≡◌, refl, ◌∙◌}
-use Prim.Native.Nat.{◌-◌}
-use native.Mathlib.Omega.{arith}
-use borrow.Author.Rules.{rules}
+use Rattle.std.proofs.Common.{◌≡◌, ◌-◌, refl, eqb, subst, ◌∙◌, arith}
 use borrow.Author.Tests.{not-true, not-false}
-use lib.ListN.{length}
 use Rattle.tables.specs.View.{view}
 use Rattle.list_links.specs.Reads.{slots-inside, step_is}
-use Rattle.sound_lists.specs.Loops.{Going, going_start, more-to-follow, follow-go, follow-stop, follow-end}
+use Rattle.sound_lists.specs.Loops.{going_start, follow-go, follow-stop, follow-end, Marked}
 use Rattle.sound_lists.proofs.walks.follow.Goals as goal
+use Rattle.sound_lists.proofs.walks.follow.Goals.{then-not-x-via-then-not-x, then-not-x-via-else-not-x+then-is_marked}
 
-pub loop-p-init : goal.loop-p-init
-loop-p-init c = (refl, going_start _ _ _ _ _ _)
+pub loop-links-init : goal.loop-links-init
+loop-links-init c = (refl, going_start _ _ _ _ _ _)
 
-pub overflow_sub-i : goal.overflow_sub-i
-overflow_sub-i c = omega (arith, more-to-follow c.loop-p.followed c.args.most c.loop-p.l _ c.both.ensures c.loop-p-test.true)
+pub returns-then-link-eq0 : goal.returns-then-link-eq0
+returns-then-link-eq0 c = follow-end (view c.args.t.now) _ _ _ _ _ _ _ _ c.loop-links.invariant.1 (λ h k. omega arith)
 
-pub returns-then-not-new : goal.returns-then-not-new
-returns-then-not-new c = follow-stop (view c.args.t.now) _ _ _ _ _ _ _ _ c.loop-p.invariant.1 _ c.both.ensures c.loop-p-test.true _ _ _ (step_is (view c.args.t.now) c.args.s _ _ _ (c.loop-p.l - 1) _ c.words_of-p.ensures c.records_of-records.ensures c.slots_of-n.ensures c.step_at-x.ensures) c.is_marked.ensures c.both-new.ensures (c.if-not-new.true)
+pub returns-then-not-x : goal.returns-then-not-x
+returns-then-not-x c =
+    let ex = step_is (view c.args.t.now) c.args.s _ _ _ (c.loop-links.link - 1) _ c.words_of-p.ensures c.rows_of-records.ensures c.slots_of-n.ensures c.step_at-x.ensures in
+    elim c.then-not-x.branch [
+      | then-not-x-via-then-not-x w ↦ follow-stop (view c.args.t.now) _ _ _ _ _ _ _ _ c.loop-links.invariant.1 (omega arith) (omega arith) _ _ ex refl (rw (not-true _ w.if-not-x.true) refl)
+      | then-not-x-via-else-not-x+then-is_marked w ↦ follow-stop (view c.args.t.now) _ _ _ _ _ _ _ _ c.loop-links.invariant.1 (omega arith) (omega arith) _ _ ex w.is_marked.ensures (rw (not-false _ w.if-not-x.false, w.if-is_marked.true) refl)
+    ]
 
-pub overflow_add-followed : goal.overflow_add-followed
-overflow_add-followed c = omega (arith, more-to-follow c.loop-p.followed c.args.most c.loop-p.l _ c.both.ensures c.loop-p-test.true)
-
-pub loop-p-smaller : goal.loop-p-smaller
-loop-p-smaller c = omega (arith, more-to-follow c.loop-p.followed c.args.most c.loop-p.l _ c.both.ensures c.loop-p-test.true)
-
-pub loop-p-preserved : goal.loop-p-preserved
-loop-p-preserved c = (c.mark.auto.w ∙ c.loop-p.invariant.0, follow-go (view c.args.t.now) _ _ _ _ _ _ _ _ c.loop-p.invariant.1 _ c.both.ensures c.loop-p-test.true _ _ _ (step_is (view c.args.t.now) c.args.s _ _ _ (c.loop-p.l - 1) _ c.words_of-p.ensures c.records_of-records.ensures c.slots_of-n.ensures c.step_at-x.ensures) c.is_marked.ensures c.both-new.ensures (c.if-not-new.false) (omega (arith, slots-inside c.args.t.now c.args.s c.requires.sized, c.requires.w_len, c.loop-p.invariant.0)) _ c.mark.ensures)
+pub loop-links-preserved : goal.loop-links-preserved
+loop-links-preserved c = (
+  c.mark.auto.w ∙ c.loop-links.invariant.0,
+  follow-go (view c.args.t.now) _ _ _ _ _ _ _ _ c.loop-links.invariant.1 (omega arith) (omega arith) _ _
+      (step_is (view c.args.t.now) c.args.s _ _ _ (c.loop-links.link - 1) _ c.words_of-p.ensures c.rows_of-records.ensures c.slots_of-n.ensures c.step_at-x.ensures)
+      c.is_marked.ensures (not-false _ c.if-not-x.false) c.if-is_marked.false (omega (arith, slots-inside c.args.t.now c.args.s c.requires.sized, c.requires.w_len, c.loop-links.invariant.0)) _ c.mark.ensures,
+)
 
 pub returns : goal.returns
-returns c = follow-end (view c.args.t.now) _ _ _ _ _ _ _ _ c.loop-p.invariant.1 _ c.both.ensures c.loop-p-test.false
+returns c =
+    let e : c.loop-links.links ≡ c.args.most = omega arith in
+    let m = follow-end (view c.args.t.now) _ _ _ _ _ _ _ _ c.loop-links.invariant.1 (λ h k. omega arith) in
+    subst (λ x. Marked (view c.args.t.now) c.args.s c.args.e c.args.most c.args.l c.args.w.now (record { ended = eqb c.loop-links.link c.args.e; links = x }) c.loop-links.w) e m

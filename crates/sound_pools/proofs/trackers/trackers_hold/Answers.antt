@@ -1,6 +1,5 @@
 -- The walk along all trackers, then the count.
 use Rattle.sound_pools.specs.Answers.{trackers-is}
-use borrow.Author.Rules.{rules}
 use Rattle.sound_pools.proofs.trackers.trackers_hold.Goals as goal
 
 pub returns : goal.returns

@@ -1,7 +1,5 @@
 -- What is left of the rounds from here is all of them.
-use borrow.Author.Rules.{rules}
-use Rattle.sound_sweep.specs.Rounds.{Round, events, round-start, round-less, round-go, round-end}
-use mathlib.Core.Path.{sym, ◌∙◌}
+use Rattle.sound_sweep.specs.Rounds.{Round, events}
 use Rattle.sound_sweep.proofs.records.inside.Given as goal
 
 abbrev pub invariant-loop-ok : goal.invariant-loop-ok

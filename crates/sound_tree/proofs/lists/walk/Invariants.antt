@@ -1,12 +1,7 @@
 -- The list from the link on is left to walk.
-use mathlib.Core.Path.{◌≡◌, ◌∙◌}
-use borrow.Author.Rules.{rules}
-use native.Mathlib.Omega.{arith}
-use borrow.Author.Tests.{not-true, not-false}
-use Prim.Native.Nat.{◌<◌, ◌≤◌}
+use Rattle.std.proofs.Common.{◌≡◌, ◌≤◌}
 use Rattle.sections.specs.Rows.{region_in}
 use Rattle.sound_tree.specs.Tree.{walk_from, walked}
-use Rattle.sound_tree.specs.Turns.{walk_turn, walk-stop, walk-full, walk_end}
 use Rattle.sound_tree.proofs.lists.walk.Given as goal
 
 abbrev pub invariant-loop-link : goal.invariant-loop-link

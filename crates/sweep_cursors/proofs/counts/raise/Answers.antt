@@ -3,7 +3,6 @@ use Prim.Native.Nat.{◌%◌}
 use native.Mathlib.Omega.{arith}
 use Rattle.model.specs.Fields.{Field}
 use Rattle.sweep_cursors.specs.Sums.{raised, ones}
-use borrow.Author.Rules.{rules}
 use Rattle.sweep_cursors.proofs.counts.raise.Goals as goal
 
 pub overflow_add-result : goal.overflow_add-result

@@ -1,6 +1,5 @@
 -- No sums, and all events ahead.
 use Rattle.sweep_cursors.specs.Moves.{first}
-use borrow.Author.Rules.{rules}
 use Rattle.sweep_cursors.proofs.events.start.Goals as goal
 
 pub returns : goal.returns

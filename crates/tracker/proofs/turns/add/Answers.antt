@@ -1,6 +1,5 @@
 -- The range is done; or no record, or one, is at hand.
 use Rattle.tracker.specs.Walks.{add_turn}
-use borrow.Author.Rules.{rules}
 use borrow.Author.Tests.{eq-eqb, ne_eqb, le-leb, lt-leb}
 use mathlib.Core.Path.{refl}
 use Rattle.answers.specs.Then.{stays}
@@ -16,4 +15,4 @@ returns-then-c-eq0 c = rw (lt-leb _ _ c.if-a-c.false, eq-eqb _ _ c.if-c-eq0.true
 
 pub returns : goal.returns
 unfolding add_turn
-returns c = rw (lt-leb _ _ c.if-a-c.false, ne_eqb _ _ c.if-c-eq0.false) record { value = rw (c.load_record-q.ensures, c.slot_to.ensures) at c.add_at.ensures.value; left = rw (c.load_record-q.ensures, c.slot_to.ensures) at c.add_at.ensures.left }
+returns c = rw (lt-leb _ _ c.if-a-c.false, ne_eqb _ _ c.if-c-eq0.false) record { value = rw (c.load-q.ensures, c.slot_to.ensures) at c.add_at.ensures.value; left = rw (c.load-q.ensures, c.slot_to.ensures) at c.add_at.ensures.left }

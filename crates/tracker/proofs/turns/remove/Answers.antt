@@ -1,6 +1,5 @@
 -- No record is at hand, or one.
 use Rattle.tracker.specs.Walks.{remove_turn}
-use borrow.Author.Rules.{rules}
 use borrow.Author.Tests.{eq-eqb, ne_eqb}
 use mathlib.Core.Path.{refl}
 use Rattle.answers.specs.Then.{stays}
@@ -12,4 +11,4 @@ returns-then-c-eq0 c = rw (eq-eqb _ _ c.if-c-eq0.true) record { value = refl; le
 
 pub returns : goal.returns
 unfolding remove_turn
-returns c = rw (ne_eqb _ _ c.if-c-eq0.false) record { value = rw (c.load_record-q.ensures, c.slot_to.ensures) at c.remove_at.ensures.value; left = rw (c.load_record-q.ensures, c.slot_to.ensures) at c.remove_at.ensures.left }
+returns c = rw (ne_eqb _ _ c.if-c-eq0.false) record { value = rw (c.load-q.ensures, c.slot_to.ensures) at c.remove_at.ensures.value; left = rw (c.load-q.ensures, c.slot_to.ensures) at c.remove_at.ensures.left }

@@ -1,16 +1,12 @@
--- Each answer of the pool has its own.
+-- What the pool answers.
+use Rattle.answers.specs.Then.{passed}
 use Rattle.tracker_records.specs.Links.{freed_record}
-use borrow.Author.Rules.{rules}
 use Rattle.tracker_records.proofs.links.free.Goals as goal
 
-pub returns-in-Done : goal.returns-in-Done
+pub returns : goal.returns
 unfolding freed_record
-returns-in-Done c = record { value = rw (← c.free_record.ensures.value, c.in-Done.is); left = c.free_record.ensures.left }
+returns c = record { value = rw (← c.free.ensures.value, c.in_ok-free.was); left = c.free.ensures.left }
 
-pub returns-in-Spent : goal.returns-in-Spent
+pub returns-in_err-free : goal.returns-in_err-free
 unfolding freed_record
-returns-in-Spent c = record { value = rw (← c.free_record.ensures.value, c.in-Spent.is); left = c.free_record.ensures.left }
-
-pub returns-in-NotHeld : goal.returns-in-NotHeld
-unfolding freed_record
-returns-in-NotHeld c = record { value = rw (← c.free_record.ensures.value, c.in-NotHeld.is); left = c.free_record.ensures.left }
+returns-in_err-free c = record { value = rw (← c.free.ensures.value, c.in_err-free.was, passed _ _ c.from_residual.ensures.1); left = c.free.ensures.left }

@@ -1,13 +1,14 @@
 -- A slot is taken for the right half, and the left half is linked to it; or none is free.
+use Rattle.std.specs.Prelude.{Err}
+use Rattle.answers.specs.Then.{passed, or-some, or-none}
 use Rattle.tracker_records.specs.Links.{split}
-use borrow.Author.Rules.{rules}
-use mathlib.Core.Path.{refl}
+use Rattle.std.proofs.Common.{refl, sym, ap, ◌∙◌}
 use Rattle.tracker_records.proofs.links.split_region_at.Goals as goal
 
-pub returns-in-At : goal.returns-in-At
+pub returns : goal.returns
 unfolding split
-returns-in-At c = rw (← c.allocate_record.ensures.value, c.in-At.is, ← c.allocate_record.ensures.left.seen, ← c.load_record-q.ensures, ← c.store_record.ensures.seen, ← c.link_to-link.ensures) record { value = refl; left = rw c.bounded.ensures at c.store_record-in-At.ensures }
+returns c = rw (← c.allocate.ensures.value, or-some _ _ _ (sym c.ok_or.ensures.value ∙ c.in_ok-h.was), ← c.allocate.ensures.left.seen, ← c.load-q.ensures, ← c.store.ensures.seen, ← c.link_to-link.ensures) record { value = refl; left = rw c.bounded.ensures at c.store-2.ensures }
 
-pub returns-in-Full : goal.returns-in-Full
+pub returns-in_err-h : goal.returns-in_err-h
 unfolding split
-returns-in-Full c = rw (← c.allocate_record.ensures.value, c.in-Full.is) record { value = refl; left = c.allocate_record.ensures.left }
+returns-in_err-h c = let n = or-none _ _ _ (sym c.ok_or.ensures.value ∙ c.in_err-h.was) in rw (← c.allocate.ensures.value, n.0) record { value = passed _ _ c.from_residual.ensures.1 ∙ ap Err n.1; left = c.allocate.ensures.left }

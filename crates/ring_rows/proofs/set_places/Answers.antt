@@ -1,6 +1,0 @@
--- Words 5 and 6 of the header.
-use Rattle.tables.specs.Header.{places-stored}
-use Rattle.ring_rows.proofs.set_places.Goals as goal
-
-pub returns : goal.returns
-returns c = places-stored _ _ _ _ c.requires c.store.ensures

@@ -1,0 +1,20 @@
+-- A record whose words are all 0 is the one that is not there: what a derived `default` gives.
+use Rattle.std.specs.Prelude.{◌≡◌}
+use Rattle.std.proofs.Common.{rules}
+use Rattle.tables.specs.declared.Slot.{Slot}
+use Rattle.tables.specs.declared.Region.{Region}
+use Rattle.tables.specs.declared.Update.{Update}
+use Rattle.tables.specs.declared.RegionHash.{RegionHash}
+use Rattle.tables.specs.Tables.{no_slot, no_record, no_update, no_hash}
+
+pub slot-zero : (x : Slot) → (x.kind ≡ 0) × ((x.handle.slot ≡ 0) × (x.handle.generation ≡ 0)) → x ≡ no_slot
+slot-zero x h = search rules
+
+pub record-zero : (x : Region) → (x.start ≡ 0) × ((x.end ≡ 0) × ((x.ref_count ≡ 0) × ((x.read_count ≡ 0) × ((x.write_count ≡ 0) × ((x.exec_count ≡ 0) × ((x.super_count ≡ 0) × ((x.uncache_count ≡ 0) × (x.next ≡ 0)))))))) → x ≡ no_record
+record-zero x h = search rules
+
+pub update-zero : (x : Update) → (x.kind ≡ 0) × ((x.a ≡ 0) × ((x.b ≡ 0) × (x.c ≡ 0))) → x ≡ no_update
+update-zero x h = search rules
+
+pub hash-zero : (x : RegionHash) → (x.given ≡ 0) × ((x.word0 ≡ 0) × ((x.word1 ≡ 0) × ((x.word2 ≡ 0) × (x.word3 ≡ 0)))) → x ≡ no_hash
+hash-zero x h = search rules
