@@ -94,7 +94,7 @@
 //! # What the library asks of its host
 //!
 //! x86-64, `memcpy`, `memmove` and `memset`, SSE registers, and the red zone: the 128 bytes below the stack pointer, where code that interrupts a call must not
-//! write. Stack: 61 KiB for a call and 81 for a revoke, whatever the sizes, and more for each level of the tree: 144 KiB at the largest sizes
+//! write. Stack: 26 KiB for a call and 31 for a revoke, whatever the sizes, and more for each level of the tree: 141 KiB at the largest sizes
 //! (include/mityvurno.h, which has the costs, too).
 //!
 //! # Where the library is found
