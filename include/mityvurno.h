@@ -112,8 +112,8 @@
  * These figures and those at each call were measured with the kit before rattle-kit-13f. With that kit and on another machine, where the
  * Rust engine takes twice as long, calls take up to two and a half times as long.
  *
- * Of its host the archive asks for memcpy, memmove and memset, nothing else; it uses SSE registers and the red zone, the 128 bytes below
- * the stack pointer: code that interrupts a call must not write there, so it needs a stack of its own. Stack, measured at the largest sizes
+ * Of its host the archive asks for memcpy and memset, nothing else; it uses SSE registers and the red zone, the 128 bytes below the stack
+ * pointer: code that interrupts a call must not write there, so it needs a stack of its own. Stack, measured at the largest sizes
  * (bench/stack): up to 26 KiB for a call, 31 KiB for a revoke, and some 110 bytes more for each level of the tree: 141 KiB for 1,023
  * regions, each below the other. Closing 31 domains, each below the other, takes no more: 132 KiB with 1,023 regions below the
  * innermost. Small tables take the same but for the levels: at 4 domains, 8 slots, 8 regions, 29 records and 12 updates 26 and 31 KiB. */

@@ -93,8 +93,8 @@
 //!
 //! # What the library asks of its host
 //!
-//! x86-64, `memcpy`, `memmove` and `memset`, SSE registers, and the red zone: the 128 bytes below the stack pointer, where code that interrupts a call
-//! must not write. Stack: 26 KiB for a call and 31 for a revoke, whatever the sizes, and more for each level of the tree: 141 KiB at the largest sizes
+//! x86-64, `memcpy` and `memset`, SSE registers, and the red zone: the 128 bytes below the stack pointer, where code that interrupts a call must not
+//! write. Stack: 26 KiB for a call and 31 for a revoke, whatever the sizes, and more for each level of the tree: 141 KiB at the largest sizes
 //! (include/mityvurno.h, which has the costs, too).
 //!
 //! # Where the library is found

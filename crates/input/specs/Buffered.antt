@@ -1,5 +1,5 @@
 -- The bytes at hand lie in the run that holds them, and stay at hand when more are read. What the answer of a read says.
-use Rattle.std.proofs.Math.Path.{◌≡◌}
+use Rattle.std.proofs.Math.Path.{◌≡◌, refl}
 use Rattle.std.specs.Prelude.{ℕ, suc, Result, Ok, Err, IfOk, ◌+◌, ◌-◌, ◌≤◌, ◌<◌, List, ◌++◌, eqb, length, get_or, take, if◌then◌else◌}
 use Rattle.std.proofs.Common.{◌∙◌, arith, length-take, get_or-take}
 use Rattle.std.proofs.Math.ListN.{get_or-append}
@@ -17,6 +17,15 @@ pub record Within (h : Buffered) (n : ℕ) : Type 0 where
 pub record Keeps (h : Buffered) (b : List ℕ) (r : Buffered) (b' : List ℕ) : Type 0 where
   pub as_many : h.end - h.at ≤ r.end - r.at
   pub same : (k : ℕ) → k < h.end - h.at → get_or b' (r.at + k) 0 ≡ get_or b (h.at + k) 0
+
+pub keeps-none : (h : Buffered) (b : List ℕ) → Keeps h b h b
+keeps-none h b = record { as_many = omega arith; same = λ k u. refl }
+
+pub keeps_then : (h r s : Buffered) (b b₁ b₂ : List ℕ) → Keeps h b r b₁ → Keeps r b₁ s b₂ → Keeps h b s b₂
+keeps_then h r s b b₁ b₂ x y = record {
+  as_many = omega (arith, x.as_many, y.as_many);
+  same = λ k u. y.same k (omega (arith, x.as_many)) ∙ x.same k u;
+}
 
 -- What is at hand when a read behind the bytes h has answered: as many more; none where the input has ended, or the read failed.
 unfoldable pub behind : {E : Type 0} → Buffered → Result ℕ E → Buffered

@@ -22,10 +22,23 @@ fn call_of(b: &[u8]) -> Request {
     }
 }
 
+// Fills b; `None` where the input ends or a read fails before. The library's `read_exact` would read on where a signal ended a read.
+fn fill<R: Read>(input: &mut R, b: &mut [u8]) -> Option<()> {
+    let mut done = 0;
+    while done < b.len() {
+        let n = input.read(&mut b[done..]).ok()?;
+        if n == 0 {
+            return None;
+        }
+        done += n;
+    }
+    Some(())
+}
+
 // The next call; `None` where the input ends or a read fails before its last byte, and at a call of kind `END`.
 pub fn next<R: Read>(input: &mut R) -> Option<Request> {
     let mut b = [0u8; 88];
-    input.read_exact(&mut b).ok()?;
+    fill(input, &mut b)?;
     let c = call_of(&b);
     (c.kind != crate::END).then_some(c)
 }

@@ -3,12 +3,27 @@
 use readings::Permission;
 use std::io::Write;
 
+// Writes these bytes, up to a write that takes none or fails. The library's `write_all` would write on where a signal ended a write.
+fn bytes<W: Write>(out: &mut W, text: &[u8]) {
+    let mut done = 0;
+    while done < text.len() {
+        let n = out.write(&text[done..]).unwrap_or(0);
+        if n == 0 {
+            return;
+        }
+        done += n;
+    }
+}
+
 pub fn number<W: Write>(out: &mut W, n: u64) {
-    let _ = write!(out, "{n} ");
+    let mut digits = [0u8; 20];
+    let k = io::decimal(n, &mut digits);
+    bytes(out, &digits[..k]);
+    bytes(out, b" ");
 }
 
 pub fn line_end<W: Write>(out: &mut W) {
-    let _ = writeln!(out);
+    bytes(out, b"\n");
 }
 
 // The prime of 64-bit FNV-1a.

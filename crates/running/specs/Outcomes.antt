@@ -4,7 +4,8 @@ use Rattle.std.proofs.Common.{sym, ap, ◌∙◌, arith}
 use Rattle.model.specs.Perform.{Answer}
 use Rattle.model.specs.Memory.{After}
 use Rattle.script_records.specs.declared.Record.{Record}
-use Rattle.script_records.specs.Parsed.{size_of, call_in, Found, parsed}
+use Rattle.script_records.specs.declared.BadRecord.{BadRecord}
+use Rattle.script_records.specs.Parsed.{size_of, call_in, Found, bad_found, parsed}
 use Rattle.script_records.proofs.Words.{call-size}
 use Rattle.script_progress.specs.declared.Ran.{Ran}
 use Rattle.running.specs.Takes.{Taken, Takes}
@@ -40,9 +41,25 @@ module _ (b t w t₂ w₂ : List ℕ) (x : Taken) where
   run_by y e (Err z) q h = absurd (omega (arith, ap tag (sym e ∙ h.taken)))
   run_by y e (Ok (Some r)) q h = record { r = r; answer = h.returns.answer; stood = q; size = ap size_in (sym e ∙ h.taken); after = h.returns.after }
 
+  short-by : x ≡ Ok None → (p : Found) → parsed b ≡ p → Takes p t w x t₂ w₂ → NotRun (Ok None) b t w t₂ w₂
+  short-by e (Ok None) q h = record { stood = q; tables = h.tables; work = h.work }
+  short-by e (Err z) q h = absurd (omega (arith, ap tag (sym e ∙ h.taken)))
+  short-by e (Ok (Some r)) q h = absurd (omega (arith, ap tag (sym e ∙ h.taken)))
+
+  bad-by : (z : BadRecord) → x ≡ Err z → (p : Found) → parsed b ≡ p → Takes p t w x t₂ w₂ → NotRun bad_found b t w t₂ w₂
+  bad-by z e (Ok None) q h = absurd (omega (arith, ap tag (sym e ∙ h.taken)))
+  bad-by z e (Err y) q h = record { stood = q; tables = h.tables; work = h.work }
+  bad-by z e (Ok (Some r)) q h = absurd (omega (arith, ap tag (sym e ∙ h.taken)))
+
   module _ (h : Takes (parsed b) t w x t₂ w₂) where
     pub was-run : (y : Ran) → x ≡ Ok (Some y) → WasRun b t w y t₂ w₂
     was-run y e = run_by y e (parsed b) refl h
+
+    pub was-short : x ≡ Ok None → NotRun (Ok None) b t w t₂ w₂
+    was-short e = short-by e (parsed b) refl h
+
+    pub was-bad : (z : BadRecord) → x ≡ Err z → NotRun bad_found b t w t₂ w₂
+    was-bad z e = bad-by z e (parsed b) refl h
 
 -- The bytes of a record that was run.
 pub taken-size : (b t w t₂ w₂ : List ℕ) (x : Taken) (y : Ran) → x ≡ Ok (Some y) → Takes (parsed b) t w x t₂ w₂ → (4 ≤ y.size) × (y.size ≤ length b)

@@ -14,12 +14,13 @@ use script_records::BadRecord;
 pub fn take(b: &[u8], t: &mut [u64], w: &mut [u64]) -> Result<Option<Ran>, BadRecord>
     ensures { Takes (parsed b.now) t.old w.old result t.new w.new }
 {
-    match script_records::parse(b)? {
-        None => Ok(None),
-        Some(r) => Ok(Some(Ran {
+    match script_records::parse(b) {
+        Ok(Some(r)) => Ok(Some(Ran {
             reply: perform::run(t, w, r),
             size: r.kind.size(),
         })),
+        Ok(None) => Ok(None),
+        Err(bad) => Err(bad),
     }
 }
 

@@ -16,43 +16,8 @@ use Rattle.script_records.specs.declared.Record.{Record}
 use Rattle.script_records.specs.declared.Kind as code
 use Rattle.script_records.specs.Script.{Kind, opening, root, alias, carve, send, revoke, make_revoke, field_at, kind_of, field_count, call_of, call_with, body_call, Front, ended, bad, call, front_for, front_of}
 use Rattle.byte_numbers.specs.Numbers.{number}
-use Rattle.script_records.specs.Parsed.{named, kind_numbered, size_for, size_of, record_in, rights_for, rights_in, call_for, call_in, Found, bad_found, judged, whole, of_kind, parsed}
-
--- ---- the kind with a number
-
-abbrev Same : Maybe code.Kind → Option Kind → Type 0
-Same None o = o ≡ none
-Same (Some k) o = o ≡ some (named k)
-
-same-kind : (n : ℕ) → Same (kind_numbered n) (kind_of n)
-unfolding kind_of
-same-kind n = elim (test (eqb n 1)) [
-  | holds t ↦ rw t refl
-  | fails t ↦ rw t (elim (test (eqb n 2)) [
-    | holds t ↦ rw t refl
-    | fails t ↦ rw t (elim (test (eqb n 3)) [
-      | holds t ↦ rw t refl
-      | fails t ↦ rw t (elim (test (eqb n 4)) [
-        | holds t ↦ rw t refl
-        | fails t ↦ rw t (elim (test (eqb n 5)) [
-          | holds t ↦ rw t refl
-          | fails t ↦ rw t (elim (test (eqb n 6)) [
-            | holds t ↦ rw t refl
-            | fails t ↦ rw t (elim (test (eqb n 7)) [ holds t ↦ rw t refl | fails t ↦ rw t refl ])
-          ])
-        ])
-      ])
-    ])
-  ])
-]
-
--- the bytes of a record of the kind with a number, 0 for no kind
-abbrev size_or : Option Kind → ℕ
-size_or none = 0
-size_or (some k) = size_for k
-
-size_at : ℕ → ℕ
-size_at n = size_or (kind_of n)
+use Rattle.script_records.specs.Parsed.{named, kind_numbered, size_of, size_or, size_at, record_in, rights_for, rights_in, call_for, call_in, Found, bad_found, judged, whole, of_kind, parsed}
+use Rattle.script_records.proofs.Numbered.{Same, same-kind}
 
 -- ---- what follows a length
 

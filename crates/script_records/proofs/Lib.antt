@@ -1,3 +1,4 @@
+pub mod Numbered
 pub mod Parses
 pub mod Fronts
 pub mod Scripts

@@ -1,12 +1,13 @@
 -- What the bytes at hand say where more may follow, as the code finds it.
 use Rattle.std.specs.Prelude.{ℕ, ◌+◌, ◌*◌, ◌-◌, List, Option, Some, None, Result, Ok, Err, eqb, ltb, length, take, drop, if◌then◌else◌}
+use Rattle.std.proofs.Math.Option as math
 use Rattle.model.specs.State.{Handle, Access, no_options}
 use Rattle.model.specs.Perform.{Step, Call}
 use Rattle.script_records.specs.declared.Kind as code
 use Rattle.script_records.specs.declared.Kind.TheVariants as kind
 use Rattle.script_records.specs.declared.Record.{Record}
 use Rattle.script_records.specs.declared.BadRecord.{BadRecord}
-use Rattle.script_records.specs.Script.{Kind, opening, root, alias, carve, send, revoke, make_revoke, field_at, field_count, handle, manager_of}
+use Rattle.script_records.specs.Script.{Kind, opening, root, alias, carve, send, revoke, make_revoke, field_at, kind_of, field_count, handle, manager_of}
 use Rattle.byte_numbers.specs.Numbers.{number}
 
 -- ---- a kind
@@ -38,6 +39,14 @@ size_for k = 4 + 8 * field_count k
 
 unfoldable pub size_of : code.Kind → ℕ
 size_of k = size_for (named k)
+
+-- the bytes of a whole record of the kind with a number, 0 for no kind
+abbrev pub size_or : math.Option Kind → ℕ
+size_or math.none = 0
+size_or (math.some k) = size_for k
+
+unfoldable pub size_at : ℕ → ℕ
+size_at n = size_or (kind_of n)
 
 -- ---- a record
 

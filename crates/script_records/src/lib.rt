@@ -3,7 +3,7 @@
 #![tactic(auto)]
 
 ghost use Rattle.std.specs.Prelude.{◌≡◌};
-ghost use Rattle.script_records.specs.Parsed.{kind_numbered, size_of, record_in, rights_in, parsed};
+ghost use Rattle.script_records.specs.Parsed.{kind_numbered, size_of, size_at, record_in, rights_in, parsed};
 
 #[derive(Clone, Copy)]
 pub enum Kind {
@@ -46,6 +46,16 @@ impl Kind {
             Kind::Revoke => 28,
             Kind::CreateRevokeCapa => 28,
         }
+    }
+}
+
+// The same for the kind with this number; 0 where there is no such kind.
+pub fn size_of(kind: u64) -> usize
+    ensures { result ≡ size_at kind }
+{
+    match Kind::numbered(kind) {
+        Some(k) => k.size(),
+        None => 0,
     }
 }
 

@@ -1,6 +1,5 @@
 -- What was met counted and the marks cleared, and what is answered of a stack.
-use Rattle.std.specs.Prelude.{◌≡◌, refl, ℕ, ◌-◌, ◌≤◌, ◌<◌, Bool, false, List, [], eqb, length, get_or, replicate, filter}
-use Rattle.std.specs.List.{range_with_len}
+use Rattle.std.specs.Prelude.{◌≡◌, refl, ℕ, ◌-◌, ◌≤◌, ◌<◌, Bool, false, List, [], eqb, length, get_or, replicate}
 use Rattle.std.proofs.Math.Path.{sym, ap}
 use Rattle.std.proofs.Common.{◌∙◌, arith, le-leb}
 use Rattle.std.proofs.Math.Option.{Option, none, some}
@@ -9,24 +8,18 @@ use Rattle.base.specs.Tests.{both}
 use Rattle.base.specs.Lists.{get_or-zeros}
 use Rattle.marks.specs.Marks.{words_for, unmarked}
 use Rattle.marks.specs.Laws.{unmarked-zero}
-use Rattle.tables.specs.Tables.{Tables, record_at}
+use Rattle.tables.specs.Tables.{Tables}
 use Rattle.tables.specs.View.{view}
 use Rattle.list_links.specs.declared.Stack.{Stack}
 use Rattle.list_links.specs.declared.Top.{Top}
 use Rattle.list_links.specs.Walk.{link_to}
 use Rattle.list_links.specs.Stacks.{slots_of, top_of, may_meet, met_in, covered_in, stack_holds}
 use Rattle.sound_lists.specs.declared.walks.Followed.{Followed}
-use Rattle.sections.specs.Rows.{record_in}
-use Rattle.list_links.specs.Reads.{Lent, step_in, step_is}
-use Rattle.sound_lists.specs.Counting.{tally, filter-tally, covers-counted}
+use Rattle.sound_lists.specs.Counting.{tally, covers-counted}
 use Rattle.sound_lists.specs.Marks.{Clean, marks-none}
 use Rattle.sound_lists.specs.Loops.{Gone, Beyond, Marked, Settled, may-inside}
 
 -- ---- counted and cleared
-
--- as many as the iterator of the code keeps
-pub counted : (v : Tables) (s : Stack) (p q : List ℕ) (n r : ℕ) → Lent v s p → record_in q ≡ record_at v → n ≡ slots_of v s → r ≡ length (filter (λ i. (step_in s p q n i).may) (range_with_len 0 n)) → r ≡ tally (may_meet v s) (slots_of v s)
-counted v s p q n r e eq en er = er ∙ filter-tally _ n ∙ (λ j. tally (λ i. (step_is v s p q n i _ e eq en refl j).may) (en j))
 
 module _ (v : Tables) (s : Stack) (x : Followed) (all : ℕ) (r : Bool) (w : List ℕ) (ea : all ≡ tally (may_meet v s) (slots_of v s)) (er : r ≡ both x.ended (eqb x.links all)) where
   answer-is : (o : Option (List ℕ)) → Gone (may_meet v s) o 0 x w → r ≡ covered_in v s o

@@ -1,6 +1,5 @@
 -- Slots counted: where as many distinct slots were met as may be met, all that may be met were met.
-use Rattle.std.specs.Prelude.{◌≡◌, refl, ℕ, zero, suc, ◌+◌, ◌≤◌, ◌<◌, Bool, true, false, not, List, [], ◌∷◌, eqb, length, filter}
-use Rattle.std.specs.List.{range_with_len}
+use Rattle.std.specs.Prelude.{◌≡◌, refl, ℕ, zero, suc, ◌+◌, ◌≤◌, ◌<◌, Bool, true, false, not, List, [], ◌∷◌, eqb, length}
 use Rattle.std.proofs.Common.{sym, ap, ◌∙◌, arith, eqb-true, eq-eqb, ne_eqb}
 use Rattle.std.proofs.Math.Decide.{ℕ_discrete}
 use Rattle.std.proofs.lemmas.Bool.{not-true}
@@ -26,23 +25,9 @@ pub tally-most : (p : ℕ → Bool) (n : ℕ) → tally p n ≤ n
 tally-most p zero = omega arith
 tally-most p (suc n) = omega (arith, tally-most p n, mark-most (p n))
 
--- those of a range that pass, as an iterator counts them
-filter-more : (p : ℕ → Bool) (i : ℕ) (xs : List ℕ) → length (filter p (i ∷ xs)) ≡ mark (p i) + length (filter p xs)
-filter-more p i xs = elim (test (p i)) [ holds h ↦ rw h (omega arith) | fails h ↦ rw h (omega arith) ]
-
-filter_from : (p : ℕ → Bool) (i n : ℕ) → length (filter p (range_with_len i n)) + tally p i ≡ tally p (i + n)
-filter_from p i zero = let z : i ≡ i + 0 = omega arith in let e = ap (tally p) z in omega arith
-filter_from p i (suc n) =
-    let z : suc i + n ≡ i + suc n = omega arith in
-    let y : i + 1 ≡ suc i = omega arith in
-    let e = filter-more p i (range_with_len (i + 1) n) in
-    let r = ap (λ k. length (filter p (range_with_len k n))) y in
-    let t : tally p (suc i) ≡ mark (p i) + tally p i = refl in
-    let f = filter_from p (suc i) n ∙ ap (tally p) z in
-    omega arith
-
-pub filter-tally : (p : ℕ → Bool) (n : ℕ) → length (filter p (range_with_len 0 n)) ≡ tally p n
-filter-tally p n = let z : 0 + n ≡ n = omega arith in let e = ap (tally p) z in let f = filter_from p 0 n in omega arith
+-- one slot more, as a loop counts
+pub tally-next : (p : ℕ → Bool) (i k m : ℕ) → k ≡ tally p i → m ≡ mark (p i) → k + m ≡ tally p (i + 1)
+tally-next p i k m ek em = let z : i + 1 ≡ suc i = omega arith in rw z (omega arith)
 
 tally-same : (p q : ℕ → Bool) (n : ℕ) → ((i : ℕ) → i < n → p i ≡ q i) → tally p n ≡ tally q n
 tally-same p q zero h = refl

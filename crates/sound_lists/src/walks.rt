@@ -59,9 +59,11 @@ fn count(t: &[u64], s: Stack) -> usize
     let n = list_links::slots_of(t, s);
     let p = list_links::words_of(t, s);
     let records = sections::rows_of::<Region>(t);
-    (0..n)
-        .filter(|&i| list_links::step_at(s, p, records, n, i).may)
-        .count()
+    let mut k = 0;
+    for i in 0..n {
+        k += usize::from(list_links::step_at(s, p, records, n, i).may);
+    }
+    k
 }
 
 // Whether all that may be met was met: as many links were followed, none to a slot twice. The marks are cleared.

@@ -1,15 +1,18 @@
 -- The steps of the functions: what the values that they read make of their definitions.
 use Rattle.std.specs.Prelude.{◌≡◌, refl, Bool, true, false, List, ltb, get_or}
-use Rattle.std.proofs.Common.{sym, ◌∙◌, mod-lt, lt-ltb, le-ltb}
+use Rattle.std.proofs.Common.{sym, ◌∙◌, mod-lt, lt-ltb, le-ltb, ne_eqb}
 use Rattle.std.proofs.Math.Path.{ap}
 use Prim.Native.Nat.{ℕ, ◌+◌, ◌-◌, ◌≤◌, ◌<◌}
 use native.Mathlib.Omega.{arith}
-use Rattle.base.specs.Tests.{both}
+use Rattle.base.specs.Tests.{both, at_all}
 use Rattle.base.specs.Ranges.{both-then, both-else}
+use Rattle.tables.specs.declared.Update.{Update}
+use Rattle.tables.specs.Kinds.{PERMISSION}
 use Rattle.tables.specs.Tables.{Tables}
 use Rattle.tables.specs.View.{view, of_parts}
 use Rattle.sizes.specs.Sizes.{sizes_of}
-use Rattle.sound_queue.specs.Ring.{numbers_hold, singly, queued_in, ring_holds, queue_holds}
+use Rattle.sound_updates.specs.Updates.{same_domain}
+use Rattle.sound_queue.specs.Ring.{numbers_hold, none_same, singly, queued_in, ring_holds, queue_holds}
 
 pub updates_seen : (t : List ℕ) → get_or t 4 0 ≡ (view t).sizes.updates
 unfolding view of_parts sizes_of
@@ -17,6 +20,11 @@ updates_seen t = refl
 
 pub queued-fits : (n r w : ℕ) → r < n → n ≤ 129 → r + queued_in n r w ≤ 65536
 queued-fits n r w h k = omega (arith, mod-lt (w + n - r) {m = n} (omega arith))
+
+-- an update of no domain is the same as none
+pub of-none : (v : Tables) (n r m : ℕ) (u : Update) (j : ℕ) → (u.kind ≡ PERMISSION → ⊥) → true ≡ none_same v n r m u j
+unfolding none_same same_domain
+of-none v n r m u j ne = sym (at_all _ j (m - j) (λ i a b. rw (ne_eqb u.kind PERMISSION ne) refl))
 
 -- ---- the whole test
 

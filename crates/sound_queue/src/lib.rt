@@ -43,14 +43,16 @@ fn numbers_hold(t: &[u64], n: usize, read: usize, m: usize) -> bool
     })
 }
 
-// Whether no update from number `from` up to number m is of the same domain as u.
+// Whether no update from number `from` up to number m is of the same domain as u. Where u is of none, nothing is read: clean-ups would be
+// compared each with each.
 fn none_same(t: &[u64], n: usize, read: usize, m: usize, u: Update, from: usize) -> bool
     requires sized { Sized t.now }
     requires n_nonzero { 0 < n }
     requires m_bound { read + m ≤ 65536 }
     ensures { result ≡ none_same (view t.now) n read m u from }
 {
-    (from..m).all(|i| !sound_updates::is_same(u, update_numbered(t, n, read, i)))
+    u.kind != Update::PERMISSION
+        || (from..m).all(|i| !sound_updates::is_same(u, update_numbered(t, n, read, i)))
 }
 
 // Whether no domain of the first m updates is queued again further on.

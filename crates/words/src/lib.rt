@@ -34,7 +34,9 @@ pub fn copy(from: &[u64], to: &mut [u64])
     ensures { to.new ≡ copied from.now to.old }
 {
     if from.len() == to.len() {
-        to.copy_from_slice(from);
+        for i in 0..from.len() {
+            to[i] = from[i];
+        }
     }
 }
 
@@ -42,7 +44,9 @@ pub fn copy(from: &[u64], to: &mut [u64])
 pub fn clear(t: &mut [u64])
     ensures { t.new ≡ replicate (length t.old) 0 }
 {
-    t.fill(0);
+    for i in 0..t.len() {
+        t[i] = 0;
+    }
 }
 
 // The n words from a on; none where they do not all lie in the slice.
@@ -62,6 +66,6 @@ pub fn store(t: &mut [u64], a: usize, vs: &[u64])
 {
     let n = vs.len();
     if n <= t.len() && a <= t.len() - n {
-        t[a..a + n].copy_from_slice(vs);
+        copy(vs, &mut t[a..a + n]);
     }
 }

@@ -1,14 +1,26 @@
--- The iterator gives the numbers below n, and keeps those that may be met.
-use Rattle.std.proofs.Common.{ℕ, arith, rules}
-use Rattle.std.proofs.lemmas.Iterator.{YieldsList-from_range}
-use Rattle.std.proofs.lemmas.Iterator.Consumers.{count_from_yields_List, YieldsList-from_filter}
+-- The slots before i are counted, each by whether it may be met.
+use Rattle.std.proofs.Common.{◌≡◌, ◌∙◌, ap, refl, arith, rules}
 use Rattle.tables.specs.View.{view}
-use Rattle.list_links.specs.Reads.{step_in}
-use Rattle.sound_lists.specs.Answers.{counted}
+use Rattle.list_links.specs.declared.Step.{Step}
+use Rattle.list_links.specs.Stacks.{may_meet}
+use Rattle.list_links.specs.Walk.{mark}
+use Rattle.list_links.specs.Reads.{step_is}
+use Rattle.sound_lists.specs.Counting.{tally, mark-most, tally-most, tally-next}
 use Rattle.sound_lists.proofs.walks.count.Goals as goal
 
+pub loop-i-init : goal.loop-i-init
+loop-i-init c = refl
+
+pub overflow_add-k : goal.overflow_add-k
+overflow_add-k c =
+    let m : c.from-k.result ≡ mark c.step_at.result.may = search rules in
+    omega (arith, m, mark-most c.step_at.result.may, c.loop-i.invariant, tally-most (may_meet (view c.args.t.now) c.args.s) c.loop-i.i)
+
+pub loop-i-preserved : goal.loop-i-preserved
+loop-i-preserved c =
+    let m : c.from-k.result ≡ mark c.step_at.result.may = search rules in
+    tally-next (may_meet (view c.args.t.now) c.args.s) c.loop-i.i c.loop-i.k c.from-k.result c.loop-i.invariant
+    (m ∙ ap (λ (x : Step). mark x.may) (step_is (view c.args.t.now) c.args.s _ _ _ c.loop-i.i _ c.words_of-p.ensures c.rows_of-records.ensures c.slots_of-n.ensures c.step_at.ensures))
+
 pub returns : goal.returns
-returns c =
-    let test = λ (i : ℕ). (step_in c.args.s c.words_of-p.result.now c.rows_of-records.result.now c.slots_of-n.result i).may in
-    counted (view c.args.t.now) c.args.s _ _ _ _ c.words_of-p.ensures c.rows_of-records.ensures c.slots_of-n.ensures
-    (count_from_yields_List c.filter.result _ c.count.ensures.ran (YieldsList-from_filter _ test (YieldsList-from_range 0 _ _ c.filter.ensures.source (omega arith)) c.filter.ensures.closure (λ x r q k. search rules)))
+returns c = c.loop-i.invariant ∙ ap (tally (may_meet (view c.args.t.now) c.args.s)) (omega (arith, c.slots_of-n.ensures))
